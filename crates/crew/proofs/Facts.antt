@@ -1,0 +1,99 @@
+-- What acceptance gives, for every accepted crew: the inequalities on which all later arguments rest.
+-- Builds on specs/Acceptance.antt and specs/Thresholds.antt. Assumes nothing.
+use mathlib.Core.Path.{_≡_}
+use mathlib.Core.Bool.{Bool, true, false, cond}
+use Prim.Native.Nat.{ℕ, _+_, _-_, _*_, _≤_, _<_}
+use native.Mathlib.Omega.{arith}
+use lib.Dec.{leb, ltb, eqb}
+use borrow.Author.Tests.{leb-true, ltb-true}
+use Rattle.wire.specs.Outcome.{accepted}
+use Rattle.wire.proofs.Tests.{both-true}
+use Rattle.wire.proofs.Outcomes.{passed}
+use Rattle.crew.specs.declared.Crew.{Crew}
+use Rattle.crew.specs.Acceptance.{acceptOf, classKnown, sizeKnown, reachable, highEnough}
+use Rattle.crew.specs.Thresholds.{Class, one, two, three, classOf, E, anyAbove, validAbove}
+
+-- what a class asks of D
+abbrev pub High : Class → Crew → Type 0
+High one crew = crew .n + 3 * crew .b + crew .f < 2 * crew .d
+High two crew = 3 * crew .b + crew .f < crew .d
+High three crew = 2 * crew .b + crew .f < crew .d
+
+-- the four conditions of acceptance, as facts
+pub record Accepts (crew : Crew) : Type 0 where
+  pub class-from : 1 ≤ crew .class
+  pub class-to : crew .class ≤ 3
+  pub size-from : 1 ≤ crew .n
+  pub size-to : crew .n ≤ 32
+  pub reach : crew .d + crew .b + crew .f ≤ crew .n
+  pub high : High (classOf crew) crew
+
+high-is : (crew : Crew) → highEnough crew ≡ true → High (classOf crew) crew
+high-is crew h = go (eqb (crew .class) 1) (eqb (crew .class) 2) h
+  where
+    go : (first second : Bool)
+        → cond first (ltb (crew .n + 3 * crew .b + crew .f) (2 * crew .d))
+        (cond second (ltb (3 * crew .b + crew .f) (crew .d)) (ltb (2 * crew .b + crew .f) (crew .d))) ≡ true
+        → High (cond first one (cond second two three)) crew
+    go true second h = ltb-true _ _ h
+    go false true h = ltb-true _ _ h
+    go false false h = ltb-true _ _ h
+
+pub accepts : (crew : Crew) → acceptOf crew ≡ accepted tt → Accepts crew
+unfolding acceptOf
+accepts crew e =
+    let class = passed (classKnown crew) 1 _ e in
+    let size = passed (sizeKnown crew) 2 _ (class .1) in
+    let sum = passed (reachable crew) 3 _ (size .1) in
+    let quorum = passed (highEnough crew) 4 _ (sum .1) in
+    let classes = both-true (leb 1 (crew .class)) (leb (crew .class) 3) (class .0) in
+    let sizes = both-true (leb 1 (crew .n)) (leb (crew .n) 32) (size .0) in
+    record {
+      class-from = leb-true _ _ (classes .0);
+      class-to = leb-true _ _ (classes .1);
+      size-from = leb-true _ _ (sizes .0);
+      size-to = leb-true _ _ (sizes .1);
+      reach = leb-true _ _ (sum .0);
+      high = high-is crew (quorum .0);
+    }
+
+-- In any class D passes 2b + f: class 1 has 2D > n + 3b + f ≥ D + 4b + 2f.
+pub quorum-high : {crew : Crew} → Accepts crew → 2 * crew .b + crew .f < crew .d
+quorum-high {crew} a = go (classOf crew) (a .high)
+  where
+    go : (class : Class) → High class crew → 2 * crew .b + crew .f < crew .d
+    go one h = omega (arith, a .reach)
+    go two h = omega arith
+    go three h = omega arith
+
+-- a decision takes at least one vote, and more than the liars have
+pub quorum-positive : {crew : Crew} → Accepts crew → 1 ≤ crew .d
+quorum-positive a = omega (arith, quorum-high a)
+
+pub quorum-above-liars : {crew : Crew} → Accepts crew → crew .b < crew .d
+quorum-above-liars a = omega (arith, quorum-high a)
+
+-- a circle of n − b − f nodes has the votes that decide
+pub circle-decides : {crew : Crew} → Accepts crew → crew .d ≤ crew .n - crew .b - crew .f
+circle-decides a = omega (arith, a .reach)
+
+-- n passes 3b + 2f
+pub size-above : {crew : Crew} → Accepts crew → 3 * crew .b + 2 * crew .f < crew .n
+size-above a = omega (arith, quorum-high a, a .reach)
+
+-- the bound E is at least 2b + f
+pub bound-high : {crew : Crew} → Accepts crew → 2 * crew .b + crew .f ≤ E crew
+bound-high a = omega (arith, a .reach)
+
+-- a circle passes the bound for 'any': n − b − f > 2E in class 1, > E + b in class 2, > E in class 3
+pub circle-above-any : {crew : Crew} → Accepts crew → anyAbove (classOf crew) crew < crew .n - crew .b - crew .f
+circle-above-any {crew} a = go (classOf crew) (a .high)
+  where
+    go : (class : Class) → High class crew → anyAbove class crew < crew .n - crew .b - crew .f
+    go one h = omega (arith, a .reach)
+    go two h = omega (arith, a .reach)
+    go three h = omega (arith, a .reach)
+
+-- a circle validates: 2(n − b − f) > n + b
+pub circle-validates : {crew : Crew} → Accepts crew → validAbove crew < 2 * (crew .n - crew .b - crew .f)
+circle-validates a = omega (arith, size-above a)

@@ -1,0 +1,50 @@
+-- When a crew is accepted: document 01, 'Crew and node' and 'What each operation turns down'.
+use Prim.Native.Nat.{ℕ, _+_, _*_}
+use mathlib.Core.Bool.{Bool, true, false, cond, _&&_}
+use lib.Dec.{leb, ltb, eqb}
+use Rattle.wire.specs.Outcome.{Outcome, accepted, refused, require}
+use Rattle.crew.specs.declared.Crew.{Crew}
+use Rattle.crew.specs.declared.Refusal.{Refusal}
+use Rattle.crew.specs.declared.Refusal.the-variants.{Class, Size, QuorumTooHigh, QuorumTooLow}
+use Rattle.crew.specs.declared.Acceptance.{Acceptance}
+use Rattle.crew.specs.declared.Acceptance.the-variants.{Accepted, Refused}
+
+-- 01: "class is 1 to 3"
+abbrev pub classKnown : Crew → Bool
+classKnown crew = leb 1 (crew .class) && leb (crew .class) 3
+
+-- 01: "n is 1 to 32"
+abbrev pub sizeKnown : Crew → Bool
+sizeKnown crew = leb 1 (crew .n) && leb (crew .n) 32
+
+-- 01: "D + b + f ≤ n"
+abbrev pub reachable : Crew → Bool
+reachable crew = leb (crew .d + crew .b + crew .f) (crew .n)
+
+-- 01: "class 1: 2D > n + 3b + f; class 2: D > 3b + f; class 3: D > 2b + f"
+abbrev pub highEnough : Crew → Bool
+highEnough crew =
+    cond (eqb (crew .class) 1) (ltb (crew .n + 3 * crew .b + crew .f) (2 * crew .d))
+    (cond (eqb (crew .class) 2) (ltb (3 * crew .b + crew .f) (crew .d))
+    (ltb (2 * crew .b + crew .f) (crew .d)))
+
+-- 01: "Accepting a crew: 1 class not 1 to 3; 2 n not 1 to 32; 3 D + b + f > n; 4 D too low for the class."
+unfoldable pub acceptOf : Crew → Outcome (Unit {0})
+acceptOf crew =
+    require (classKnown crew) 1
+    (require (sizeKnown crew) 2
+    (require (reachable crew) 3
+    (require (highEnough crew) 4
+    (accepted tt))))
+
+-- 01's number of each refusal
+abbrev pub number : Refusal → ℕ
+number Class = 1
+number Size = 2
+number QuorumTooHigh = 3
+number QuorumTooLow = 4
+
+-- what an answer of `accept` says in 01's terms
+abbrev pub answered : Acceptance → Outcome (Unit {0})
+answered Accepted = accepted tt
+answered (Refused why) = refused (number why)

@@ -1,0 +1,28 @@
+-- The numbers that the rules hold counts against: document 01, 'The three rounds'.
+use Prim.Native.Nat.{ℕ, _+_, _-_, _*_}
+use mathlib.Core.Bool.{cond}
+use lib.Dec.{eqb}
+use Rattle.crew.specs.declared.Crew.{Crew}
+
+-- the algorithm's three classes
+pub data Class : Type 0 where
+  one two three : Class
+
+abbrev pub classOf : Crew → Class
+classOf crew = cond (eqb (crew .class) 1) one (cond (eqb (crew .class) 2) two three)
+
+-- 01: "Let E = n − D + b."
+abbrev pub E : Crew → ℕ
+E crew = crew .n - crew .d + crew .b
+
+-- 'any' asks for more slots than this.
+-- 01: class 1 "'any' if more than 2E slots count", class 2 "if more than E + b slots count", class 3 "if more than E slots have stamp 0"
+abbrev pub anyAbove : Class → Crew → ℕ
+anyAbove one crew = 2 * E crew
+anyAbove two crew = E crew + crew .b
+anyAbove three crew = E crew
+
+-- Validation asks that twice the count passes this.
+-- 01: "If a plan stands in c slots with 2c > n + b"
+abbrev pub validAbove : Crew → ℕ
+validAbove crew = crew .n + crew .b

@@ -1,0 +1,40 @@
+-- Tests as facts: under `omega tests` a test such as `T (ltb a b)` or `T (not (eqb a b))` is read, and proved, as the fact it stands for.
+-- Assumes nothing.
+use mathlib.Core.Path.{_≡_, refl}
+use mathlib.Core.Bool.{Bool, true, false, not, _&&_}
+use mathlib.Core.Logic.{_≢_}
+use Prim.Native.Nat.{ℕ}
+use native.Mathlib.Omega.{arith}
+use lib.Dec.{T, leb, ltb, eqb, leb→le, le→leb, ltb→lt, lt→ltb, nleb→lt, nltb→le, eqb→eq, eqb-refl, not-T, T-not}
+use lib.Arith.{lt→nleb, le→nltb}
+
+pub eq→eqb : (a b : ℕ) → a ≡ b → T (eqb a b)
+eq→eqb a b e = rw e (eqb-refl b)
+
+pub neqb→ne : (a b : ℕ) → T (not (eqb a b)) → a ≢ b
+neqb→ne a b t e = T-not (eqb a b) t (eq→eqb a b e)
+
+pub ne→neqb : (a b : ℕ) → a ≢ b → T (not (eqb a b))
+ne→neqb a b h = not-T (eqb a b) (λ t. h (eqb→eq a b t))
+
+pub ruleset tests = (
+  arith,
+  ltb→lt,
+  lt→ltb,
+  leb→le,
+  le→leb,
+  eqb→eq,
+  eq→eqb,
+  neqb→ne,
+  ne→neqb,
+  nltb→le,
+  le→nltb,
+  nleb→lt,
+  lt→nleb,
+)
+
+-- two tests that pass together pass each
+pub both-true : (a b : Bool) → a && b ≡ true → (a ≡ true) × (b ≡ true)
+both-true true true e = (refl, refl)
+both-true true false e = absurd (let z : _≡_ {A = ℕ} 0 1 = cc in omega arith)
+both-true false b e = absurd (let z : _≡_ {A = ℕ} 0 1 = cc in omega arith)
