@@ -1,0 +1,104 @@
+-- What reading tells of the bytes that were read, and the other way round: for all three kinds at once.
+-- Assumes nothing.
+use mathlib.Core.Path.{_≡_, refl, sym, ap, _∙_}
+use mathlib.Core.Bool.{Bool, true, false, _&&_}
+use mathlib.Core.Logic.{_≢_}
+use mathlib.Core.List.{List}
+use Prim.Native.Nat.{ℕ, _+_, _*_, _≤_}
+use native.Mathlib.Omega.{arith}
+use lib.Dec.{leb, eqb}
+use lib.ListN.{length}
+use borrow.Author.Tests.{leb-true, eqb-true, eq-eqb}
+use Rattle.wire.specs.Outcome.{Outcome, accepted, refused, require}
+use Rattle.wire.proofs.Tests.{both-true}
+use Rattle.wire.proofs.Outcomes.{passed}
+use Rattle.message.specs.Fields.{Body, Message}
+use Rattle.message.specs.Bounds.{within}
+use Rattle.message.specs.Encoding.{sizeOf}
+use Rattle.message.specs.Reading.{
+  lengthAt,
+  kindAt,
+  messageWith,
+  selectionAt,
+  validationAt,
+  decisionAt,
+  bodyAt,
+  framed,
+  kindKnown,
+  tested,
+  readOf,
+}
+
+-- a framed slice holds a header and the whole message
+pub framed-long : (s : List ℕ) → framed s ≡ true → (9 ≤ length s) × (lengthAt s ≤ length s)
+framed-long s e =
+    let h = both-true _ _ e in
+    (leb-true _ _ (both-true _ _ (h .0) .0), leb-true _ _ (h .1))
+
+-- a kind other than 1, 2 and 3 is not known
+unknown : (kind : ℕ) → kind ≢ 1 → kind ≢ 2 → kind ≢ 3 → leb 1 kind && leb kind 3 ≡ false
+unknown kind a b c = go (leb 1 kind) (leb kind 3) refl refl
+  where
+    go : (low high : Bool) → leb 1 kind ≡ low → leb kind 3 ≡ high → low && high ≡ false
+    go true true e h = absurd (omega (arith, leb-true, a, b, c))
+    go true false e h = refl
+    go false high e h = refl
+
+-- the kind picks the body
+abbrev byKind : List ℕ → Outcome Message
+byKind s = require (kindKnown s) 11 (tested s (bodyAt s))
+
+pub kind-one : (s : List ℕ) → kindAt s ≡ 1 → byKind s ≡ tested s (selectionAt s)
+unfolding bodyAt
+kind-one s e = rw e
+
+pub kind-two : (s : List ℕ) → kindAt s ≡ 2 → byKind s ≡ tested s (validationAt s)
+unfolding bodyAt
+kind-two s e = rw e
+
+pub kind-three : (s : List ℕ) → kindAt s ≡ 3 → byKind s ≡ tested s (decisionAt s)
+unfolding bodyAt
+kind-three s e = rw e
+
+pub kind-unknown : (s : List ℕ) → kindAt s ≢ 1 → kindAt s ≢ 2 → kindAt s ≢ 3 → byKind s ≡ refused 11
+kind-unknown s a b c = rw (unknown (kindAt s) a b c)
+
+-- the tests that a slice passes which is read to a message
+pub record Passes (s : List ℕ) (m : Message) : Type 0 where
+  pub is-framed : framed s ≡ true
+  pub of-a-kind : kindKnown s ≡ true
+  pub long : lengthAt s ≡ sizeOf (m .body)
+  pub in-bounds : within m ≡ true
+  pub fields : messageWith s (bodyAt s) ≡ m
+
+same-value : {A : Type 0} {a b : A} → accepted a ≡ accepted b → a ≡ b
+same-value e = cc
+
+pub read-passes : (s : List ℕ) (m : Message) → readOf s ≡ accepted m → Passes s m
+unfolding readOf tested
+read-passes s m e =
+    let frame = passed (framed s) 10 _ e in
+    let kind = passed (kindKnown s) 11 _ (frame .1) in
+    let size = passed (eqb (lengthAt s) (sizeOf (bodyAt s))) 12 _ (kind .1) in
+    let bounds = passed (within (messageWith s (bodyAt s))) 13 _ (size .1) in
+    let fields = same-value (bounds .1) in
+    record {
+      is-framed = frame .0;
+      of-a-kind = kind .0;
+      long = eqb-true _ _ (size .0) ∙ ap (λ (n : Message). sizeOf (n .body)) fields;
+      in-bounds = ap within (sym fields) ∙ bounds .0;
+      fields = fields;
+    }
+
+pub passes-read : (s : List ℕ) (m : Message) → Passes s m → readOf s ≡ accepted m
+unfolding readOf tested
+passes-read s m p =
+    let size = eq-eqb _ _ (p .long ∙ ap (λ (n : Message). sizeOf (n .body)) (sym (p .fields))) in
+    let bounds = ap within (p .fields) ∙ p .in-bounds in
+    simp (p .is-framed, p .of-a-kind, size, bounds) (ap accepted (p .fields))
+
+-- a message that is read lies within the slice
+pub read-fits : (s : List ℕ) (m : Message) → readOf s ≡ accepted m → sizeOf (m .body) ≤ length s
+read-fits s m e =
+    let p = read-passes s m e in
+    omega (arith, p .long, framed-long s (p .is-framed) .1)

@@ -1,0 +1,47 @@
+-- The bounds that a message's fields keep: document 01, 'Messages'.
+-- 01: "Bounds: phase 1 to 63; plans not 0; stamp below the phase in kind 1, at most the phase in kind 3; entries whose phases
+-- rise strictly and are below the message's phase."
+use Prim.Native.Nat.{ℕ, _+_, _^_, _<_}
+use mathlib.Core.Bool.{Bool, true, _&&_}
+use mathlib.Core.List.{List, [], _∷_}
+use lib.ListN.{length}
+use lib.Dec.{leb, ltb}
+use Rattle.wire.specs.Entry.{Entry}
+use Rattle.message.specs.Fields.{Body, selection, validation, decision, Message}
+
+-- "phase 1 to 63"
+abbrev pub phaseOk : ℕ → Bool
+phaseOk phase = leb 1 phase && leb phase 63
+
+-- "plans not 0"
+abbrev pub planOk : ℕ → Bool
+planOk plan = leb 1 plan
+
+-- "entries whose phases rise strictly and are below the message's phase": none of these is below `least`
+unfoldable pub entriesOk : ℕ → ℕ → List Entry → Bool
+entriesOk least phase [] = true
+entriesOk least phase (e ∷ es) =
+    leb least (e .phase) && ltb (e .phase) phase && planOk (e .plan) && entriesOk (e .phase + 1) phase es
+
+-- "stamp below the phase in kind 1, at most the phase in kind 3"; "k at most 63"
+abbrev pub bodyOk : ℕ → Body → Bool
+bodyOk phase (selection vote stamp entries) =
+    planOk vote && ltb stamp phase && leb (length entries) 63 && entriesOk 0 phase entries
+bodyOk phase (validation plan) = planOk plan
+bodyOk phase (decision vote stamp) = planOk vote && leb stamp phase
+
+abbrev pub within : Message → Bool
+within m = phaseOk (m .phase) && bodyOk (m .phase) (m .body)
+
+-- the fields fit the bytes that the layout has for them: a run four, a plan two
+abbrev pub PlansFit : List Entry → Type 0
+PlansFit [] = Unit {0}
+PlansFit (e ∷ es) = (e .plan < 256 ^ 2) × PlansFit es
+
+abbrev pub BodyFits : Body → Type 0
+BodyFits (selection vote stamp entries) = (vote < 256 ^ 2) × PlansFit entries
+BodyFits (validation plan) = plan < 256 ^ 2
+BodyFits (decision vote stamp) = vote < 256 ^ 2
+
+abbrev pub Fits : Message → Type 0
+Fits m = (m .run < 256 ^ 4) × BodyFits (m .body)

@@ -1,0 +1,5 @@
+pub mod Fields
+pub mod Bounds
+pub mod Encoding
+pub mod Reading
+pub mod Writing

@@ -1,0 +1,92 @@
+-- What reading a slice answers: document 01, 'Messages', and refusals 10 to 13.
+use Prim.Native.Nat.{ℕ, zero, suc, _*_}
+use mathlib.Core.Bool.{Bool, cond, _&&_}
+use mathlib.Core.List.{List, [], _∷_}
+use lib.ListN.{length, getD, take, drop}
+use lib.Dec.{leb, eqb}
+use Rattle.wire.specs.Outcome.{Outcome, accepted, refused, require}
+use Rattle.wire.specs.Entry.{Entry}
+use Rattle.wire.specs.Bytes.{numberAt}
+use Rattle.message.specs.Fields.{Body, selection, validation, decision, Message}
+use Rattle.message.specs.Bounds.{within}
+use Rattle.message.specs.Encoding.{sizeOf}
+use Rattle.message.specs.declared.Refusal.{Refusal}
+use Rattle.message.specs.declared.Refusal.the-variants.{Cut, Kind, Length, Bound}
+use Rattle.message.specs.declared.Reading.{Reading}
+use Rattle.message.specs.declared.Reading.the-variants.{Selection, Validation, Decision, Refused}
+
+-- the header's fields, where the layout has them
+abbrev pub lengthAt : List ℕ → ℕ
+lengthAt s = numberAt 2 s 0
+
+abbrev pub kindAt : List ℕ → ℕ
+kindAt s = numberAt 2 s 2
+
+abbrev pub messageWith : List ℕ → Body → Message
+messageWith s body = record { run = numberAt 4 s 4; phase = getD s 8 0; body = body }
+
+-- the k entries at the front of a list of bytes
+unfoldable pub entriesIn : ℕ → List ℕ → List Entry
+entriesIn zero s = []
+entriesIn (suc k) s = record { phase = getD s 0 0; plan = numberAt 2 s 1 } ∷ entriesIn k (drop 3 s)
+
+-- the body that stands after the header, by the kind
+abbrev pub selectionAt : List ℕ → Body
+selectionAt s = selection (numberAt 2 s 9) (getD s 11 0) (entriesIn (getD s 12 0) (drop 13 s))
+
+abbrev pub validationAt : List ℕ → Body
+validationAt s = validation (numberAt 2 s 9)
+
+abbrev pub decisionAt : List ℕ → Body
+decisionAt s = decision (numberAt 2 s 9) (getD s 11 0)
+
+unfoldable pub bodyAt : List ℕ → Body
+bodyAt s = cond (eqb (kindAt s) 1) (selectionAt s) (cond (eqb (kindAt s) 2) (validationAt s) (decisionAt s))
+
+-- 01: "10 slice under 9 bytes, length under 9, or length beyond the slice"
+abbrev pub framed : List ℕ → Bool
+framed s = leb 9 (length s) && leb 9 (lengthAt s) && leb (lengthAt s) (length s)
+
+-- 01: "11 kind not 1 to 3"
+abbrev pub kindKnown : List ℕ → Bool
+kindKnown s = leb 1 (kindAt s) && leb (kindAt s) 3
+
+-- 01: "12 length not that of the kind (kind 1: under 13, or not 13 + 3k for the k that stands there, k above 63 included);
+-- 13 a bound broken, or k above 63." No length under 13 is 13 + 3k, so one test says both halves of 12.
+unfoldable pub tested : List ℕ → Body → Outcome Message
+tested s body =
+    require (eqb (lengthAt s) (sizeOf body)) 12
+    (require (within (messageWith s body)) 13
+    (accepted (messageWith s body)))
+
+-- 01: "Reading: 10 ..; 11 ..; 12 ..; 13 .."
+unfoldable pub readOf : List ℕ → Outcome Message
+readOf s =
+    require (framed s) 10
+    (require (kindKnown s) 11
+    (tested s (bodyAt s)))
+
+-- 01: "the entries as a part of the caller's slice: an empty part for kinds 2 and 3 and where reading refuses"
+abbrev pub entriesPart : List ℕ → Body → List ℕ
+entriesPart s (selection vote stamp entries) = take (3 * length entries) (drop 13 s)
+entriesPart s (validation plan) = []
+entriesPart s (decision vote stamp) = []
+
+abbrev pub entriesPartOf : List ℕ → Outcome Message → List ℕ
+entriesPartOf s (accepted m) = entriesPart s (m .body)
+entriesPartOf s (refused number) = []
+
+-- 01's number of each refusal
+abbrev pub number : Refusal → ℕ
+number Cut = 10
+number Kind = 11
+number Length = 12
+number Bound = 13
+
+-- what an answer of `read` says of the slice, in 01's terms; the entries themselves stand in the slice
+abbrev pub answered : Reading → List ℕ → Outcome Message
+answered (Selection run phase vote stamp count) s =
+    accepted (record { run = run; phase = phase; body = selection vote stamp (entriesIn count (drop 13 s)) })
+answered (Validation run phase plan) s = accepted (record { run = run; phase = phase; body = validation plan })
+answered (Decision run phase vote stamp) s = accepted (record { run = run; phase = phase; body = decision vote stamp })
+answered (Refused why) s = refused (number why)

@@ -1,0 +1,45 @@
+-- A number's bytes are read to the number, and the bytes that a number was read from are its bytes: once over the width.
+-- Assumes nothing.
+use mathlib.Core.Path.{_≡_, refl, ap, sym, _∙_}
+use mathlib.Core.List.{List, _∷_, _++_}
+use Prim.Native.Nat.{ℕ, zero, suc, _+_, _*_, _/_, _%_, _^_, _<_, _≤_}
+use native.Mathlib.Omega.{arith}
+use native.Mathlib.Nat.{add-zero}
+use native.Mathlib.Numerals.{add-one}
+use lib.ListN.{length, getD, drop}
+use lib.Seq.{drop-cons}
+use Rattle.wire.specs.Bytes.{numberAt, bytesOf, AreBytes}
+
+-- a byte more in front moves every place by one
+number-shift : (width byte : ℕ) (s : List ℕ) (place : ℕ) → numberAt width (byte ∷ s) (place + 1) ≡ numberAt width s place
+number-shift zero byte s place = refl
+number-shift (suc width) byte s place =
+    rw (number-shift width byte s (place + 1), add-one place)
+
+-- what a number is written as is read to that number, whatever follows
+pub number-of-bytes : (width number : ℕ) (rest : List ℕ) → number < 256 ^ width
+    → numberAt width (bytesOf width number ++ rest) 0 ≡ number
+number-of-bytes zero number rest h = omega arith
+number-of-bytes (suc width) number rest h =
+    let high : number / 256 < 256 ^ width = omega arith in
+    let shift = number-shift width (number % 256) (bytesOf width (number / 256) ++ rest) 0 in
+    omega (arith, shift, number-of-bytes width (number / 256) rest high)
+
+-- the bytes from a place on are the bytes of the number that is read there, and those after it
+pub bytes-of-number : (width : ℕ) (s : List ℕ) (place : ℕ) → AreBytes s → place + width ≤ length s
+    → drop place s ≡ bytesOf width (numberAt width s place) ++ drop (place + width) s
+bytes-of-number zero s place bytes h = rw (add-zero place)
+bytes-of-number (suc width) s place bytes h =
+    let byte = getD s place 0 in
+    let high = numberAt width s (place + 1) in
+    let inside : place < length s = omega arith in
+    let low-digit : (byte + 256 * high) % 256 ≡ byte = omega (arith, bytes place) in
+    let high-digits : (byte + 256 * high) / 256 ≡ high = omega (arith, bytes place) in
+    let after : place + suc width ≡ place + 1 + width = omega arith in
+    rw (drop-cons s place 0 inside, ← add-one place, low-digit, high-digits, after)
+    (ap (λ (rest : List ℕ). byte ∷ rest) (bytes-of-number width s (place + 1) bytes (omega arith)))
+
+-- a number of `width` bytes is below 256 to the width
+pub number-small : (width : ℕ) (s : List ℕ) (place : ℕ) → AreBytes s → numberAt width s place < 256 ^ width
+number-small zero s place bytes = omega arith
+number-small (suc width) s place bytes = omega (arith, bytes place, number-small width s (place + 1) bytes)

@@ -1,0 +1,19 @@
+-- Numbers in bytes, the least byte first: once over the width, in bytes.
+-- 01: "byte order is little-endian"
+use Prim.Native.Nat.{ℕ, zero, suc, _+_, _*_, _/_, _%_, _<_}
+use mathlib.Core.List.{List, [], _∷_}
+use lib.ListN.{getD}
+
+-- the number that stands in `width` bytes from a place on
+abbrev pub numberAt : ℕ → List ℕ → ℕ → ℕ
+numberAt zero s place = 0
+numberAt (suc width) s place = getD s place 0 + 256 * numberAt width s (place + 1)
+
+-- a number written in `width` bytes
+abbrev pub bytesOf : ℕ → ℕ → List ℕ
+bytesOf zero number = []
+bytesOf (suc width) number = number % 256 ∷ bytesOf width (number / 256)
+
+-- a list of bytes: numbers below 256
+abbrev pub AreBytes : List ℕ → Type 0
+AreBytes s = (place : ℕ) → getD s place 0 < 256
