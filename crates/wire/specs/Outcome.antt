@@ -13,6 +13,11 @@ abbrev pub require : {A : Type 0} → Bool → ℕ → Outcome A → Outcome A
 require true number next = next
 require false number next = refused number
 
+-- One operation goes before another: the other's answer where it is accepted, else its refusal.
+abbrev pub after : {A : Type 0} → Outcome (Unit {0}) → Outcome A → Outcome A
+after (accepted value) next = next
+after (refused number) next = refused number
+
 -- Whether an operation was accepted, and the number of its refusal, without the value.
 abbrev pub verdict : {A : Type 0} → Outcome A → Outcome (Unit {0})
 verdict (accepted value) = accepted tt
