@@ -1,2 +1,4 @@
 pub mod EntryLaws
 pub mod ReadLaws
+pub mod HistoryLaws
+pub mod WriteLaws

@@ -2,13 +2,13 @@
 -- 01: "9 buffer shorter than the message"; "no lent byte is written"; "Bytes after a written message keep their values."
 -- Fields that break a bound are refused first, with the number that reading them would get, 13.
 use Prim.Native.Nat.{ℕ, zero, suc, _+_}
-use mathlib.Core.Bool.{Bool, cond, _&&_}
+use mathlib.Core.Bool.{cond}
 use mathlib.Core.List.{List, [], _∷_, _++_}
 use lib.ListN.{length, getD, drop}
 use lib.Dec.{leb}
 use Rattle.wire.specs.Outcome.{Outcome, accepted, refused, require}
 use Rattle.wire.specs.Entry.{Entry}
-use Rattle.message.specs.Fields.{Message, Body, selection}
+use Rattle.message.specs.Fields.{Message, selection, validation, decision}
 use Rattle.message.specs.Bounds.{within}
 use Rattle.message.specs.Encoding.{encode, sizeOf}
 use Rattle.message.specs.declared.WriteRefusal.{WriteRefusal}
@@ -28,6 +28,9 @@ abbrev pub bufferAfter : Message → List ℕ → Outcome ℕ → List ℕ
 bufferAfter m buffer (accepted size) = encode m ++ drop size buffer
 bufferAfter m buffer (refused number) = buffer
 
+abbrev pub bufferOf : Message → List ℕ → List ℕ
+bufferOf m buffer = bufferAfter m buffer (writeOf m buffer)
+
 -- the entry of a phase, where it has a plan
 abbrev pub entryOf : ℕ → ℕ → List Entry
 entryOf phase plan = cond (leb 1 plan) (record { phase = phase; plan = plan } ∷ []) []
@@ -36,6 +39,13 @@ entryOf phase plan = cond (leb 1 plan) (record { phase = phase; plan = plan } �
 unfoldable pub listed : List ℕ → ℕ → ℕ → List Entry
 listed history phase zero = []
 listed history phase (suc count) = entryOf phase (getD history phase 0) ++ listed history (phase + 1) count
+
+-- the messages that the writers are handed the fields of
+abbrev pub validationOf : ℕ → ℕ → ℕ → Message
+validationOf run phase plan = record { run = run; phase = phase; body = validation plan }
+
+abbrev pub decisionOf : ℕ → ℕ → ℕ → ℕ → Message
+decisionOf run phase vote stamp = record { run = run; phase = phase; body = decision vote stamp }
 
 -- the selection with the non-empty entries of the first `phases` phases
 abbrev pub selectionOf : ℕ → ℕ → ℕ → ℕ → List ℕ → ℕ → Message
@@ -46,6 +56,11 @@ selectionOf run phase vote stamp history phases =
 abbrev pub writeSelectionOf : ℕ → ℕ → ℕ → ℕ → List ℕ → ℕ → List ℕ → Outcome ℕ
 writeSelectionOf run phase vote stamp history phases buffer =
     require (leb phases phase) 13 (writeOf (selectionOf run phase vote stamp history phases) buffer)
+
+abbrev pub selectionBufferOf : ℕ → ℕ → ℕ → ℕ → List ℕ → ℕ → List ℕ → List ℕ
+selectionBufferOf run phase vote stamp history phases buffer =
+    bufferAfter (selectionOf run phase vote stamp history phases) buffer
+    (writeSelectionOf run phase vote stamp history phases buffer)
 
 -- 01's number of each refusal
 abbrev pub number : WriteRefusal → ℕ

@@ -1,32 +1,21 @@
 use mathlib.Core.Path.{sym, _∙_}
-use Rattle.crew.specs.Acceptance.{acceptOf}
 use borrow.Author.Needs.{needs}
+use Rattle.crew.specs.Acceptance.{acceptOf}
 use Rattle.crew.proofs.accept.Statement.{statement}
 use Rattle.crew.proofs.accept.Tie as tie
-use Rattle.crew.proofs.accept.Reads as reads
-use Rattle.crew.proofs.accept.Lts as lts
-use Rattle.crew.proofs.is_class.Reads as is-class-reads
-use Rattle.crew.proofs.is_high_enough.Reads as is-high-enough-reads
-use Rattle.crew.proofs.is_reachable.Reads as is-reachable-reads
-use Rattle.crew.proofs.is_size.Reads as is-size-reads
 
--- src/lib.rt:86:8
 is-class-requires : tie.Need-is-class-requires
 is-class-requires c κs = search needs
 
--- src/lib.rt:87:12
 is-size-requires : tie.Need-is-size-requires
 is-size-requires c κs = search needs
 
--- src/lib.rt:88:16
 is-reachable-requires : tie.Need-is-reachable-requires
 is-reachable-requires c κs = search needs
 
--- src/lib.rt:89:20
 is-high-enough-requires : tie.Need-is-high-enough-requires
 is-high-enough-requires c κs = search needs
 
--- src/lib.rt:90:21
 returns : tie.Need-returns
 unfolding acceptOf
 returns c = simp (
@@ -36,7 +25,6 @@ returns c = simp (
   sym (c .before .is-high-enough .ensures) ∙ c .if4 .taken,
 )
 
--- src/lib.rt:92:17
 returns-2 : tie.Need-returns-2
 unfolding acceptOf
 returns-2 c = simp (
@@ -46,7 +34,6 @@ returns-2 c = simp (
   sym (c .before .is-high-enough .ensures) ∙ c .if4 .left,
 )
 
--- src/lib.rt:94:13
 returns-3 : tie.Need-returns-3
 unfolding acceptOf
 returns-3 c = simp (
@@ -55,12 +42,10 @@ returns-3 c = simp (
   sym (c .before .is-reachable .ensures) ∙ c .if3 .left,
 )
 
--- src/lib.rt:96:9
 returns-4 : tie.Need-returns-4
 unfolding acceptOf
 returns-4 c = simp (sym (c .before .before .before .is-class .ensures) ∙ c .before .before .if1 .taken, sym (c .before .is-size .ensures) ∙ c .if2 .left)
 
--- src/lib.rt:83:1
 returns-5 : tie.Need-returns-5
 unfolding acceptOf
 returns-5 c = simp (sym (c .before .is-class .ensures) ∙ c .if1 .left)

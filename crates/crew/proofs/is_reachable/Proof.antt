@@ -1,35 +1,25 @@
 use borrow.Author.Needs.{needs}
 use Rattle.crew.proofs.is_reachable.Statement.{statement}
 use Rattle.crew.proofs.is_reachable.Tie as tie
-use Rattle.crew.proofs.is_reachable.Reads as reads
-use Rattle.crew.proofs.is_reachable.Lts as lts
-use Rattle.crew.proofs.wide.Reads as wide-reads
 
--- src/lib.rt:63:5
 wide-requires : tie.Need-wide-requires
 wide-requires c κs = search needs
 
--- src/lib.rt:63:20
 wide-requires-2 : tie.Need-wide-requires-2
 wide-requires-2 c κs = search needs
 
--- src/lib.rt:63:5
 add-result : tie.Need-add-result
 add-result c = search needs
 
--- src/lib.rt:63:35
 wide-requires-3 : tie.Need-wide-requires-3
 wide-requires-3 c κs = search needs
 
--- src/lib.rt:63:5
 add-result-2 : tie.Need-add-result-2
 add-result-2 c = search needs
 
--- src/lib.rt:63:51
 wide-requires-4 : tie.Need-wide-requires-4
 wide-requires-4 c κs = search needs
 
--- src/lib.rt:60:1
 returns : tie.Need-returns
 returns c = simp (c .before .before .before .wide .ensures, c .before .before .wide2 .ensures, c .before .wide3 .ensures, c .wide4 .ensures)
 

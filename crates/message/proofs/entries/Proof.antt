@@ -1,94 +1,70 @@
-use Rattle.message.proofs.ReadLaws.{read-fits}
-use Rattle.message.proofs.EntryLaws.{entries-count}
-use Rattle.message.specs.Reading.{answered}
-use Rattle.wire.specs.Outcome.{accepted}
-use mathlib.Core.Path.{_≡_, sym, _∙_, ap}
-use native.Mathlib.Omega.{arith}
-use denote.Ref.{now}
+use mathlib.Core.Path.{sym, _∙_, ap}
 use native.Mathlib.Nat.{add-sub-cancel-left}
+use native.Mathlib.Omega.{arith}
 use borrow.Author.Needs.{needs}
+use denote.Ref.{now}
+use Rattle.message.proofs.EntryLaws.{entries-count}
+use Rattle.message.proofs.ReadLaws.{read-fits}
+use Rattle.message.specs.Reading.{answered}
 use Rattle.message.proofs.entries.Statement.{statement}
 use Rattle.message.proofs.entries.Tie as tie
-use Rattle.message.proofs.entries.Reads as reads
-use Rattle.message.proofs.entries.Lts as lts
-use Rattle.message.proofs.read.Reads as read-reads
-use Rattle.message.proofs.wide.Reads as wide-reads
 
--- src/lib.rt:306:9
 read-requires : tie.Need-read-requires
 read-requires c κs = search needs
 
--- src/lib.rt:313:13
 enum-known-reading : tie.Need-enum-known-reading
 enum-known-reading c = search needs
 
--- src/lib.rt:315:33
 wide-requires : tie.Need-wide-requires
 wide-requires c κs = search needs
 
--- src/lib.rt:315:33
 cast-size : tie.Need-cast-size
 cast-size c = search needs
 
--- src/lib.rt:315:24
 mul-size : tie.Need-mul-size
 mul-size c = search needs
 
--- src/lib.rt:316:28
 add-result : tie.Need-add-result
 add-result c = search needs
 
--- src/lib.rt:316:13
 sub-result : tie.Need-sub-result
 sub-result c = search needs
 
--- src/lib.rt:316:13
 part-result-start : tie.Need-part-result-start
 part-result-start c = search needs
 
--- src/lib.rt:316:13
 part-result-end : tie.Need-part-result-end
 part-result-end c = let read-as = sym (c .before .before .before .before .read .ensures) ∙ ap (λ r. answered r (now (c .before .before .before .before .before .before .args .s))) (c .before .before .reading .given .1) in
     omega (arith, simp entries-count at (read-fits (now (c .before .before .before .before .before .before .args .s)) _ read-as), c .wide .ensures .0)
 
--- src/lib.rt:322:14
 enum-told : tie.Need-enum-told
 enum-told c = search needs
 
--- src/lib.rt:322:14
 slice-aggregate-result : tie.Need-slice-aggregate-result
 slice-aggregate-result c = search needs
 
--- src/lib.rt:328:14
 enum-told-2 : tie.Need-enum-told-2
 enum-told-2 c = search needs
 
--- src/lib.rt:328:14
 slice-aggregate-result-2 : tie.Need-slice-aggregate-result-2
 slice-aggregate-result-2 c = search needs
 
--- src/lib.rt:329:32
 enum-told-3 : tie.Need-enum-told-3
 enum-told-3 c = search needs
 
--- src/lib.rt:329:32
 slice-aggregate-result-3 : tie.Need-slice-aggregate-result-3
 slice-aggregate-result-3 c = search needs
 
--- src/lib.rt:303:1
 returns : tie.Need-returns
 returns c = let read-as = sym (c .before .before .before .before .before .read .ensures) ∙ ap (λ r. answered r (now (c .before .before .before .before .before .before .before .args .s))) (c .before .before .before .reading .given .1) in
     simp (add-sub-cancel-left, read-as, entries-count, c .before .wide .ensures .0)
 
--- src/lib.rt:303:1
 returns-2 : tie.Need-returns-2
 returns-2 c = simp (sym (c .before .before .before .read .ensures) ∙ ap (λ r. answered r (now (c .before .before .before .before .before .args .s))) (c .before .enum-told .given .1))
 
--- src/lib.rt:303:1
 returns-3 : tie.Need-returns-3
 returns-3 c = simp (sym (c .before .before .before .read .ensures) ∙ ap (λ r. answered r (now (c .before .before .before .before .before .args .s))) (c .before .enum-told2 .given .1))
 
--- src/lib.rt:303:1
 returns-4 : tie.Need-returns-4
 returns-4 c = simp (sym (c .before .before .before .read .ensures) ∙ ap (λ r. answered r (now (c .before .before .before .before .before .args .s))) (c .before .enum-told3 .given .1))
 

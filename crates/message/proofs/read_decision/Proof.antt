@@ -1,54 +1,46 @@
-use borrow.Author.Tests.{eq-eqb, ne-eqb}
-use Rattle.message.specs.Reading.{tested}
 use mathlib.Core.Path.{sym, _∙_}
 use borrow.Author.Needs.{needs}
+use borrow.Author.Tests.{eq-eqb, ne-eqb}
+use Rattle.message.specs.Reading.{tested}
 use Rattle.message.proofs.read_decision.Statement.{statement}
 use Rattle.message.proofs.read_decision.Tie as tie
-use Rattle.message.proofs.read_decision.Reads as reads
-use Rattle.message.proofs.read_decision.Lts as lts
-use Rattle.message.proofs.is_decision.Reads as is-decision-reads
-use Rattle.message.proofs.run_at.Reads as run-at-reads
-use Rattle.message.proofs.u16_at.Reads as u16-at-reads
 
--- src/lib.rt:256:8
 u16-at-requires : tie.Need-u16-at-requires
 u16-at-requires c κs = search needs
 
--- src/lib.rt:257:12
 is-decision-requires : tie.Need-is-decision-requires
 is-decision-requires c κs = search needs
 
--- src/lib.rt:259:22
 run-at-requires : tie.Need-run-at-requires
 run-at-requires c κs = search needs
 
--- src/lib.rt:260:24
 shared-slice-read-t9 : tie.Need-shared-slice-read-t9
 shared-slice-read-t9 c = search needs
 
--- src/lib.rt:261:23
 u16-at-requires-2 : tie.Need-u16-at-requires-2
 u16-at-requires-2 c κs = search needs
 
--- src/lib.rt:262:24
 shared-slice-read-t12 : tie.Need-shared-slice-read-t12
 shared-slice-read-t12 c = search needs
 
--- src/lib.rt:252:1
 returns : tie.Need-returns
 unfolding tested
 returns c = simp (
-    tested, c .before .before .before .run-at .ensures, c .before .u16-at2 .ensures,
-    eq-eqb _ _ (sym (c .before .before .before .before .before .before .before .u16-at .ensures) ∙ c .before .before .before .before .before .before .if1 .taken),
-    sym (c .before .before .before .before .before .is-decision .ensures) ∙ c .before .before .before .before .if2 .taken)
+  tested,
+  c .before .before .before .run-at .ensures,
+  c .before .u16-at2 .ensures,
+  eq-eqb _ _ (sym (c .before .before .before .before .before .before .before .u16-at .ensures) ∙ c .before .before .before .before .before .before .if1 .taken),
+  sym (c .before .before .before .before .before .is-decision .ensures) ∙ c .before .before .before .before .if2 .taken,
+)
 
--- src/lib.rt:252:1
 returns-2 : tie.Need-returns-2
 unfolding tested
 returns-2 c = simp (
-    tested, eq-eqb _ _ (sym (c .before .before .before .u16-at .ensures) ∙ c .before .before .if1 .taken), sym (c .before .is-decision .ensures) ∙ c .if2 .left)
+  tested,
+  eq-eqb _ _ (sym (c .before .before .before .u16-at .ensures) ∙ c .before .before .if1 .taken),
+  sym (c .before .is-decision .ensures) ∙ c .if2 .left,
+)
 
--- src/lib.rt:252:1
 returns-3 : tie.Need-returns-3
 unfolding tested
 returns-3 c = simp (tested, ← c .before .u16-at .ensures, ne-eqb _ _ (c .if1 .left))

@@ -1,50 +1,31 @@
+use mathlib.Core.Path.{sym, _∙_}
+use borrow.Author.Needs.{needs}
 use denote.Ref.{now}
 use Rattle.message.proofs.ReadLaws.{kind-one, kind-two, kind-three, kind-unknown}
-use mathlib.Core.Path.{sym, _∙_}
-use borrow.Author.Tests.{eq-eqb, ne-eqb}
-use Rattle.message.specs.Reading.{bodyAt}
-use borrow.Author.Needs.{needs}
 use Rattle.message.proofs.read_kind.Statement.{statement}
 use Rattle.message.proofs.read_kind.Tie as tie
-use Rattle.message.proofs.read_kind.Reads as reads
-use Rattle.message.proofs.read_kind.Lts as lts
-use Rattle.message.proofs.read_decision.Reads as read-decision-reads
-use Rattle.message.proofs.read_selection.Reads as read-selection-reads
-use Rattle.message.proofs.read_validation.Reads as read-validation-reads
-use Rattle.message.proofs.u16_at.Reads as u16-at-reads
 
--- src/lib.rt:278:9
 u16-at-requires : tie.Need-u16-at-requires
 u16-at-requires c κs = search needs
 
--- src/lib.rt:280:9
 read-selection-requires : tie.Need-read-selection-requires
 read-selection-requires c κs = search needs
 
--- src/lib.rt:280:9
 returns : tie.Need-returns
-
 returns c = c .read-selection .ensures ∙ sym (kind-one _ (sym (c .before .before .u16-at .ensures) ∙ c .before .if1 .taken))
 
--- src/lib.rt:283:9
 read-validation-requires : tie.Need-read-validation-requires
 read-validation-requires c κs = search needs
 
--- src/lib.rt:283:9
 returns-2 : tie.Need-returns-2
-
 returns-2 c = c .read-validation .ensures ∙ sym (kind-two _ (sym (c .before .before .before .u16-at .ensures) ∙ c .before .if2 .taken))
 
--- src/lib.rt:286:9
 read-decision-requires : tie.Need-read-decision-requires
 read-decision-requires c κs = search needs
 
--- src/lib.rt:286:9
 returns-3 : tie.Need-returns-3
-
 returns-3 c = c .read-decision .ensures ∙ sym (kind-three _ (sym (c .before .before .before .before .u16-at .ensures) ∙ c .before .if3 .taken))
 
--- src/lib.rt:273:1
 returns-4 : tie.Need-returns-4
 returns-4 c = sym (
     kind-unknown (now (c .before .before .before .before .before .args .s)) (λ e. c .before .before .if1 .left (c .before .before .before .u16-at .ensures ∙ e))

@@ -1,50 +1,43 @@
-use borrow.Author.Tests.{eq-eqb, ne-eqb}
-use Rattle.message.specs.Reading.{tested}
 use mathlib.Core.Path.{sym, _∙_}
 use borrow.Author.Needs.{needs}
+use borrow.Author.Tests.{eq-eqb, ne-eqb}
+use Rattle.message.specs.Reading.{tested}
 use Rattle.message.proofs.read_validation.Statement.{statement}
 use Rattle.message.proofs.read_validation.Tie as tie
-use Rattle.message.proofs.read_validation.Reads as reads
-use Rattle.message.proofs.read_validation.Lts as lts
-use Rattle.message.proofs.is_validation.Reads as is-validation-reads
-use Rattle.message.proofs.run_at.Reads as run-at-reads
-use Rattle.message.proofs.u16_at.Reads as u16-at-reads
 
--- src/lib.rt:236:8
 u16-at-requires : tie.Need-u16-at-requires
 u16-at-requires c κs = search needs
 
--- src/lib.rt:237:12
 is-validation-requires : tie.Need-is-validation-requires
 is-validation-requires c κs = search needs
 
--- src/lib.rt:239:22
 run-at-requires : tie.Need-run-at-requires
 run-at-requires c κs = search needs
 
--- src/lib.rt:240:24
 shared-slice-read-t9 : tie.Need-shared-slice-read-t9
 shared-slice-read-t9 c = search needs
 
--- src/lib.rt:241:23
 u16-at-requires-2 : tie.Need-u16-at-requires-2
 u16-at-requires-2 c κs = search needs
 
--- src/lib.rt:232:1
 returns : tie.Need-returns
 unfolding tested
 returns c = simp (
-    tested, c .before .before .run-at .ensures, c .u16-at2 .ensures,
-    eq-eqb _ _ (sym (c .before .before .before .before .before .before .u16-at .ensures) ∙ c .before .before .before .before .before .if1 .taken),
-    sym (c .before .before .before .before .is-validation .ensures) ∙ c .before .before .before .if2 .taken)
+  tested,
+  c .before .before .run-at .ensures,
+  c .u16-at2 .ensures,
+  eq-eqb _ _ (sym (c .before .before .before .before .before .before .u16-at .ensures) ∙ c .before .before .before .before .before .if1 .taken),
+  sym (c .before .before .before .before .is-validation .ensures) ∙ c .before .before .before .if2 .taken,
+)
 
--- src/lib.rt:232:1
 returns-2 : tie.Need-returns-2
 unfolding tested
 returns-2 c = simp (
-    tested, eq-eqb _ _ (sym (c .before .before .before .u16-at .ensures) ∙ c .before .before .if1 .taken), sym (c .before .is-validation .ensures) ∙ c .if2 .left)
+  tested,
+  eq-eqb _ _ (sym (c .before .before .before .u16-at .ensures) ∙ c .before .before .if1 .taken),
+  sym (c .before .is-validation .ensures) ∙ c .if2 .left,
+)
 
--- src/lib.rt:232:1
 returns-3 : tie.Need-returns-3
 unfolding tested
 returns-3 c = simp (tested, ← c .before .u16-at .ensures, ne-eqb _ _ (c .if1 .left))

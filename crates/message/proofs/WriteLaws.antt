@@ -1,0 +1,109 @@
+-- What the writers' tests and stores amount to: the whole buffer is the message and the bytes after it, or untouched.
+-- Assumes nothing.
+use mathlib.Core.Path.{_≡_, refl, sym, ap, _∙_}
+use mathlib.Core.Bool.{Bool, true, false, _&&_}
+use mathlib.Core.List.{List, _++_}
+use Prim.Native.Nat.{ℕ, _+_, _*_, _≤_, _<_}
+use native.Mathlib.Nat.{zero-add}
+use native.Mathlib.Omega.{arith}
+use lib.Dec.{leb, ltb}
+use lib.ListN.{length, drop}
+use lib.Seq.{sets, sets-eq}
+use borrow.Author.Tests.{le-leb, lt-leb, leb-true}
+use Rattle.wire.specs.Outcome.{accepted, refused}
+use Rattle.wire.proofs.Tests.{both-true}
+use Rattle.message.specs.Fields.{Body, selection, validation, decision, Message}
+use Rattle.message.specs.Bounds.{phaseOk, planOk, within}
+use Rattle.message.specs.Encoding.{kindOf, sizeOf, bodyBytes, header, encode}
+use Rattle.message.specs.Writing.{
+  listed,
+  selectionOf,
+  writeOf,
+  writeSelectionOf,
+  bufferOf,
+  selectionBufferOf,
+}
+use Rattle.message.proofs.HistoryLaws.{entry-bytes-length, listed-count, listed-ok}
+
+-- 01: "length (2, counting every byte of the message)"
+pub encode-length : (m : Message) → length (encode m) ≡ sizeOf (m .body)
+unfolding encode
+encode-length m = go (m .body)
+  where
+    go : (body : Body) → length (header (sizeOf body) (kindOf body) (m .run) (m .phase) ++ bodyBytes body) ≡ sizeOf body
+    go (selection vote stamp entries) = omega (arith, entry-bytes-length entries)
+    go (validation plan) = refl
+    go (decision vote stamp) = refl
+
+-- stores from the front of a buffer on
+pub sets-front : (bs l : List ℕ) → length bs ≤ length l → sets l 0 bs ≡ bs ++ drop (length bs) l
+sets-front bs l h =
+    let room : 0 + length bs ≤ length l = rw zero-add h in
+    rw (← zero-add (length bs)) (sets-eq bs l 0 room)
+
+module _ (m : Message) (buffer : List ℕ) where
+  pub written : within m ≡ true → sizeOf (m .body) ≤ length buffer
+      → (accepted (sizeOf (m .body)) ≡ writeOf m buffer) × (sets buffer 0 (encode m) ≡ bufferOf m buffer)
+  unfolding writeOf
+  written ok room =
+      let long = encode-length m in
+      let fits : length (encode m) ≤ length buffer = omega arith in
+      (rw (ok, le-leb _ _ room), rw (ok, le-leb _ _ room, ← long) (sets-front (encode m) buffer fits))
+
+  pub too-short : within m ≡ true → length buffer < sizeOf (m .body)
+      → (refused 9 ≡ writeOf m buffer) × (buffer ≡ bufferOf m buffer)
+  unfolding writeOf
+  too-short ok short = (rw (ok, lt-leb _ _ short), rw (ok, lt-leb _ _ short))
+
+  pub out-of-bounds : within m ≡ false → (refused 13 ≡ writeOf m buffer) × (buffer ≡ bufferOf m buffer)
+  unfolding writeOf
+  out-of-bounds broken = (rw broken, rw broken)
+
+-- Of a selection's bounds only those that its scalar fields can break are left to test, where the phases looked at
+-- are no more than the message's phase.
+module _ (run phase vote stamp : ℕ) (history : List ℕ) (phases : ℕ) where
+  abbrev pub allowed : Bool
+  allowed = leb phases phase && (phaseOk phase && (planOk vote && ltb stamp phase))
+
+  abbrev message : Message
+  message = selectionOf run phase vote stamp history phases
+
+  all-true : (a b c d : Bool) → a ≡ true → b ≡ true → c ≡ true → d ≡ true → a && (b && c && d) ≡ true
+  all-true a b c d ha hb hc hd = rw (ha, hb, hc, hd)
+
+  pub allowed-within : allowed ≡ true → (leb phases phase ≡ true) × (within message ≡ true) × (phases ≤ 63)
+  allowed-within e =
+      let parts = both-true (leb phases phase) _ e in
+      let scalars = both-true (phaseOk phase) (planOk vote && ltb stamp phase) (parts .1) in
+      let below : phases ≤ phase = leb-true _ _ (parts .0) in
+      let last : phase ≤ 63 = leb-true _ _ (both-true (leb 1 phase) (leb phase 63) (scalars .0) .1) in
+      let few : length (listed history 0 phases) ≤ 63 = omega (arith, listed-count history 0 phases) in
+      let rising = listed-ok history 0 phases 0 phase (omega arith) (omega arith) in
+      (parts .0, all-true _ _ _ _ (scalars .0) (scalars .1) (le-leb _ _ few) rising, omega arith)
+
+  module _ (buffer : List ℕ) where
+    pub selection-written : allowed ≡ true → sizeOf (message .body) ≤ length buffer
+        → (accepted (sizeOf (message .body)) ≡ writeSelectionOf run phase vote stamp history phases buffer)
+        × (sets buffer 0 (encode message) ≡ selectionBufferOf run phase vote stamp history phases buffer)
+    selection-written e room = rw (allowed-within e .0) (written message buffer (allowed-within e .1) room)
+
+    pub selection-too-short : allowed ≡ true → length buffer < sizeOf (message .body)
+        → (refused 9 ≡ writeSelectionOf run phase vote stamp history phases buffer)
+        × (buffer ≡ selectionBufferOf run phase vote stamp history phases buffer)
+    selection-too-short e short = rw (allowed-within e .0) (too-short message buffer (allowed-within e .1) short)
+
+    pub selection-out-of-bounds : allowed ≡ false
+        → (refused 13 ≡ writeSelectionOf run phase vote stamp history phases buffer)
+        × (buffer ≡ selectionBufferOf run phase vote stamp history phases buffer)
+    selection-out-of-bounds e = go (leb phases phase) refl e
+      where
+        broken : (a b c d : Bool) → a && b ≡ false → a && (b && c && d) ≡ false
+        broken true true c d e = absurd (let z : _≡_ {A = ℕ} 0 1 = cc in omega arith)
+        broken true false c d e = refl
+        broken false b c d e = refl
+
+        go : (b : Bool) → leb phases phase ≡ b → b && (phaseOk phase && (planOk vote && ltb stamp phase)) ≡ false
+            → (refused 13 ≡ writeSelectionOf run phase vote stamp history phases buffer)
+            × (buffer ≡ selectionBufferOf run phase vote stamp history phases buffer)
+        go true h e = rw h (out-of-bounds message buffer (broken (phaseOk phase) (planOk vote && ltb stamp phase) _ _ e))
+        go false h e = (rw h, rw h)

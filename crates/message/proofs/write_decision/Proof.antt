@@ -1,0 +1,66 @@
+use native.Mathlib.Omega.{arith}
+use lib.ListN.{length-set}
+use borrow.Author.Needs.{needs}
+use denote.Ref.{now}
+use Rattle.message.proofs.WriteLaws.{written, too-short, out-of-bounds}
+use Rattle.message.specs.Encoding.{encode}
+use Rattle.message.specs.Writing.{decisionOf}
+use Rattle.message.proofs.write_decision.Statement.{statement}
+use Rattle.message.proofs.write_decision.Tie as tie
+
+is-phase-requires : tie.Need-is-phase-requires
+is-phase-requires c κs = search needs
+
+is-plan-requires : tie.Need-is-plan-requires
+is-plan-requires c κs = search needs
+
+cast-if2 : tie.Need-cast-if2
+cast-if2 c = search needs
+
+returns : tie.Need-returns
+returns c = let a = c .before .before .before .before .before .args in
+    too-short (decisionOf (a .run) (a .phase) (a .vote) (a .stamp)) (now (a .buf))
+    (simp (c .before .before .before .is-phase .ensures, c .before .before .is-plan .ensures) at (c .before .if1 .taken)) (c .if2 .taken)
+
+put-header-requires : tie.Need-put-header-requires
+put-header-requires c κs = search needs
+
+put16-requires : tie.Need-put16-requires
+put16-requires c κs = search needs
+
+slice-write-buf : tie.Need-slice-write-buf
+slice-write-buf c = search needs
+
+cast-t11 : tie.Need-cast-t11
+cast-t11 c = search needs
+
+same-length : tie.Need-same-length
+same-length c = simp length-set (omega (arith, c .before .before .put16 .kept .0, c .before .before .before .before .before .before .put-header .kept .0))
+
+returns-2 : tie.Need-returns-2
+unfolding encode
+returns-2 c = let a = c .before .before .before .before .before .before .before .before .before .before .before .before .before .args in
+    simp (c .before .before .put16 .ensures, c .before .before .before .before .before .before .put-header .ensures)
+    (written (decisionOf (a .run) (a .phase) (a .vote) (a .stamp)) (now (a .buf))
+    (simp (c .before .before .before .before .before .before .before .before .before .before .before .is-phase .ensures, c .before .before .before .before .before .before .before .before .before .before .is-plan .ensures) at (c .before .before .before .before .before .before .before .before .before .if1 .taken)) (c .before .before .before .before .before .before .before .before .if2 .left))
+
+returns-3 : tie.Need-returns-3
+returns-3 c = let a = c .before .before .before .before .args in
+    out-of-bounds (decisionOf (a .run) (a .phase) (a .vote) (a .stamp)) (now (a .buf))
+    (simp (c .before .before .is-phase .ensures, c .before .is-plan .ensures) at (c .if1 .left))
+
+pub write-decision-spec : {M : Type 1} → statement M
+write-decision-spec =
+    tie.close
+    (tie.spec
+    is-phase-requires
+    is-plan-requires
+    cast-if2
+    returns
+    put-header-requires
+    put16-requires
+    slice-write-buf
+    cast-t11
+    same-length
+    returns-2
+    returns-3)

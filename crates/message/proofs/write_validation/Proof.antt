@@ -1,0 +1,60 @@
+use borrow.Author.Needs.{needs}
+use denote.Ref.{now}
+use Rattle.message.proofs.WriteLaws.{written, too-short, out-of-bounds}
+use Rattle.message.specs.Encoding.{encode}
+use Rattle.message.specs.Writing.{validationOf}
+use Rattle.message.proofs.write_validation.Statement.{statement}
+use Rattle.message.proofs.write_validation.Tie as tie
+
+is-phase-requires : tie.Need-is-phase-requires
+is-phase-requires c κs = search needs
+
+is-plan-requires : tie.Need-is-plan-requires
+is-plan-requires c κs = search needs
+
+cast-if2 : tie.Need-cast-if2
+cast-if2 c = search needs
+
+returns : tie.Need-returns
+returns c = let a = c .before .before .before .before .before .args in
+    too-short (validationOf (a .run) (a .phase) (a .plan)) (now (a .buf))
+    (simp (c .before .before .before .is-phase .ensures, c .before .before .is-plan .ensures) at (c .before .if1 .taken)) (c .if2 .taken)
+
+put-header-requires : tie.Need-put-header-requires
+put-header-requires c κs = search needs
+
+put16-requires : tie.Need-put16-requires
+put16-requires c κs = search needs
+
+cast-t8 : tie.Need-cast-t8
+cast-t8 c = search needs
+
+same-length : tie.Need-same-length
+same-length c = search needs
+
+returns-2 : tie.Need-returns-2
+unfolding encode
+returns-2 c = let a = c .before .before .before .before .before .before .before .before .before .before .before .before .before .args in
+    simp (c .before .before .put16 .ensures, c .before .before .before .before .before .before .put-header .ensures)
+    (written (validationOf (a .run) (a .phase) (a .plan)) (now (a .buf))
+    (simp (c .before .before .before .before .before .before .before .before .before .before .before .is-phase .ensures, c .before .before .before .before .before .before .before .before .before .before .is-plan .ensures) at (c .before .before .before .before .before .before .before .before .before .if1 .taken)) (c .before .before .before .before .before .before .before .before .if2 .left))
+
+returns-3 : tie.Need-returns-3
+returns-3 c = let a = c .before .before .before .before .args in
+    out-of-bounds (validationOf (a .run) (a .phase) (a .plan)) (now (a .buf))
+    (simp (c .before .before .is-phase .ensures, c .before .is-plan .ensures) at (c .if1 .left))
+
+pub write-validation-spec : {M : Type 1} → statement M
+write-validation-spec =
+    tie.close
+    (tie.spec
+    is-phase-requires
+    is-plan-requires
+    cast-if2
+    returns
+    put-header-requires
+    put16-requires
+    cast-t8
+    same-length
+    returns-2
+    returns-3)
