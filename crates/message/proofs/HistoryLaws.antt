@@ -40,7 +40,12 @@ listed-count history from zero = omega arith
 listed-count history from (suc count) =
     let first = entryOf from (getD history from 0) in
     let others = listed history (from + 1) count in
-    omega (arith, length-append first others, one-at-most from (getD history from 0), listed-count history (from + 1) count)
+    omega (
+      arith,
+      length-append first others,
+      one-at-most from (getD history from 0),
+      listed-count history (from + 1) count,
+    )
 
 -- an entry in front of others that keep their bounds
 entry-ok : (from plan least phase : ℕ) (full : Bool) (others : List Entry) → leb 1 plan ≡ full → least ≤ from → from < phase

@@ -18,21 +18,25 @@ is-high-enough-requires c κs = search needs
 
 returns : tie.Need-returns
 unfolding acceptOf
-returns c = simp (
-  sym (c .before .before .before .before .before .before .before .is-class .ensures) ∙ c .before .before .before .before .before .before .if1 .taken,
-  sym (c .before .before .before .before .before .is-size .ensures) ∙ c .before .before .before .before .if2 .taken,
-  sym (c .before .before .before .is-reachable .ensures) ∙ c .before .before .if3 .taken,
-  sym (c .before .is-high-enough .ensures) ∙ c .if4 .taken,
-)
+returns c =
+    let b4 = c .before .before .before .before in
+    simp (
+      sym (b4 .before .before .before .is-class .ensures) ∙ b4 .before .before .if1 .taken,
+      sym (b4 .before .is-size .ensures) ∙ b4 .if2 .taken,
+      sym (c .before .before .before .is-reachable .ensures) ∙ c .before .before .if3 .taken,
+      sym (c .before .is-high-enough .ensures) ∙ c .if4 .taken,
+    )
 
 returns-2 : tie.Need-returns-2
 unfolding acceptOf
-returns-2 c = simp (
-  sym (c .before .before .before .before .before .before .before .is-class .ensures) ∙ c .before .before .before .before .before .before .if1 .taken,
-  sym (c .before .before .before .before .before .is-size .ensures) ∙ c .before .before .before .before .if2 .taken,
-  sym (c .before .before .before .is-reachable .ensures) ∙ c .before .before .if3 .taken,
-  sym (c .before .is-high-enough .ensures) ∙ c .if4 .left,
-)
+returns-2 c =
+    let b4 = c .before .before .before .before in
+    simp (
+      sym (b4 .before .before .before .is-class .ensures) ∙ b4 .before .before .if1 .taken,
+      sym (b4 .before .is-size .ensures) ∙ b4 .if2 .taken,
+      sym (c .before .before .before .is-reachable .ensures) ∙ c .before .before .if3 .taken,
+      sym (c .before .is-high-enough .ensures) ∙ c .if4 .left,
+    )
 
 returns-3 : tie.Need-returns-3
 unfolding acceptOf
@@ -44,7 +48,11 @@ returns-3 c = simp (
 
 returns-4 : tie.Need-returns-4
 unfolding acceptOf
-returns-4 c = simp (sym (c .before .before .before .is-class .ensures) ∙ c .before .before .if1 .taken, sym (c .before .is-size .ensures) ∙ c .if2 .left)
+returns-4 c =
+    simp (
+      sym (c .before .before .before .is-class .ensures) ∙ c .before .before .if1 .taken,
+      sym (c .before .is-size .ensures) ∙ c .if2 .left,
+    )
 
 returns-5 : tie.Need-returns-5
 unfolding acceptOf

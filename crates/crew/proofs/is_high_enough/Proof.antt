@@ -28,7 +28,15 @@ mul-result-2 : tie.Need-mul-result-2
 mul-result-2 c = search needs
 
 returns : tie.Need-returns
-returns c = simp (c .before .before .before .before .before .wide .ensures, c .before .before .before .before .wide2 .ensures, c .before .before .before .wide3 .ensures, c .wide4 .ensures, eq-eqb _ _ (c .before .if1 .taken))
+returns c =
+    let b4 = c .before .before .before .before in
+    simp (
+      b4 .before .wide .ensures,
+      b4 .wide2 .ensures,
+      c .before .before .before .wide3 .ensures,
+      c .wide4 .ensures,
+      eq-eqb _ _ (c .before .if1 .taken),
+    )
 
 mul-result-3 : tie.Need-mul-result-3
 mul-result-3 c = search needs
@@ -37,7 +45,15 @@ add-result-3 : tie.Need-add-result-3
 add-result-3 c = search needs
 
 returns-2 : tie.Need-returns-2
-returns-2 c = simp (c .before .before .before .before .before .before .wide .ensures, c .before .before .before .before .before .wide2 .ensures, c .before .before .before .before .wide3 .ensures, ne-eqb _ _ (c .before .before .if1 .left), eq-eqb _ _ (c .if2 .taken))
+returns-2 c =
+    let b4 = c .before .before .before .before in
+    simp (
+      b4 .before .before .wide .ensures,
+      b4 .before .wide2 .ensures,
+      b4 .wide3 .ensures,
+      ne-eqb _ _ (c .before .before .if1 .left),
+      eq-eqb _ _ (c .if2 .taken),
+    )
 
 mul-result-4 : tie.Need-mul-result-4
 mul-result-4 c = search needs
@@ -46,7 +62,15 @@ add-result-4 : tie.Need-add-result-4
 add-result-4 c = search needs
 
 returns-3 : tie.Need-returns-3
-returns-3 c = simp (c .before .before .before .before .before .before .wide .ensures, c .before .before .before .before .before .wide2 .ensures, c .before .before .before .before .wide3 .ensures, ne-eqb _ _ (c .before .before .if1 .left), ne-eqb _ _ (c .if2 .left))
+returns-3 c =
+    let b4 = c .before .before .before .before in
+    simp (
+      b4 .before .before .wide .ensures,
+      b4 .before .wide2 .ensures,
+      b4 .wide3 .ensures,
+      ne-eqb _ _ (c .before .before .if1 .left),
+      ne-eqb _ _ (c .if2 .left),
+    )
 
 pub is-high-enough-spec : {M : Type 1} → statement M
 is-high-enough-spec =

@@ -21,7 +21,13 @@ wide-requires-4 : tie.Need-wide-requires-4
 wide-requires-4 c κs = search needs
 
 returns : tie.Need-returns
-returns c = simp (c .before .before .before .wide .ensures, c .before .before .wide2 .ensures, c .before .wide3 .ensures, c .wide4 .ensures)
+returns c =
+    simp (
+      c .before .before .before .wide .ensures,
+      c .before .before .wide2 .ensures,
+      c .before .wide3 .ensures,
+      c .wide4 .ensures,
+    )
 
 pub is-reachable-spec : {M : Type 1} → statement M
 is-reachable-spec =

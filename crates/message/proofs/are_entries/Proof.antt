@@ -51,15 +51,18 @@ loop-less : tie.Need-loop-less Inv-loop μ-loop
 loop-less c = search needs
 
 loop-again : tie.Need-loop-again Inv-loop μ-loop
-loop-again c = (
-  search needs,
-  entries-more _ _ _ _ _ _ _ _ (c .before .before .before .wide .ensures .0) (c .before .is-plan .ensures ∙ ap planOk (c .before .before .u16-at .ensures))
-      (c .before .before .before .before .before .loop-test .taken) (c .before .before .before .before .before .before .loop .inv .1) (c .if1 .taken),
-)
+loop-again c =
+    let b4 = c .before .before .before .before in (
+      search needs,
+      entries-more _ _ _ _ _ _ _ _ (c .before .before .before .wide .ensures .0) (c .before .is-plan .ensures ∙ ap planOk (c .before .before .u16-at .ensures))
+          (b4 .before .loop-test .taken) (b4 .before .before .loop .inv .1) (c .if1 .taken),
+    )
 
 returns : tie.Need-returns Inv-loop μ-loop
-returns c = entries-stop _ _ _ _ _ _ _ _ (c .before .before .before .wide .ensures .0) (c .before .is-plan .ensures ∙ ap planOk (c .before .before .u16-at .ensures))
-    (c .before .before .before .before .before .loop-test .taken) (c .before .before .before .before .before .before .loop .inv .1) (c .if1 .left)
+returns c =
+    let b4 = c .before .before .before .before in
+    entries-stop _ _ _ _ _ _ _ _ (c .before .before .before .wide .ensures .0) (c .before .is-plan .ensures ∙ ap planOk (c .before .before .u16-at .ensures))
+    (b4 .before .loop-test .taken) (b4 .before .before .loop .inv .1) (c .if1 .left)
 
 returns-2 : tie.Need-returns-2 Inv-loop μ-loop
 returns-2 c = entries-done _ _ _ _ _ _ (c .loop-test .left) (c .before .loop .inv .1)

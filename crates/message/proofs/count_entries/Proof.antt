@@ -43,14 +43,16 @@ loop-less : tie.Need-loop-less Inv-loop μ-loop
 loop-less c = search needs
 
 loop-again : tie.Need-loop-again Inv-loop μ-loop
-loop-again c = omega (
-  arith,
-  count-turn (c .before .before .before .args .t1) (c .before .before .loop .phase) (c .before .before .before .args .phases) (c .before .loop-test .taken),
-  c .one-if-plan .ensures,
-)
+loop-again c =
+    omega (
+      arith,
+      count-turn (c .before .before .before .args .t1) (c .before .before .loop .phase) (c .before .before .before .args .phases) (c .before .loop-test .taken),
+      c .one-if-plan .ensures,
+    )
 
 returns : tie.Need-returns Inv-loop μ-loop
-returns c = let done = listed-end (c .before .before .args .t1) (c .before .loop .phase) (c .before .before .args .phases) (c .loop-test .left) in
+returns c =
+    let done = listed-end (c .before .before .args .t1) (c .before .loop .phase) (c .before .before .args .phases) (c .loop-test .left) in
     omega (arith, simp done at (c .before .loop .inv .0))
 
 pub count-entries-spec : {M : Type 1} → statement M

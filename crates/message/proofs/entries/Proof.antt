@@ -34,8 +34,10 @@ part-result-start : tie.Need-part-result-start
 part-result-start c = search needs
 
 part-result-end : tie.Need-part-result-end
-part-result-end c = let read-as = sym (c .before .before .before .before .read .ensures) ∙ ap (λ r. answered r (now (c .before .before .before .before .before .before .args .s))) (c .before .before .reading .given .1) in
-    omega (arith, simp entries-count at (read-fits (now (c .before .before .before .before .before .before .args .s)) _ read-as), c .wide .ensures .0)
+part-result-end c =
+    let b4 = c .before .before .before .before in
+    let read-as = sym (b4 .read .ensures) ∙ ap (λ r. answered r (now (b4 .before .before .args .s))) (c .before .before .reading .given .1) in
+    omega (arith, simp entries-count at (read-fits (now (b4 .before .before .args .s)) _ read-as), c .wide .ensures .0)
 
 enum-told : tie.Need-enum-told
 enum-told c = search needs
@@ -56,17 +58,25 @@ slice-aggregate-result-3 : tie.Need-slice-aggregate-result-3
 slice-aggregate-result-3 c = search needs
 
 returns : tie.Need-returns
-returns c = let read-as = sym (c .before .before .before .before .before .read .ensures) ∙ ap (λ r. answered r (now (c .before .before .before .before .before .before .before .args .s))) (c .before .before .before .reading .given .1) in
+returns c =
+    let b4 = c .before .before .before .before in
+    let read-as = sym (b4 .before .read .ensures) ∙ ap (λ r. answered r (now (b4 .before .before .before .args .s))) (c .before .before .before .reading .given .1) in
     simp (add-sub-cancel-left, read-as, entries-count, c .before .wide .ensures .0)
 
 returns-2 : tie.Need-returns-2
-returns-2 c = simp (sym (c .before .before .before .read .ensures) ∙ ap (λ r. answered r (now (c .before .before .before .before .before .args .s))) (c .before .enum-told .given .1))
+returns-2 c =
+    let b4 = c .before .before .before .before in
+    simp (sym (c .before .before .before .read .ensures) ∙ ap (λ r. answered r (now (b4 .before .args .s))) (c .before .enum-told .given .1))
 
 returns-3 : tie.Need-returns-3
-returns-3 c = simp (sym (c .before .before .before .read .ensures) ∙ ap (λ r. answered r (now (c .before .before .before .before .before .args .s))) (c .before .enum-told2 .given .1))
+returns-3 c =
+    let b4 = c .before .before .before .before in
+    simp (sym (c .before .before .before .read .ensures) ∙ ap (λ r. answered r (now (b4 .before .args .s))) (c .before .enum-told2 .given .1))
 
 returns-4 : tie.Need-returns-4
-returns-4 c = simp (sym (c .before .before .before .read .ensures) ∙ ap (λ r. answered r (now (c .before .before .before .before .before .args .s))) (c .before .enum-told3 .given .1))
+returns-4 c =
+    let b4 = c .before .before .before .before in
+    simp (sym (c .before .before .before .read .ensures) ∙ ap (λ r. answered r (now (b4 .before .args .s))) (c .before .enum-told3 .given .1))
 
 pub entries-spec : {M : Type 1} → statement M
 entries-spec =

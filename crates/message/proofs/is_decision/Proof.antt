@@ -21,7 +21,9 @@ shared-slice-read-result-2 : tie.Need-shared-slice-read-result-2
 shared-slice-read-result-2 c = search needs
 
 returns : tie.Need-returns
-returns c = simp (c .before .before .before .before .is-phase .ensures, c .before .before .is-plan .ensures, c .before .before .before .u16-at .ensures)
+returns c =
+    let b4 = c .before .before .before .before in
+    simp (b4 .is-phase .ensures, c .before .before .is-plan .ensures, c .before .before .before .u16-at .ensures)
 
 pub is-decision-spec : {M : Type 1} → statement M
 is-decision-spec =

@@ -35,8 +35,13 @@ array-read-put-entry : tie.Need-array-read-put-entry Inv-loop μ-loop
 array-read-put-entry c = search needs
 
 put-entry-requires : tie.Need-put-entry-requires Inv-loop μ-loop
-put-entry-requires c κs = let l = c .before .before .loop in
-    omega (arith, room-turn (c .before .before .before .before .args .t2) (l .phase) (c .before .before .before .before .args .phases) (l .place) (c .before .loop-test .taken) _ (l .inv .1))
+put-entry-requires c κs =
+    let b4 = c .before .before .before .before in
+    let l = c .before .before .loop in
+    omega (
+      arith,
+      room-turn (b4 .args .t2) (l .phase) (b4 .args .phases) (l .place) (c .before .loop-test .taken) _ (l .inv .1),
+    )
 
 add-phase : tie.Need-add-phase Inv-loop μ-loop
 add-phase c = search needs
@@ -45,13 +50,15 @@ loop-less : tie.Need-loop-less Inv-loop μ-loop
 loop-less c = search needs
 
 loop-again : tie.Need-loop-again Inv-loop μ-loop
-loop-again c = let l = c .before .before .before .before .before .loop in
+loop-again c =
+    let b4 = c .before .before .before .before in
+    let l = b4 .before .loop in
     let e = c .before .before .put-entry in
     let kept : length (e .last .0) ≡ length (l .buf) = e .kept .0 in
-    let room = room-turn (c .before .before .before .before .before .before .before .args .t2) (l .phase) (c .before .before .before .before .before .before .before .args .phases) (l .place) (c .before .before .before .before .loop-test .taken) (length (l .buf)) (l .inv .1) in (
+    let room = room-turn (b4 .before .before .before .args .t2) (l .phase) (b4 .before .before .before .args .phases) (l .place) (b4 .loop-test .taken) (length (l .buf)) (l .inv .1) in (
       kept ∙ l .inv .0,
       omega (arith, room, kept, e .ensures .0),
-      stores-turn (c .before .before .before .before .before .before .before .args .t2) (l .phase) (c .before .before .before .before .before .before .before .args .phases) (l .place) (c .before .before .before .before .loop-test .taken) (l .buf) _ _ _ (e .ensures .0)
+      stores-turn (b4 .before .before .before .args .t2) (l .phase) (b4 .before .before .before .args .phases) (l .place) (b4 .loop-test .taken) (l .buf) _ _ _ (e .ensures .0)
           (e .ensures .1) (l .inv .2),
       omega arith,
     )
@@ -61,7 +68,8 @@ same-length c = search needs
 
 returns : tie.Need-returns Inv-loop μ-loop
 unfolding entryBytes
-returns c = let done = listed-end (c .before .before .before .args .t2) (c .before .loop .phase) (c .before .before .before .args .phases) (c .loop-test .left) in
+returns c =
+    let done = listed-end (c .before .before .before .args .t2) (c .before .loop .phase) (c .before .before .before .args .phases) (c .loop-test .left) in
     rw done at (c .before .loop .inv .2)
 
 pub put-entries-spec : {M : Type 1} → statement M

@@ -13,14 +13,20 @@ is-plan-requires c κs = search needs
 
 slice-write-buf : tie.Need-slice-write-buf
 unfolding entryBytes
-slice-write-buf c = omega (arith, simp (sym (c .before .is-plan .ensures) ∙ c .if1 .taken) at (c .before .before .before .pre))
+slice-write-buf c =
+    omega (arith, simp (sym (c .before .is-plan .ensures) ∙ c .if1 .taken) at (c .before .before .before .pre))
 
 add-put16 : tie.Need-add-put16
 add-put16 c = search needs
 
 put16-requires : tie.Need-put16-requires
 unfolding entryBytes
-put16-requires c κs = simp length-set (omega (arith, simp (sym (c .before .before .is-plan .ensures) ∙ c .before .if1 .taken) at (c .before .before .before .before .pre)))
+put16-requires c κs =
+    let b4 = c .before .before .before .before in
+    simp length-set (omega (
+      arith,
+      simp (sym (c .before .before .is-plan .ensures) ∙ c .before .if1 .taken) at (b4 .pre),
+    ))
 
 add-result : tie.Need-add-result
 add-result c = search needs
@@ -30,7 +36,13 @@ same-length c = omega (arith, c .before .before .put16 .kept .0, simp length-set
 
 returns : tie.Need-returns
 unfolding entryBytes
-returns c = simp (sym (c .before .before .before .before .before .is-plan .ensures) ∙ c .before .before .before .before .if1 .taken, towards-suc, c .before .before .put16 .ensures) (search needs)
+returns c =
+    let b4 = c .before .before .before .before in
+    simp (
+      sym (b4 .before .is-plan .ensures) ∙ b4 .if1 .taken,
+      towards-suc,
+      c .before .before .put16 .ensures,
+    ) (search needs)
 
 returns-2 : tie.Need-returns-2
 unfolding entryBytes

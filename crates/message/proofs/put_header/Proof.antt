@@ -17,10 +17,21 @@ slice-write-buf : tie.Need-slice-write-buf
 slice-write-buf c = search needs
 
 same-length : tie.Need-same-length
-same-length c = simp length-set (omega (arith, c .before .before .put-run .kept .0, c .before .before .before .before .before .before .put162 .kept .0, c .before .before .before .before .before .before .before .before .before .before .put16 .kept .0))
+same-length c =
+    let b4 = c .before .before .before .before in
+    let b8 = b4 .before .before .before .before in
+    simp length-set (omega (
+      arith,
+      c .before .before .put-run .kept .0,
+      b4 .before .before .put162 .kept .0,
+      b8 .before .before .put16 .kept .0,
+    ))
 
 returns : tie.Need-returns
-returns c = simp (c .before .before .put-run .ensures, c .before .before .before .before .before .before .put162 .ensures, c .before .before .before .before .before .before .before .before .before .before .put16 .ensures)
+returns c =
+    let b4 = c .before .before .before .before in
+    let b8 = b4 .before .before .before .before in
+    simp (c .before .before .put-run .ensures, b4 .before .before .put162 .ensures, b8 .before .before .put16 .ensures)
 
 pub put-header-spec : {M : Type 1} → statement M
 put-header-spec =

@@ -10,7 +10,8 @@ is-framed-requires : tie.Need-is-framed-requires
 is-framed-requires c κs = search needs
 
 read-kind-requires : tie.Need-read-kind-requires
-read-kind-requires c κs = framed-long (now (c .before .before .before .args .s)) (sym (c .before .is-framed .ensures) ∙ c .if1 .taken)
+read-kind-requires c κs =
+    framed-long (now (c .before .before .before .args .s)) (sym (c .before .is-framed .ensures) ∙ c .if1 .taken)
 
 returns : tie.Need-returns
 unfolding readOf

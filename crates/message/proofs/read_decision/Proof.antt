@@ -25,13 +25,15 @@ shared-slice-read-t12 c = search needs
 
 returns : tie.Need-returns
 unfolding tested
-returns c = simp (
-  tested,
-  c .before .before .before .run-at .ensures,
-  c .before .u16-at2 .ensures,
-  eq-eqb _ _ (sym (c .before .before .before .before .before .before .before .u16-at .ensures) ∙ c .before .before .before .before .before .before .if1 .taken),
-  sym (c .before .before .before .before .before .is-decision .ensures) ∙ c .before .before .before .before .if2 .taken,
-)
+returns c =
+    let b4 = c .before .before .before .before in
+    simp (
+      tested,
+      c .before .before .before .run-at .ensures,
+      c .before .u16-at2 .ensures,
+      eq-eqb _ _ (sym (b4 .before .before .before .u16-at .ensures) ∙ b4 .before .before .if1 .taken),
+      sym (b4 .before .is-decision .ensures) ∙ b4 .if2 .taken,
+    )
 
 returns-2 : tie.Need-returns-2
 unfolding tested

@@ -16,7 +16,12 @@ u16-at-requires c κs = search needs
 
 returns : tie.Need-returns
 unfolding tested
-returns c = let short : c .before .u16-at .result ≢ 13 + 3 * getD (now (c .before .before .before .args .s)) 12 0 = (λ e. omega (arith, e, c .if1 .taken)) in
+returns c =
+    let short : c .before .u16-at .result ≢ 13 + 3 * getD (now (c .before .before .before .args .s)) 12 0 = (λ e. omega (
+      arith,
+      e,
+      c .if1 .taken,
+    )) in
     simp (tested, entries-count, ← c .before .u16-at .ensures, ne-eqb _ _ short)
 
 shared-slice-read-wide : tie.Need-shared-slice-read-wide
@@ -51,23 +56,28 @@ shared-slice-read-t20 c = search needs
 
 returns-2 : tie.Need-returns-2
 unfolding tested
-returns-2 c = simp (
-  tested,
-  entries-count,
-  c .before .before .before .before .run-at .ensures,
-  c .before .before .u16-at2 .ensures,
-  eq-eqb _ _ (sym (c .before .before .before .before .before .before .before .before .before .before .before .u16-at .ensures) ∙ c .before .before .before .before .before .before .before .if2 .taken ∙ ap (λ (k : ℕ). 13 + 3 * k) (c .before .before .before .before .before .before .before .before .wide .ensures .0)),
-  simp entries-count at (sym (c .before .before .before .before .before .before .is-selection .ensures) ∙ c .before .before .before .before .before .if3 .taken),
-)
+returns-2 c =
+    let b4 = c .before .before .before .before in
+    let b8 = b4 .before .before .before .before in
+    simp (
+      tested,
+      entries-count,
+      b4 .run-at .ensures,
+      c .before .before .u16-at2 .ensures,
+      eq-eqb _ _ (sym (b8 .before .before .before .u16-at .ensures) ∙ b4 .before .before .before .if2 .taken ∙ ap (λ (k : ℕ). 13 + 3 * k) (b8 .wide .ensures .0)),
+      simp entries-count at (sym (b4 .before .before .is-selection .ensures) ∙ b4 .before .if3 .taken),
+    )
 
 returns-3 : tie.Need-returns-3
 unfolding tested
-returns-3 c = simp (
-  tested,
-  entries-count,
-  eq-eqb _ _ (sym (c .before .before .before .before .before .before .u16-at .ensures) ∙ c .before .before .if2 .taken ∙ ap (λ (k : ℕ). 13 + 3 * k) (c .before .before .before .wide .ensures .0)),
-  simp entries-count at (sym (c .before .is-selection .ensures) ∙ c .if3 .left),
-)
+returns-3 c =
+    let b4 = c .before .before .before .before in
+    simp (
+      tested,
+      entries-count,
+      eq-eqb _ _ (sym (b4 .before .before .u16-at .ensures) ∙ c .before .before .if2 .taken ∙ ap (λ (k : ℕ). 13 + 3 * k) (c .before .before .before .wide .ensures .0)),
+      simp entries-count at (sym (c .before .is-selection .ensures) ∙ c .if3 .left),
+    )
 
 returns-4 : tie.Need-returns-4
 unfolding tested

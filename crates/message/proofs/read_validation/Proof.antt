@@ -22,13 +22,15 @@ u16-at-requires-2 c κs = search needs
 
 returns : tie.Need-returns
 unfolding tested
-returns c = simp (
-  tested,
-  c .before .before .run-at .ensures,
-  c .u16-at2 .ensures,
-  eq-eqb _ _ (sym (c .before .before .before .before .before .before .u16-at .ensures) ∙ c .before .before .before .before .before .if1 .taken),
-  sym (c .before .before .before .before .is-validation .ensures) ∙ c .before .before .before .if2 .taken,
-)
+returns c =
+    let b4 = c .before .before .before .before in
+    simp (
+      tested,
+      c .before .before .run-at .ensures,
+      c .u16-at2 .ensures,
+      eq-eqb _ _ (sym (b4 .before .before .u16-at .ensures) ∙ b4 .before .if1 .taken),
+      sym (b4 .is-validation .ensures) ∙ c .before .before .before .if2 .taken,
+    )
 
 returns-2 : tie.Need-returns-2
 unfolding tested

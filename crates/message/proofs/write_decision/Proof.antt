@@ -18,9 +18,14 @@ cast-if2 : tie.Need-cast-if2
 cast-if2 c = search needs
 
 returns : tie.Need-returns
-returns c = let a = c .before .before .before .before .before .args in
+returns c =
+    let b4 = c .before .before .before .before in
+    let a = b4 .before .args in
     too-short (decisionOf (a .run) (a .phase) (a .vote) (a .stamp)) (now (a .buf))
-    (simp (c .before .before .before .is-phase .ensures, c .before .before .is-plan .ensures) at (c .before .if1 .taken)) (c .if2 .taken)
+    (simp (
+      c .before .before .before .is-phase .ensures,
+      c .before .before .is-plan .ensures,
+    ) at (c .before .if1 .taken)) (c .if2 .taken)
 
 put-header-requires : tie.Need-put-header-requires
 put-header-requires c κs = search needs
@@ -35,14 +40,23 @@ cast-t11 : tie.Need-cast-t11
 cast-t11 c = search needs
 
 same-length : tie.Need-same-length
-same-length c = simp length-set (omega (arith, c .before .before .put16 .kept .0, c .before .before .before .before .before .before .put-header .kept .0))
+same-length c =
+    let b4 = c .before .before .before .before in
+    simp length-set (omega (arith, c .before .before .put16 .kept .0, b4 .before .before .put-header .kept .0))
 
 returns-2 : tie.Need-returns-2
 unfolding encode
-returns-2 c = let a = c .before .before .before .before .before .before .before .before .before .before .before .before .before .args in
-    simp (c .before .before .put16 .ensures, c .before .before .before .before .before .before .put-header .ensures)
+returns-2 c =
+    let b4 = c .before .before .before .before in
+    let b8 = b4 .before .before .before .before in
+    let b12 = b8 .before .before .before .before in
+    let a = b12 .before .args in
+    simp (c .before .before .put16 .ensures, b4 .before .before .put-header .ensures)
     (written (decisionOf (a .run) (a .phase) (a .vote) (a .stamp)) (now (a .buf))
-    (simp (c .before .before .before .before .before .before .before .before .before .before .before .is-phase .ensures, c .before .before .before .before .before .before .before .before .before .before .is-plan .ensures) at (c .before .before .before .before .before .before .before .before .before .if1 .taken)) (c .before .before .before .before .before .before .before .before .if2 .left))
+    (simp (
+      b8 .before .before .before .is-phase .ensures,
+      b8 .before .before .is-plan .ensures,
+    ) at (b8 .before .if1 .taken)) (b8 .if2 .left))
 
 returns-3 : tie.Need-returns-3
 returns-3 c = let a = c .before .before .before .before .args in

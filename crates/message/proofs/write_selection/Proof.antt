@@ -33,8 +33,13 @@ add-size : tie.Need-add-size
 add-size c = search needs
 
 returns : tie.Need-returns
-returns c = let a = c .before .before .before .before .before .before .args in
-    let allowed = simp (c .before .before .before .before .is-phase .ensures, c .before .before .before .is-plan .ensures) at (c .before .before .if1 .taken) in
+returns c =
+    let b4 = c .before .before .before .before in
+    let a = b4 .before .before .args in
+    let allowed = simp (
+      b4 .is-phase .ensures,
+      c .before .before .before .is-plan .ensures,
+    ) at (c .before .before .if1 .taken) in
     selection-too-short (a .run) (a .phase) (a .vote) (a .stamp) (a .history) (a .phases) (now (a .buf)) allowed
     (omega (arith, c .before .count-entries .ensures .0, c .if2 .taken))
 
@@ -54,29 +59,73 @@ cast-buf : tie.Need-cast-buf
 cast-buf c = search needs
 
 slice-write-buf-2 : tie.Need-slice-write-buf-2
-slice-write-buf-2 c = simp length-set (omega (arith, c .before .before .put16 .kept .0, c .before .before .before .before .before .before .put-header .kept .0, c .before .before .before .before .before .before .before .before .if2 .left))
+slice-write-buf-2 c =
+    let b4 = c .before .before .before .before in
+    let b8 = b4 .before .before .before .before in
+    simp length-set (omega (
+      arith,
+      c .before .before .put16 .kept .0,
+      b4 .before .before .put-header .kept .0,
+      b8 .if2 .left,
+    ))
 
 put-entries-requires : tie.Need-put-entries-requires
-put-entries-requires c κs = let a = c .before .before .before .before .before .before .before .before .before .before .before .before .before .before .before .args in
-    let allowed = simp (c .before .before .before .before .before .before .before .before .before .before .before .before .before .is-phase .ensures, c .before .before .before .before .before .before .before .before .before .before .before .before .is-plan .ensures) at (c .before .before .before .before .before .before .before .before .before .before .before .if1 .taken) in
+put-entries-requires c κs =
+    let b4 = c .before .before .before .before in
+    let b8 = b4 .before .before .before .before in
+    let b12 = b8 .before .before .before .before in
+    let a = b12 .before .before .before .args in
+    let allowed = simp (
+      b12 .before .is-phase .ensures,
+      b12 .is-plan .ensures,
+    ) at (b8 .before .before .before .if1 .taken) in
     let few = allowed-within (a .run) (a .phase) (a .vote) (a .stamp) (a .history) (a .phases) allowed .2 in
     let long = entry-bytes-length (listed (a .history) 0 (a .phases)) in
     simp length-set
-    (omega (arith, few, long, c .before .before .before .put16 .kept .0, c .before .before .before .before .before .before .before .put-header .kept .0, c .before .before .before .before .before .before .before .before .before .if2 .left, c .before .before .before .before .before .before .before .before .before .before .count-entries .ensures .0))
+    (omega (
+      arith,
+      few,
+      long,
+      c .before .before .before .put16 .kept .0,
+      b4 .before .before .before .put-header .kept .0,
+      b8 .before .if2 .left,
+      b8 .before .before .count-entries .ensures .0,
+    ))
 
 same-length : tie.Need-same-length
-same-length c = omega (arith, simp length-set at (c .before .before .put-entries .kept .0), c .before .before .before .before .before .before .put16 .kept .0, c .before .before .before .before .before .before .before .before .before .before .put-header .kept .0)
+same-length c =
+    let b4 = c .before .before .before .before in
+    let b8 = b4 .before .before .before .before in
+    omega (
+      arith,
+      simp length-set at (c .before .before .put-entries .kept .0),
+      b4 .before .before .put16 .kept .0,
+      b8 .before .before .put-header .kept .0,
+    )
 
 returns-2 : tie.Need-returns-2
 unfolding encode
-returns-2 c = let a = c .before .before .before .before .before .before .before .before .before .before .before .before .before .before .before .before .before .before .args in
-    let allowed = simp (c .before .before .before .before .before .before .before .before .before .before .before .before .before .before .before .before .is-phase .ensures, c .before .before .before .before .before .before .before .before .before .before .before .before .before .before .before .is-plan .ensures) at (c .before .before .before .before .before .before .before .before .before .before .before .before .before .before .if1 .taken) in
-    let count = c .before .before .before .before .before .before .before .before .before .before .before .before .before .count-entries .ensures .0 in
+returns-2 c =
+    let b4 = c .before .before .before .before in
+    let b8 = b4 .before .before .before .before in
+    let b12 = b8 .before .before .before .before in
+    let b16 = b12 .before .before .before .before in
+    let a = b16 .before .before .args in
+    let allowed = simp (
+      b16 .is-phase .ensures,
+      b12 .before .before .before .is-plan .ensures,
+    ) at (b12 .before .before .if1 .taken) in
+    let count = b12 .before .count-entries .ensures .0 in
     let done =
     selection-written (a .run) (a .phase) (a .vote) (a .stamp) (a .history) (a .phases) (now (a .buf)) allowed
-    (omega (arith, count, c .before .before .before .before .before .before .before .before .before .before .before .before .if2 .left)) in (
+    (omega (arith, count, b12 .if2 .left)) in (
       ap (λ (k : ℕ). accepted (13 + 3 * k)) count ∙ done .0,
-      simp (c .before .before .put-entries .ensures, c .before .before .before .before .before .before .put16 .ensures, c .before .before .before .before .before .before .before .before .before .before .put-header .ensures, count) (done .1),
+      simp (
+        c .before .before .put-entries .ensures,
+        b4 .before .before .put16 .ensures,
+        b8 .before .before .put-header .ensures,
+        count,
+      ) (done .1),
     )
 
 returns-3 : tie.Need-returns-3

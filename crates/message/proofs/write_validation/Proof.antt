@@ -16,9 +16,14 @@ cast-if2 : tie.Need-cast-if2
 cast-if2 c = search needs
 
 returns : tie.Need-returns
-returns c = let a = c .before .before .before .before .before .args in
+returns c =
+    let b4 = c .before .before .before .before in
+    let a = b4 .before .args in
     too-short (validationOf (a .run) (a .phase) (a .plan)) (now (a .buf))
-    (simp (c .before .before .before .is-phase .ensures, c .before .before .is-plan .ensures) at (c .before .if1 .taken)) (c .if2 .taken)
+    (simp (
+      c .before .before .before .is-phase .ensures,
+      c .before .before .is-plan .ensures,
+    ) at (c .before .if1 .taken)) (c .if2 .taken)
 
 put-header-requires : tie.Need-put-header-requires
 put-header-requires c κs = search needs
@@ -34,10 +39,17 @@ same-length c = search needs
 
 returns-2 : tie.Need-returns-2
 unfolding encode
-returns-2 c = let a = c .before .before .before .before .before .before .before .before .before .before .before .before .before .args in
-    simp (c .before .before .put16 .ensures, c .before .before .before .before .before .before .put-header .ensures)
+returns-2 c =
+    let b4 = c .before .before .before .before in
+    let b8 = b4 .before .before .before .before in
+    let b12 = b8 .before .before .before .before in
+    let a = b12 .before .args in
+    simp (c .before .before .put16 .ensures, b4 .before .before .put-header .ensures)
     (written (validationOf (a .run) (a .phase) (a .plan)) (now (a .buf))
-    (simp (c .before .before .before .before .before .before .before .before .before .before .before .is-phase .ensures, c .before .before .before .before .before .before .before .before .before .before .is-plan .ensures) at (c .before .before .before .before .before .before .before .before .before .if1 .taken)) (c .before .before .before .before .before .before .before .before .if2 .left))
+    (simp (
+      b8 .before .before .before .is-phase .ensures,
+      b8 .before .before .is-plan .ensures,
+    ) at (b8 .before .if1 .taken)) (b8 .if2 .left))
 
 returns-3 : tie.Need-returns-3
 returns-3 c = let a = c .before .before .before .before .args in

@@ -1,0 +1,1 @@
+// Reading and writing undo each other: theorems on the definitions of crate message, no code.
