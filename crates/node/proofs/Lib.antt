@@ -1,2 +1,4 @@
 pub mod Histories
 pub mod StartLaws
+pub mod Facts
+pub mod ComingLaws

@@ -2,8 +2,12 @@
 // Each operation is what a definition says: specs/Starting.antt, specs/Soundness.antt and specs/Sending.antt.
 use crew::Acceptance;
 use crew::Crew;
+use message::Writing;
 ghost use mathlib.Core.Path.{_≡_};
-ghost use Rattle.wire.specs.Outcome.{verdict, valueOr};
+ghost use mathlib.Core.Bool.{true};
+ghost use Prim.Native.Nat.{_<_};
+ghost use Rattle.wire.specs.Outcome.{refused, verdict, valueOr};
+ghost use Rattle.message.specs.Writing.{answered as writtenAs};
 ghost use Rattle.node.specs.Record.{blank, begun};
 ghost use Rattle.node.specs.Soundness.{
   crewAccepted,
@@ -16,6 +20,7 @@ ghost use Rattle.node.specs.Soundness.{
   sound,
 };
 ghost use Rattle.node.specs.Starting.{startOf, answered as startedAs};
+ghost use Rattle.node.specs.Sending.{listedPhases, writeOf, bufferOf, answered as sentAs};
 
 // 01's node record. Any values may stand in it: `is_sound` says whether they are those of a node.
 pub struct Node {
@@ -58,6 +63,26 @@ pub enum Starting {
 // blank, all 0, and not sound.
 pub struct Started {
     pub answer: Starting,
+    pub node: Node,
+}
+
+// Why the coming message is not written; `number` in specs/Sending.antt has 01's numbers.
+pub enum SendRefusal {
+    Unsound,
+    Spent,
+    // The buffer is shorter than the message.
+    Short,
+}
+
+// What writing the coming message answers: its length, which is 0 where the node is silent, or a refusal.
+pub enum Sending {
+    Bytes(usize),
+    Refused(SendRefusal),
+}
+
+// The record comes back as it was handed in.
+pub struct Sent {
+    pub answer: Sending,
     pub node: Node,
 }
 
@@ -122,6 +147,18 @@ fn is_accepted(crew: Crew) -> bool
     match crew::accept(crew) {
         Acceptance::Accepted => true,
         Acceptance::Refused(_) => false,
+    }
+}
+
+// A writer's answer as the node's. What a sound record says is within a message's bounds, so a writer can only find the
+// buffer too short.
+fn to_sending(writing: Writing) -> Sending
+    requires { ⌜ (writtenAs writing ≡ refused 13 → ⊥) ⌝ }
+    ensures { λ r. ⌜ sentAs r ≡ writtenAs writing ⌝ }
+{
+    match writing {
+        Writing::Bytes(size) => Sending::Bytes(size),
+        Writing::Refused(_) => Sending::Refused(SendRefusal::Short),
     }
 }
 
@@ -231,5 +268,60 @@ impl Node {
             & self.has_plans()
             & self.is_stamped()
             & self.is_empty_ahead()
+    }
+
+    // How many phases of its history the node lists in a selection.
+    fn listed_phases(self) -> u8
+        ensures { λ r. ⌜ r ≡ listedPhases self ⌝ }
+    {
+        if self.crew.class == Node::LISTING {
+            return self.phase;
+        }
+        0
+    }
+
+    // Writes the message of the coming round. Silence is a length of 0, for which any buffer is long enough.
+    fn write_coming(self, buf: &mut [u8]) -> Writing
+        requires { ⌜ (sound self ≡ true) × (self .phase < 64) ⌝ }
+        ensures { λ r. ⌜ (writtenAs r ≡ writeOf self (now (buf .entry)))
+            × (now (buf .exit) ≡ bufferOf self (now (buf .entry))) ⌝ }
+    {
+        if self.round == Node::SELECTION {
+            let history = self.history;
+            let phases = self.listed_phases();
+            return message::write_selection(buf, self.run, self.phase, self.vote, self.stamp, history, phases);
+        }
+        if self.round == Node::VALIDATION {
+            if Node::NO_PLAN < self.select {
+                return message::write_validation(buf, self.run, self.phase, self.select);
+            }
+            return Writing::Bytes(0);
+        }
+        message::write_decision(buf, self.run, self.phase, self.vote, self.stamp)
+    }
+
+    // Writes the coming message to the front of a lent buffer, or says why not; the record comes back unchanged.
+    pub fn write(self, buf: &mut [u8]) -> Sent
+        ensures { λ r. ⌜ (sentAs (r .answer) ≡ writeOf self (now (buf .entry)))
+            × (r .node ≡ self)
+            × (now (buf .exit) ≡ bufferOf self (now (buf .entry))) ⌝ }
+    {
+        if self.is_sound() {
+            if self.phase < Node::SPENT {
+                let writing = self.write_coming(buf);
+                return Sent {
+                    answer: to_sending(writing),
+                    node: self,
+                };
+            }
+            return Sent {
+                answer: Sending::Refused(SendRefusal::Spent),
+                node: self,
+            };
+        }
+        Sent {
+            answer: Sending::Refused(SendRefusal::Unsound),
+            node: self,
+        }
     }
 }
