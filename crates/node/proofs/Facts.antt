@@ -3,12 +3,12 @@
 use mathlib.Core.Path.{_≡_, refl, ap}
 use mathlib.Core.Bool.{Bool, true, false, not, _&&_, _||_, or-true}
 use mathlib.Core.Logic.{_⊎_, inl, inr, _≢_}
-use Prim.Native.Nat.{ℕ, _+_, _-_, _^_, _≤_, _<_}
+use Prim.Native.Nat.{ℕ, _-_, _^_, _≤_, _<_}
 use native.Mathlib.Omega.{arith}
 use native.Mathlib.Decide.{ℕ-discrete, decLt}
 use lib.ListN.{length, getD}
 use lib.Dec.{leb, ltb, eqb}
-use borrow.Author.Tests.{ltb-true, leb-true, eqb-true, eqb-false, not-true, lt-ltb, le-ltb, le-leb, eq-eqb, ne-eqb}
+use borrow.Author.Tests.{ltb-true, leb-true, eqb-true, eqb-false, not-true, lt-ltb, le-leb, eq-eqb, ne-eqb}
 use Rattle.wire.specs.Outcome.{Outcome, accepted, refused}
 use Rattle.wire.proofs.Tests.{both-true}
 use Rattle.crew.specs.Acceptance.{acceptOf}
@@ -161,3 +161,7 @@ facts-sound d s =
     let class = stamp-class (d .crew .class) (d .stamp) (s .unstamped) in
     let rest = empty-is (d .history) (firstUnselected d) (64 - firstUnselected d) (λ phase a b. s .empty phase a (omega arith)) in
     all-true _ _ _ _ _ _ (ap isAccepted (s .crew)) (lt-ltb _ _ (s .own)) place (rw (vote, base, initial)) (rw (stamp, class)) rest
+
+-- a sound record's round is 1, 2 or 3
+pub last-round : {d : Node} → Sound d → d .round ≢ 1 → d .round ≢ 2 → d .round ≡ 3
+last-round s first second = omega (arith, s .round-from, s .round-to)

@@ -1,4 +1,6 @@
 pub mod Histories
-pub mod StartLaws
 pub mod Facts
-pub mod ComingLaws
+pub mod StartLaws
+pub mod Coming
+pub mod SendLaws
+pub mod ReadBack

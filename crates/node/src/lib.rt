@@ -11,7 +11,6 @@ ghost use Rattle.message.specs.Writing.{answered as writtenAs};
 ghost use Rattle.node.specs.Record.{blank, begun};
 ghost use Rattle.node.specs.Soundness.{
   crewAccepted,
-  ownKnown,
   placeKnown,
   plansKnown,
   stampKnown,

@@ -1,5 +1,5 @@
 use mathlib.Core.Path.{sym, ap, _∙_}
-use Rattle.node.proofs.ComingLaws.{only-short}
+use Rattle.node.proofs.SendLaws.{only-short}
 use Rattle.message.specs.Writing.{answered}
 use mathlib.Core.Path.{sym, ap}
 use borrow.Author.Needs.{needs}

@@ -1,7 +1,6 @@
 use Rattle.node.proofs.Histories.{empty-more, empty-stop, empty-end}
 use mathlib.Core.Path.{_≡_, refl, sym, ap, _∙_}
 use Rattle.node.specs.Soundness.{emptyFrom}
-use borrow.Author.Tests.{eq-eqb, ne-eqb}
 use Prim.Native.Nat.{_-_}
 use borrow.Author.Needs.{needs}
 use Rattle.node.proofs.Node.is_empty_ahead.Statement.{statement}

@@ -1,4 +1,4 @@
-use Rattle.node.proofs.ComingLaws.{unsound-refused, spent-refused, never-out-of-bounds}
+use Rattle.node.proofs.SendLaws.{unsound-refused, spent-refused, never-out-of-bounds}
 use denote.Ref.{now}
 use mathlib.Core.Path.{refl, sym, _∙_}
 use borrow.Author.Needs.{needs}

@@ -1,8 +1,8 @@
-use Rattle.node.proofs.ComingLaws.{selects, validates, decides, message-written, selection-written, silence-written}
-use Rattle.node.proofs.Facts.{sound-facts}
+use Rattle.node.proofs.Coming.{validates, decides}
+use Rattle.node.proofs.SendLaws.{message-written, selection-written, silence-written}
+use Rattle.node.proofs.Facts.{sound-facts, last-round}
 use native.Mathlib.Omega.{arith}
 use denote.Ref.{now}
-use mathlib.Core.Path.{_∙_}
 use borrow.Author.Needs.{needs}
 use Rattle.node.proofs.Node.write_coming.Statement.{statement}
 use Rattle.node.proofs.Node.write_coming.Tie as tie
@@ -27,11 +27,9 @@ same-length c = search needs
 
 -- src/lib.rt:292:13
 returns : tie.Need-returns
-returns c = let law = selection-written (c .before .before .before .before .before .before .before .before .before .args .self) (now (c .before .before .before .before .before .before .before .before .before .args .buf)) (c .before .before .before .before .before .before .before .before .before .pre .0) (c .before .before .before .before .before .before .before .before .before .pre .1) (c .before .before .before .before .before .before .if1 .taken) in
-    let e = c .before .before .before .before .listed-phases .ensures in
-    let wrote = rw e at (c .before .before .write-selection .ensures .0) in
-    let left = rw e at (c .before .before .write-selection .ensures .1) in
-    (wrote ∙ law .0, left ∙ law .1)
+returns c = let p = c .before .before .before .before .before .before .before .before .before .pre in
+    selection-written (c .before .before .before .before .before .before .before .before .before .args .self) (now (c .before .before .before .before .before .before .before .before .before .args .buf)) (p .0) (p .1) (c .before .before .before .before .before .before .if1 .taken) (c .before .before .before .before .listed-phases .ensures)
+    (c .before .before .write-selection .ensures)
 
 -- src/lib.rt:296:17
 write-validation-requires : tie.Need-write-validation-requires
@@ -43,8 +41,9 @@ same-length-2 c = search needs
 
 -- src/lib.rt:296:17
 returns-2 : tie.Need-returns-2
-returns-2 c = let law = message-written (c .before .before .before .before .before .before .before .before .before .before .before .args .self) (now (c .before .before .before .before .before .before .before .before .before .before .before .args .buf)) (c .before .before .before .before .before .before .before .before .before .before .before .pre .0) (c .before .before .before .before .before .before .before .before .before .before .before .pre .1) _ (validates (c .before .before .before .before .before .before .if2 .taken) (c .before .before .before .before .if3 .taken)) in
-    (c .before .before .write-validation .ensures .0 ∙ law .0, c .before .before .write-validation .ensures .1 ∙ law .1)
+returns-2 c = let p = c .before .before .before .before .before .before .before .before .before .before .before .pre in
+    message-written (c .before .before .before .before .before .before .before .before .before .before .before .args .self) (now (c .before .before .before .before .before .before .before .before .before .before .before .args .buf)) (p .0) (p .1) (validates (c .before .before .before .before .before .before .if2 .taken) (c .before .before .before .before .if3 .taken))
+    (c .before .before .write-validation .ensures)
 
 -- src/lib.rt:298:13
 returns-3 : tie.Need-returns-3
@@ -60,9 +59,10 @@ same-length-3 c = search needs
 
 -- src/lib.rt:284:5
 returns-4 : tie.Need-returns-4
-returns-4 c = let s = sound-facts (c .before .before .before .before .before .before .before .before .before .args .self) (c .before .before .before .before .before .before .before .before .before .pre .0) in
-    let law = message-written (c .before .before .before .before .before .before .before .before .before .args .self) (now (c .before .before .before .before .before .before .before .before .before .args .buf)) (c .before .before .before .before .before .before .before .before .before .pre .0) (c .before .before .before .before .before .before .before .before .before .pre .1) _ (decides (omega (arith, s .round-from, s .round-to, c .before .before .before .before .before .before .if1 .left, c .before .before .before .before .if2 .left))) in
-    (c .before .before .write-decision .ensures .0 ∙ law .0, c .before .before .write-decision .ensures .1 ∙ law .1)
+returns-4 c = let p = c .before .before .before .before .before .before .before .before .before .pre in
+    let s = sound-facts (c .before .before .before .before .before .before .before .before .before .args .self) (p .0) in
+    message-written (c .before .before .before .before .before .before .before .before .before .args .self) (now (c .before .before .before .before .before .before .before .before .before .args .buf)) (p .0) (p .1) (decides (last-round s (c .before .before .before .before .before .before .if1 .left) (c .before .before .before .before .if2 .left)))
+    (c .before .before .write-decision .ensures)
 
 pub write-coming-spec : {M : Type 1} → statement M
 write-coming-spec =
