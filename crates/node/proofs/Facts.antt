@@ -1,0 +1,167 @@
+-- Soundness as facts, both ways, and what the types of a record's fields say: what later crates take a record apart with.
+-- Assumes nothing.
+use mathlib.Core.Path.{_≡_, refl, ap}
+use mathlib.Core.Bool.{Bool, true, false, not, _&&_, _||_, or-true}
+use mathlib.Core.Logic.{_⊎_, inl, inr, _≢_}
+use Prim.Native.Nat.{ℕ, _-_, _^_, _≤_, _<_}
+use native.Mathlib.Omega.{arith}
+use native.Mathlib.Decide.{ℕ-discrete, decLt}
+use lib.ListN.{length, getD}
+use lib.Dec.{leb, ltb, eqb}
+use borrow.Author.Tests.{ltb-true, leb-true, eqb-true, eqb-false, not-true, lt-ltb, le-leb, eq-eqb, ne-eqb}
+use Rattle.wire.specs.Outcome.{Outcome, accepted, refused}
+use Rattle.wire.proofs.Tests.{both-true}
+use Rattle.crew.specs.Acceptance.{acceptOf}
+use Rattle.node.specs.declared.Node.{Node}
+use Rattle.node.specs.Soundness.{
+  isAccepted,
+  crewAccepted,
+  ownKnown,
+  placeKnown,
+  plansKnown,
+  stampKnown,
+  firstUnselected,
+  restEmpty,
+  sound,
+}
+use Rattle.node.proofs.Histories.{empty-is, is-empty}
+
+-- 01's sentence on soundness, as facts
+pub record Sound (d : Node) : Type 0 where
+  pub crew : acceptOf (d .crew) ≡ accepted tt
+  pub own : d .own < d .crew .n
+  pub phase-from : 1 ≤ d .phase
+  pub phase-to : d .phase ≤ 64
+  pub round-from : 1 ≤ d .round
+  pub round-to : d .round ≤ 3
+  pub unvalidated : d .crew .class ≡ 1 → d .round ≢ 2
+  pub unspent : 2 ≤ d .round → d .phase ≤ 63
+  pub vote : 1 ≤ d .vote
+  pub base : 1 ≤ d .base
+  pub initial : 1 ≤ getD (d .history) 0 0
+  pub stamp : d .stamp ≤ d .phase
+  pub stamp-before : d .round ≤ 2 → d .stamp < d .phase
+  pub unstamped : d .crew .class ≡ 1 → d .stamp ≡ 0
+  pub empty : (phase : ℕ) → firstUnselected d ≤ phase → phase < 64 → getD (d .history) phase 0 ≡ 0
+
+-- what the types of the fields say: a run has four bytes, a plan two, a history 64 entries
+pub record Typed (d : Node) : Type 0 where
+  pub run : d .run < 256 ^ 4
+  pub vote : d .vote < 256 ^ 2
+  pub base : d .base < 256 ^ 2
+  pub select : d .select < 256 ^ 2
+  pub result : d .result < 256 ^ 2
+  pub entries : (phase : ℕ) → getD (d .history) phase 0 < 256 ^ 2
+  pub long : length (d .history) ≡ 64
+
+accepted-is : (outcome : Outcome (Unit {0})) → isAccepted outcome ≡ true → outcome ≡ accepted tt
+accepted-is (accepted value) e = refl
+accepted-is (refused number) e = absurd (let z : _≡_ {A = ℕ} 0 1 = cc in omega arith)
+
+either-true : (a b : Bool) → (a || b) ≡ true → (a ≡ true) ⊎ (b ≡ true)
+either-true true b e = inl refl
+either-true false b e = inr e
+
+all-six : (a b c d e f : Bool) → (a && b && c && d && e && f) ≡ true
+    → (a ≡ true) × (b ≡ true) × (c ≡ true) × (d ≡ true) × (e ≡ true) × (f ≡ true)
+all-six a b c d e f h =
+    let h₅ = both-true (a && b && c && d && e) f h in
+    let h₄ = both-true (a && b && c && d) e (h₅ .0) in
+    let h₃ = both-true (a && b && c) d (h₄ .0) in
+    let h₂ = both-true (a && b) c (h₃ .0) in
+    let h₁ = both-true a b (h₂ .0) in
+    (h₁ .0, h₁ .1, h₂ .1, h₃ .1, h₄ .1, h₅ .1)
+
+no-validation : (class round : ℕ) → not (eqb class 1 && eqb round 2) ≡ true → class ≡ 1 → round ≢ 2
+no-validation class round e one two =
+    let z : _≡_ {A = Bool} false true = simp (eq-eqb class 1 one, eq-eqb round 2 two) at e in
+    let y : _≡_ {A = ℕ} 0 1 = cc in
+    omega arith
+
+pub sound-facts : (d : Node) → sound d ≡ true → Sound d
+unfolding sound
+sound-facts d e =
+    let s = all-six (crewAccepted (d .crew)) (ownKnown d) (placeKnown d) (plansKnown d) (stampKnown d) (restEmpty d) e in
+    let place = all-six (leb 1 (d .phase)) (leb (d .phase) 64) (leb 1 (d .round)) (leb (d .round) 3) _ _ (s .2) in
+    let plans = both-true (leb 1 (d .vote) && leb 1 (d .base)) _ (s .3) in
+    let votes = both-true (leb 1 (d .vote)) (leb 1 (d .base)) (plans .0) in
+    let stamps = both-true (ltb (d .stamp) (d .phase) || (eqb (d .stamp) (d .phase) && eqb (d .round) 3)) _ (s .4) in
+    record {
+      crew = accepted-is (acceptOf (d .crew)) (s .0);
+      own = ltb-true _ _ (s .1);
+      phase-from = leb-true _ _ (place .0);
+      phase-to = leb-true _ _ (place .1);
+      round-from = leb-true _ _ (place .2);
+      round-to = leb-true _ _ (place .3);
+      unvalidated = no-validation (d .crew .class) (d .round) (place .4);
+      unspent = λ late. elim (either-true (eqb (d .round) 1) (leb (d .phase) 63) (place .5)) [
+        | inl one ↦ absurd (omega (arith, eqb-true (d .round) 1 one))
+        | inr last ↦ leb-true _ _ last
+      ];
+      vote = leb-true _ _ (votes .0);
+      base = leb-true _ _ (votes .1);
+      initial = leb-true _ _ (plans .1);
+      stamp = elim (either-true (ltb (d .stamp) (d .phase)) _ (stamps .0)) [
+        | inl below ↦ omega (arith, ltb-true (d .stamp) (d .phase) below)
+        | inr same ↦ omega (arith, eqb-true (d .stamp) (d .phase) (both-true _ (eqb (d .round) 3) same .0))
+      ];
+      stamp-before = λ early. elim (either-true (ltb (d .stamp) (d .phase)) _ (stamps .0)) [
+        | inl below ↦ ltb-true _ _ below
+        | inr same ↦ absurd (omega (arith, eqb-true (d .round) 3 (both-true (eqb (d .stamp) (d .phase)) _ same .1)))
+      ];
+      unstamped = λ one. elim (either-true (not (eqb (d .crew .class) 1)) (eqb (d .stamp) 0) (stamps .1)) [
+        | inl other ↦ absurd (eqb-false _ _ (not-true _ other) one)
+        | inr zero ↦ eqb-true _ _ zero
+      ];
+      empty = λ phase a b. is-empty (d .history) (firstUnselected d) (64 - firstUnselected d) (s .5) phase a (omega arith);
+    }
+
+all-true : (a b c d e f : Bool) → a ≡ true → b ≡ true → c ≡ true → d ≡ true → e ≡ true → f ≡ true
+    → (a && b && c && d && e && f) ≡ true
+all-true a b c d e f ha hb hc hd he hf = rw (ha, hb, hc, hd, he, hf)
+
+validation-allowed : (class round : ℕ) → (class ≡ 1 → round ≢ 2) → not (eqb class 1 && eqb round 2) ≡ true
+validation-allowed class round h = elim (ℕ-discrete class 1) [
+  | yes one ↦ simp (eq-eqb class 1 one, ne-eqb round 2 (h one))
+  | no other ↦ simp (ne-eqb class 1 other)
+]
+
+round-left : (round phase : ℕ) → 1 ≤ round → (2 ≤ round → phase ≤ 63) → (eqb round 1 || leb phase 63) ≡ true
+round-left round phase from h = elim (ℕ-discrete round 1) [
+  | yes one ↦ simp (eq-eqb round 1 one)
+  | no late ↦ simp (le-leb phase 63 (h (omega arith)), or-true)
+]
+
+stamp-place : (stamp phase round : ℕ) → round ≤ 3 → stamp ≤ phase → (round ≤ 2 → stamp < phase)
+    → (ltb stamp phase || (eqb stamp phase && eqb round 3)) ≡ true
+stamp-place stamp phase round to most h = elim (decLt stamp phase) [
+  | yes below ↦ simp (lt-ltb stamp phase below)
+  | no same ↦ elim (decLt round 3) [
+    | yes early ↦ absurd (omega (arith, h (omega arith)))
+    | no last ↦ simp (eq-eqb stamp phase (omega arith), eq-eqb round 3 (omega arith), or-true)
+  ]
+]
+
+stamp-class : (class stamp : ℕ) → (class ≡ 1 → stamp ≡ 0) → (not (eqb class 1) || eqb stamp 0) ≡ true
+stamp-class class stamp h = elim (ℕ-discrete class 1) [
+  | yes one ↦ simp (eq-eqb stamp 0 (h one), or-true)
+  | no other ↦ simp (ne-eqb class 1 other)
+]
+
+pub facts-sound : (d : Node) → Sound d → sound d ≡ true
+unfolding sound
+facts-sound d s =
+    let place = all-true _ _ _ _ _ _ (le-leb _ _ (s .phase-from)) (le-leb _ _ (s .phase-to)) (le-leb _ _ (s .round-from))
+        (le-leb _ _ (s .round-to)) (validation-allowed (d .crew .class) (d .round) (s .unvalidated))
+        (round-left (d .round) (d .phase) (s .round-from) (s .unspent)) in
+    let vote = le-leb _ _ (s .vote) in
+    let base = le-leb _ _ (s .base) in
+    let initial = le-leb _ _ (s .initial) in
+    let stamp = stamp-place (d .stamp) (d .phase) (d .round) (s .round-to) (s .stamp) (s .stamp-before) in
+    let class = stamp-class (d .crew .class) (d .stamp) (s .unstamped) in
+    let rest = empty-is (d .history) (firstUnselected d) (64 - firstUnselected d) (λ phase a b. s .empty phase a (omega arith)) in
+    all-true _ _ _ _ _ _ (ap isAccepted (s .crew)) (lt-ltb _ _ (s .own)) place (rw (vote, base, initial)) (rw (stamp, class)) rest
+
+-- a sound record's round is 1, 2 or 3
+pub last-round : {d : Node} → Sound d → d .round ≢ 1 → d .round ≢ 2 → d .round ≡ 3
+last-round s first second = omega (arith, s .round-from, s .round-to)

@@ -1,0 +1,58 @@
+-- The empty entries of a history: a turn of the loop over them, and the test as a fact and back.
+-- Assumes nothing.
+use mathlib.Core.Path.{_≡_, refl, ap, _∙_}
+use mathlib.Core.Bool.{true, false, _&&_}
+use mathlib.Core.Logic.{_≢_}
+use mathlib.Core.List.{List}
+use Prim.Native.Nat.{ℕ, zero, suc, _+_, _-_, _≤_, _<_}
+use native.Mathlib.Omega.{arith}
+use native.Mathlib.Decide.{ℕ-discrete}
+use lib.ListN.{getD}
+use lib.Dec.{eqb}
+use borrow.Author.Tests.{eq-eqb, ne-eqb, eqb-true}
+use Rattle.wire.proofs.Tests.{both-true}
+use Rattle.node.specs.Soundness.{emptyFrom}
+
+-- one entry, and those after it
+empty-turn : (history : List ℕ) (phase : ℕ) → phase < 64
+    → emptyFrom history phase (64 - phase) ≡ (eqb (getD history phase 0) 0 && emptyFrom history (phase + 1) (64 - (phase + 1)))
+unfolding emptyFrom
+empty-turn history phase h = let left : 64 - phase ≡ suc (64 - (phase + 1)) = omega arith in ap (emptyFrom history phase) left
+
+-- after an empty entry the answer is that of those after it
+pub empty-more : (history : List ℕ) (phase : ℕ) → phase < 64 → getD history phase 0 ≡ 0
+    → emptyFrom history phase (64 - phase) ≡ emptyFrom history (phase + 1) (64 - (phase + 1))
+empty-more history phase h e = empty-turn history phase h ∙ simp (eq-eqb (getD history phase 0) 0 e)
+
+-- an entry that is not empty settles it
+pub empty-stop : (history : List ℕ) (phase : ℕ) → phase < 64 → getD history phase 0 ≢ 0
+    → emptyFrom history phase (64 - phase) ≡ false
+empty-stop history phase h e = empty-turn history phase h ∙ simp (ne-eqb (getD history phase 0) 0 e)
+
+-- no entries are left
+pub empty-end : (history : List ℕ) (phase : ℕ) → 64 ≤ phase → emptyFrom history phase (64 - phase) ≡ true
+unfolding emptyFrom
+empty-end history phase h = let left : 64 - phase ≡ 0 = omega arith in ap (emptyFrom history phase) left
+
+-- entries that are 0 pass the test
+pub empty-is : (history : List ℕ) (from count : ℕ)
+    → ((phase : ℕ) → from ≤ phase → phase < from + count → getD history phase 0 ≡ 0) → emptyFrom history from count ≡ true
+unfolding emptyFrom
+empty-is history from zero f = refl
+empty-is history from (suc count) f =
+    simp (
+      eq-eqb (getD history from 0) 0 (f from (omega arith) (omega arith)),
+      empty-is history (from + 1) count (λ phase a b. f phase (omega arith) (omega arith)),
+    )
+
+-- entries that pass the test are 0
+pub is-empty : (history : List ℕ) (from count : ℕ) → emptyFrom history from count ≡ true
+    → (phase : ℕ) → from ≤ phase → phase < from + count → getD history phase 0 ≡ 0
+unfolding emptyFrom
+is-empty history from zero e phase a b = absurd (omega arith)
+is-empty history from (suc count) e phase a b =
+    let tests = both-true (eqb (getD history from 0) 0) (emptyFrom history (from + 1) count) e in
+    elim (ℕ-discrete phase from) [
+      | yes same ↦ ap (λ k. getD history k 0) same ∙ eqb-true (getD history from 0) 0 (tests .0)
+      | no other ↦ is-empty history (from + 1) count (tests .1) phase (omega arith) (omega arith)
+    ]

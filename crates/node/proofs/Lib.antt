@@ -1,0 +1,6 @@
+pub mod Histories
+pub mod Facts
+pub mod StartLaws
+pub mod Coming
+pub mod SendLaws
+pub mod ReadBack

@@ -1,0 +1,91 @@
+-- Writing the coming message, case by case: what a message's writer answers and leaves in the buffer is the node's answer and
+-- buffer. Assumes nothing.
+use mathlib.Core.Path.{_≡_, refl, sym, ap, ap₂, _∙_}
+use mathlib.Core.Bool.{Bool, true, false}
+use mathlib.Core.List.{List}
+use mathlib.Core.Logic.{_≢_}
+use Prim.Native.Nat.{ℕ, _≤_, _<_}
+use native.Mathlib.Omega.{arith}
+use lib.ListN.{length}
+use lib.Dec.{leb, ltb}
+use borrow.Author.Tests.{lt-ltb, le-ltb, le-leb}
+use Rattle.wire.specs.Outcome.{Outcome, accepted, refused, require}
+use Rattle.message.specs.Fields.{Message}
+use Rattle.message.specs.Encoding.{encode}
+use Rattle.message.specs.Writing as message
+use Rattle.message.specs.declared.WriteRefusal.{WriteRefusal}
+use Rattle.message.specs.declared.WriteRefusal.the-variants.{OutOfBounds, Short}
+use Rattle.message.specs.declared.Writing.the-variants.{Refused}
+use Rattle.message.proofs.WriteLaws.{encode-length}
+use Rattle.node.specs.declared.Node.{Node}
+use Rattle.node.specs.Soundness.{sound}
+use Rattle.node.specs.Sending.{listedPhases, bytesOf, comingBytes, writeOf, bufferAfter, bufferOf}
+use Rattle.node.proofs.Facts.{sound-facts}
+use Rattle.node.proofs.Coming.{Says, selects, says-coming, coming-silent, selection-allowed, says-within}
+
+same-after : (m : Message) (buffer : List ℕ) (outcome : Outcome ℕ)
+    → message.bufferAfter m buffer outcome ≡ bufferAfter (encode m) buffer outcome
+same-after m buffer (accepted size) = refl
+same-after m buffer (refused number) = refl
+
+-- a sound, unspent record
+module _ (d : Node) (buffer : List ℕ) (ok : sound d ≡ true) (left : d .phase < 64) where
+  writer-agrees : (m : Message) → Says d m
+      → (message.writeOf m buffer ≡ writeOf d buffer) × (message.bufferOf m buffer ≡ bufferOf d buffer)
+  unfolding writeOf message.writeOf
+  writer-agrees m says =
+      let bounds = says-within (sound-facts d ok) left says in
+      let said = says-coming says in
+      let long = encode-length m in
+      let wrote : message.writeOf m buffer ≡ writeOf d buffer = simp (ok, lt-ltb (d .phase) 64 left, bounds, said, long) in
+      let same = ap₂ (λ outcome bytes. bufferAfter bytes buffer outcome) wrote (sym (ap bytesOf said)) in
+      (wrote, same-after m buffer (message.writeOf m buffer) ∙ same)
+
+  pub message-written : {m : Message} {outcome : Outcome ℕ} {after : List ℕ} → Says d m
+      → (outcome ≡ message.writeOf m buffer) × (after ≡ message.bufferOf m buffer)
+      → (outcome ≡ writeOf d buffer) × (after ≡ bufferOf d buffer)
+  message-written {m} says wrote = let agrees = writer-agrees m says in (wrote .0 ∙ agrees .0, wrote .1 ∙ agrees .1)
+
+  pub selection-written : {phases : ℕ} {outcome : Outcome ℕ} {after : List ℕ} → d .round ≡ 1 → phases ≡ listedPhases d
+      → (outcome ≡ message.writeSelectionOf (d .run) (d .phase) (d .vote) (d .stamp) (d .history) phases buffer)
+      × (after ≡ message.selectionBufferOf (d .run) (d .phase) (d .vote) (d .stamp) (d .history) phases buffer)
+      → (outcome ≡ writeOf d buffer) × (after ≡ bufferOf d buffer)
+  selection-written one same wrote =
+      let few = selection-allowed (sound-facts d ok) left one .0 in
+      message-written (selects one) (simp (same, few) at wrote)
+
+  -- silence is a length of 0, into any buffer
+  pub silence-written : d .round ≡ 2 → d .select ≡ 0 → (accepted 0 ≡ writeOf d buffer) × (buffer ≡ bufferOf d buffer)
+  unfolding writeOf
+  silence-written two silent =
+      let said = coming-silent d two silent in
+      let room = le-leb 0 (length buffer) (omega arith) in
+      (simp (ok, lt-ltb (d .phase) 64 left, said, room), simp (ok, lt-ltb (d .phase) 64 left, said, room))
+
+-- a record that is not sound, or is spent, is refused, and nothing is written
+pub unsound-refused : (d : Node) (buffer : List ℕ) → sound d ≡ false
+    → (refused 7 ≡ writeOf d buffer) × (buffer ≡ bufferOf d buffer)
+unfolding writeOf
+unsound-refused d buffer broken = (simp broken, simp broken)
+
+pub spent-refused : (d : Node) (buffer : List ℕ) → sound d ≡ true → 64 ≤ d .phase
+    → (refused 8 ≡ writeOf d buffer) × (buffer ≡ bufferOf d buffer)
+unfolding writeOf
+spent-refused d buffer ok spent = (simp (ok, le-ltb (d .phase) 64 spent), simp (ok, le-ltb (d .phase) 64 spent))
+
+-- a node is never told that its message breaks a bound
+pub never-out-of-bounds : (d : Node) (buffer : List ℕ) → writeOf d buffer ≢ refused 13
+unfolding writeOf
+never-out-of-bounds d buffer = go (sound d) (ltb (d .phase) 64) (leb (length (comingBytes d)) (length buffer))
+  where
+    go : (a b c : Bool) → require a 7 (require b 8 (require c 9 (accepted (length (comingBytes d))))) ≢ refused 13
+    go true true true e = let z : _≡_ {A = ℕ} 0 1 = cc in omega arith
+    go true true false e = let z : _≡_ {A = ℕ} 9 13 = cc in omega arith
+    go true false c e = let z : _≡_ {A = ℕ} 8 13 = cc in omega arith
+    go false b c e = let z : _≡_ {A = ℕ} 7 13 = cc in omega arith
+
+-- so a writer that refuses has found the buffer too short
+pub only-short : (why : WriteRefusal) → message.answered (Refused why) ≢ refused 13
+    → refused 9 ≡ message.answered (Refused why)
+only-short OutOfBounds h = absurd (h refl)
+only-short Short h = refl

@@ -1,0 +1,4 @@
+pub mod Record
+pub mod Soundness
+pub mod Starting
+pub mod Sending

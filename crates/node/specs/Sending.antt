@@ -1,0 +1,69 @@
+-- What a node writes in its coming round, what writing it answers, and what it leaves in the lent buffer: document 01.
+use Prim.Native.Nat.{ℕ}
+use mathlib.Core.Bool.{cond}
+use mathlib.Core.List.{List, [], _++_}
+use mathlib.Core.Option.{Option, none, some}
+use lib.ListN.{length, drop}
+use lib.Dec.{leb, ltb, eqb}
+use Rattle.wire.specs.Outcome.{Outcome, accepted, refused, require}
+use Rattle.message.specs.Fields.{Message}
+use Rattle.message.specs.Encoding.{encode}
+use Rattle.message.specs.Writing.{selectionOf, validationOf, decisionOf}
+use Rattle.node.specs.Soundness.{sound}
+use Rattle.node.specs.declared.Node.{Node}
+use Rattle.node.specs.declared.SendRefusal.{SendRefusal}
+use Rattle.node.specs.declared.SendRefusal.the-variants.{Unsound, Spent, Short}
+use Rattle.node.specs.declared.Sending.{Sending}
+use Rattle.node.specs.declared.Sending.the-variants.{Bytes, Refused}
+
+-- how many phases' entries stand in a selection: "in class 3 only, its non-empty entries of earlier phases"
+abbrev pub listedPhases : Node → ℕ
+listedPhases d = cond (eqb (d .crew .class) 3) (d .phase) 0
+
+-- The message of the coming round; none is silence.
+-- 01: "A node writes: round 1 vote, stamp and, in class 3 only, its non-empty entries of earlier phases; round 2 select, or
+-- silence (length 0, nothing written) if select is 0; round 3 vote and stamp."
+unfoldable pub comingOf : Node → Option Message
+comingOf d =
+    cond (eqb (d .round) 1)
+    (some (selectionOf (d .run) (d .phase) (d .vote) (d .stamp) (d .history) (listedPhases d)))
+    (cond (eqb (d .round) 2)
+    (cond (leb 1 (d .select)) (some (validationOf (d .run) (d .phase) (d .select))) none)
+    (some (decisionOf (d .run) (d .phase) (d .vote) (d .stamp))))
+
+-- the bytes of a message, of silence no bytes
+abbrev pub bytesOf : Option Message → List ℕ
+bytesOf none = []
+bytesOf (some m) = encode m
+
+abbrev pub comingBytes : Node → List ℕ
+comingBytes d = bytesOf (comingOf d)
+
+-- The length of what is written, or the number of the refusal.
+-- 01: "Writing the coming message: 7 record not sound; 8 spent; 9 buffer shorter than the message."
+unfoldable pub writeOf : Node → List ℕ → Outcome ℕ
+writeOf d buffer =
+    require (sound d) 7
+    (require (ltb (d .phase) 64) 8
+    (require (leb (length (comingBytes d)) (length buffer)) 9
+    (accepted (length (comingBytes d)))))
+
+-- The whole buffer afterwards: what is written, then the bytes after it as they were; as it was where writing refuses.
+-- 01: "no lent byte is written"; "Bytes after a written message keep their values."
+abbrev pub bufferAfter : List ℕ → List ℕ → Outcome ℕ → List ℕ
+bufferAfter bytes buffer (accepted size) = bytes ++ drop size buffer
+bufferAfter bytes buffer (refused number) = buffer
+
+abbrev pub bufferOf : Node → List ℕ → List ℕ
+bufferOf d buffer = bufferAfter (comingBytes d) buffer (writeOf d buffer)
+
+-- 01's number of each refusal
+abbrev pub number : SendRefusal → ℕ
+number Unsound = 7
+number Spent = 8
+number Short = 9
+
+-- what an answer of `write` says in 01's terms
+abbrev pub answered : Sending → Outcome ℕ
+answered (Bytes size) = accepted size
+answered (Refused why) = refused (number why)

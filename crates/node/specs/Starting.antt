@@ -1,0 +1,31 @@
+-- What starting a node answers: document 01, 'Crew and node' and 'What each operation turns down'.
+use Prim.Native.Nat.{ℕ}
+use lib.Dec.{leb, ltb}
+use Rattle.wire.specs.Outcome.{Outcome, accepted, refused, require, after}
+use Rattle.crew.specs.declared.Crew.{Crew}
+use Rattle.crew.specs.Acceptance.{acceptOf, number as crewNumber}
+use Rattle.node.specs.Record.{begun}
+use Rattle.node.specs.declared.Node.{Node}
+use Rattle.node.specs.declared.StartRefusal.{StartRefusal}
+use Rattle.node.specs.declared.StartRefusal.the-variants.{Crew as CrewRefused, Own, NoPlan}
+use Rattle.node.specs.declared.Starting.{Starting}
+use Rattle.node.specs.declared.Starting.the-variants.{Accepted, Refused}
+
+-- 01: "Starting a node: 1 to 4; 5 own number not below n; 6 plan 0."
+unfoldable pub startOf : Crew → ℕ → ℕ → ℕ → Outcome Node
+startOf crew own run plan =
+    after (acceptOf crew)
+    (require (ltb own (crew .n)) 5
+    (require (leb 1 plan) 6
+    (accepted (begun crew own run plan))))
+
+-- 01's number of each refusal; a crew's is the crew's own
+abbrev pub number : StartRefusal → ℕ
+number (CrewRefused why) = crewNumber why
+number Own = 5
+number NoPlan = 6
+
+-- what an answer of `start` says in 01's terms; the record stands beside it
+abbrev pub answered : Starting → Outcome (Unit {0})
+answered Accepted = accepted tt
+answered (Refused why) = refused (number why)

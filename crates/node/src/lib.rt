@@ -1,0 +1,326 @@
+// A node: its whole state as one value, how a node starts, whether a record is sound, and the message of its coming round.
+// Each operation is what a definition says: specs/Starting.antt, specs/Soundness.antt and specs/Sending.antt.
+use crew::Acceptance;
+use crew::Crew;
+use message::Writing;
+ghost use mathlib.Core.Path.{_≡_};
+ghost use mathlib.Core.Bool.{true};
+ghost use Prim.Native.Nat.{_<_};
+ghost use Rattle.wire.specs.Outcome.{refused, verdict, valueOr};
+ghost use Rattle.message.specs.Writing.{answered as writtenAs};
+ghost use Rattle.node.specs.Record.{blank, begun};
+ghost use Rattle.node.specs.Soundness.{
+  crewAccepted,
+  placeKnown,
+  plansKnown,
+  stampKnown,
+  firstUnselected,
+  restEmpty,
+  sound,
+};
+ghost use Rattle.node.specs.Starting.{startOf, answered as startedAs};
+ghost use Rattle.node.specs.Sending.{listedPhases, writeOf, bufferOf, answered as sentAs};
+
+// 01's node record. Any values may stand in it: `is_sound` says whether they are those of a node.
+pub struct Node {
+    pub crew: Crew,
+    // The node's own number, below the crew's n.
+    pub own: u8,
+    // Which run of the algorithm this is: messages of other runs do not count.
+    pub run: u32,
+    // The coming round: its phase and its number.
+    pub phase: u8,
+    pub round: u8,
+    pub vote: u16,
+    // The plan that was validated last, at first the initial plan.
+    pub base: u16,
+    // The phase in which the vote was validated, 0 where none was.
+    pub stamp: u8,
+    // What the phase's selection gave, 0 for 'none'.
+    pub select: u16,
+    // The plan that the node decided, 0 before it has.
+    pub result: u16,
+    // The plan selected in each phase, 0 where none was; at 0 the initial plan.
+    pub history: [u16; 64],
+}
+
+// Why a start is refused; `number` in specs/Starting.antt has 01's numbers.
+pub enum StartRefusal {
+    // The crew is turned down.
+    Crew(crew::Refusal),
+    // The own number is not below n.
+    Own,
+    NoPlan,
+}
+
+pub enum Starting {
+    Accepted,
+    Refused(StartRefusal),
+}
+
+// What a start answers. An enum holds no array, so the record stands beside the answer: where the start is refused it is
+// blank, all 0, and not sound.
+pub struct Started {
+    pub answer: Starting,
+    pub node: Node,
+}
+
+// Why the coming message is not written; `number` in specs/Sending.antt has 01's numbers.
+pub enum SendRefusal {
+    Unsound,
+    Spent,
+    // The buffer is shorter than the message.
+    Short,
+}
+
+// What writing the coming message answers: its length, which is 0 where the node is silent, or a refusal.
+pub enum Sending {
+    Bytes(usize),
+    Refused(SendRefusal),
+}
+
+// The record comes back as it was handed in.
+pub struct Sent {
+    pub answer: Sending,
+    pub node: Node,
+}
+
+// The record of a refused start.
+fn blank_node() -> Node
+    ensures { λ r. ⌜ r ≡ blank ⌝ }
+{
+    Node {
+        crew: Crew {
+            class: 0,
+            n: 0,
+            b: 0,
+            f: 0,
+            d: 0,
+        },
+        own: 0,
+        run: 0,
+        phase: 0,
+        round: 0,
+        vote: Node::NO_PLAN,
+        base: Node::NO_PLAN,
+        stamp: Node::UNSTAMPED,
+        select: Node::NO_PLAN,
+        result: Node::NO_PLAN,
+        history: [Node::NO_PLAN; Node::PHASES],
+    }
+}
+
+// The record that a node begins with.
+fn begin(crew: Crew, own: u8, run: u32, plan: u16) -> Node
+    ensures { λ r. ⌜ r ≡ begun crew own run plan ⌝ }
+{
+    let mut history = [Node::NO_PLAN; Node::PHASES];
+    history[0] = plan;
+    Node {
+        crew: crew,
+        own: own,
+        run: run,
+        phase: Node::FIRST_PHASE,
+        round: Node::SELECTION,
+        vote: plan,
+        base: plan,
+        stamp: Node::UNSTAMPED,
+        select: Node::NO_PLAN,
+        result: Node::NO_PLAN,
+        history: history,
+    }
+}
+
+fn refuse_start(why: StartRefusal) -> Started
+    ensures { λ r. ⌜ (r .answer ≡ Starting.Refused why) × (r .node ≡ blank) ⌝ }
+{
+    Started {
+        answer: Starting::Refused(why),
+        node: blank_node(),
+    }
+}
+
+fn is_accepted(crew: Crew) -> bool
+    ensures { λ r. ⌜ r ≡ crewAccepted crew ⌝ }
+{
+    match crew::accept(crew) {
+        Acceptance::Accepted => true,
+        Acceptance::Refused(_) => false,
+    }
+}
+
+// A writer's answer as the node's. What a sound record says is within a message's bounds, so a writer can only find the
+// buffer too short.
+fn to_sending(writing: Writing) -> Sending
+    requires { ⌜ (writtenAs writing ≡ refused 13 → ⊥) ⌝ }
+    ensures { λ r. ⌜ sentAs r ≡ writtenAs writing ⌝ }
+{
+    match writing {
+        Writing::Bytes(size) => Sending::Bytes(size),
+        Writing::Refused(_) => Sending::Refused(SendRefusal::Short),
+    }
+}
+
+impl Node {
+    // Phases are counted from 1; 0 stands for the time before the start, in stamps and histories.
+    pub const FIRST_PHASE: u8 = 1;
+    // The last phase that has rounds.
+    pub const LAST_PHASE: u8 = 63;
+    // A record in this phase has no rounds left.
+    pub const SPENT: u8 = 64;
+    // The entries of a history: one for each phase from 0 to the last.
+    pub const PHASES: usize = 64;
+    // The plan that means none.
+    pub const NO_PLAN: u16 = 0;
+    // The stamp of a vote that no phase validated.
+    pub const UNSTAMPED: u8 = 0;
+    // The rounds of a phase.
+    pub const SELECTION: u8 = 1;
+    pub const VALIDATION: u8 = 2;
+    pub const DECISION: u8 = 3;
+    // The class whose nodes skip validation, and the class whose nodes list their histories.
+    pub const UNVALIDATED: u8 = 1;
+    pub const LISTING: u8 = 3;
+
+    // Starts a node with its initial plan, or says why not.
+    pub fn start(crew: Crew, own: u8, run: u32, plan: u16) -> Started
+        ensures { λ r. ⌜ (startedAs (r .answer) ≡ verdict (startOf crew own run plan))
+            × (r .node ≡ valueOr blank (startOf crew own run plan)) ⌝ }
+    {
+        match crew::accept(crew) {
+            Acceptance::Refused(why) => refuse_start(StartRefusal::Crew(why)),
+            Acceptance::Accepted => {
+                if own < crew.n {
+                    if Node::NO_PLAN < plan {
+                        return Started {
+                            answer: Starting::Accepted,
+                            node: begin(crew, own, run, plan),
+                        };
+                    }
+                    return refuse_start(StartRefusal::NoPlan);
+                }
+                refuse_start(StartRefusal::Own)
+            }
+        }
+    }
+
+    // The coming round is one that the class and the phase have.
+    fn is_placed(self) -> bool
+        ensures { λ r. ⌜ r ≡ placeKnown self ⌝ }
+    {
+        (Node::FIRST_PHASE <= self.phase)
+            & (self.phase <= Node::SPENT)
+            & (Node::SELECTION <= self.round)
+            & (self.round <= Node::DECISION)
+            & !((self.crew.class == Node::UNVALIDATED) & (self.round == Node::VALIDATION))
+            & ((self.round == Node::SELECTION) | (self.phase <= Node::LAST_PHASE))
+    }
+
+    fn has_plans(self) -> bool
+        ensures { λ r. ⌜ r ≡ plansKnown self ⌝ }
+    {
+        (Node::NO_PLAN < self.vote) & (Node::NO_PLAN < self.base) & (Node::NO_PLAN < self.history[0])
+    }
+
+    // The vote's stamp is of an earlier phase, or of this one once it is validated.
+    fn is_stamped(self) -> bool
+        ensures { λ r. ⌜ r ≡ stampKnown self ⌝ }
+    {
+        ((self.stamp < self.phase) | ((self.stamp == self.phase) & (self.round == Node::DECISION)))
+            & (!(self.crew.class == Node::UNVALIDATED) | (self.stamp == Node::UNSTAMPED))
+    }
+
+    // The first phase that has no selection yet. A phase may be any byte here, so the sum is taken wide.
+    fn first_unselected(self) -> usize
+        ensures { λ r. ⌜ r ≡ firstUnselected self ⌝ }
+    {
+        let phase = self.phase as usize;
+        if self.round == Node::SELECTION {
+            return phase;
+        }
+        phase + 1
+    }
+
+    // No plan stands at a phase that has no selection yet.
+    fn is_empty_ahead(self) -> bool
+        ensures { λ r. ⌜ r ≡ restEmpty self ⌝ }
+    {
+        let history = self.history;
+        let mut phase = self.first_unselected();
+        while phase < Node::PHASES {
+            if history[phase] == Node::NO_PLAN {
+                phase = phase + 1;
+            } else {
+                return false;
+            }
+        }
+        true
+    }
+
+    // Whether the record is one that a node can work with, be it reached from a start or not.
+    pub fn is_sound(self) -> bool
+        ensures { λ r. ⌜ r ≡ sound self ⌝ }
+    {
+        is_accepted(self.crew)
+            & (self.own < self.crew.n)
+            & self.is_placed()
+            & self.has_plans()
+            & self.is_stamped()
+            & self.is_empty_ahead()
+    }
+
+    // How many phases of its history the node lists in a selection.
+    fn listed_phases(self) -> u8
+        ensures { λ r. ⌜ r ≡ listedPhases self ⌝ }
+    {
+        if self.crew.class == Node::LISTING {
+            return self.phase;
+        }
+        0
+    }
+
+    // Writes the message of the coming round. Silence is a length of 0, for which any buffer is long enough.
+    fn write_coming(self, buf: &mut [u8]) -> Writing
+        requires { ⌜ (sound self ≡ true) × (self .phase < 64) ⌝ }
+        ensures { λ r. ⌜ (writtenAs r ≡ writeOf self (now (buf .entry)))
+            × (now (buf .exit) ≡ bufferOf self (now (buf .entry))) ⌝ }
+    {
+        if self.round == Node::SELECTION {
+            let history = self.history;
+            let phases = self.listed_phases();
+            return message::write_selection(buf, self.run, self.phase, self.vote, self.stamp, history, phases);
+        }
+        if self.round == Node::VALIDATION {
+            if Node::NO_PLAN < self.select {
+                return message::write_validation(buf, self.run, self.phase, self.select);
+            }
+            return Writing::Bytes(0);
+        }
+        message::write_decision(buf, self.run, self.phase, self.vote, self.stamp)
+    }
+
+    // Writes the coming message to the front of a lent buffer, or says why not; the record comes back unchanged.
+    pub fn write(self, buf: &mut [u8]) -> Sent
+        ensures { λ r. ⌜ (sentAs (r .answer) ≡ writeOf self (now (buf .entry)))
+            × (r .node ≡ self)
+            × (now (buf .exit) ≡ bufferOf self (now (buf .entry))) ⌝ }
+    {
+        if self.is_sound() {
+            if self.phase < Node::SPENT {
+                let writing = self.write_coming(buf);
+                return Sent {
+                    answer: to_sending(writing),
+                    node: self,
+                };
+            }
+            return Sent {
+                answer: Sending::Refused(SendRefusal::Spent),
+                node: self,
+            };
+        }
+        Sent {
+            answer: Sending::Refused(SendRefusal::Unsound),
+            node: self,
+        }
+    }
+}
