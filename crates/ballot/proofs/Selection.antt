@@ -1,5 +1,5 @@
--- Whether none, exactly one or several plans are backed, said by counts; and what follows for the answer of a selection.
--- Builds on specs/Selection.antt. Assumes nothing.
+-- Selection by counts: whether none, exactly one or several plans are backed, when the answer is not 'none', and that the plan
+-- taken is a slot's vote. Builds on specs/Selection.antt. Assumes nothing.
 use mathlib.Core.Path.{_≡_, refl, ap, _∙_}
 use mathlib.Core.Bool.{Bool, true, false, not, cond, _&&_}
 use mathlib.Core.List.{List}
@@ -8,6 +8,7 @@ use mathlib.Core.Option.{Option, none, some}
 use Prim.Native.Nat.{ℕ, _≤_, _<_}
 use native.Mathlib.Omega.{arith}
 use native.Mathlib.Decide.{ℕ-discrete}
+use lib.ListN.{length}
 use lib.Dec.{T, eqb}
 use borrow.Author.Tests.{eqb-true, eqb-false}
 use Rattle.wire.proofs.Tests.{tests}
@@ -17,10 +18,11 @@ use Rattle.ballot.specs.Count.{count}
 use Rattle.ballot.specs.Ballot.{Ballot, votes}
 use Rattle.ballot.specs.Least.{least}
 use Rattle.ballot.specs.Selection.{backed, Backing, nobody, sole, several, besides, backing}
-use Rattle.ballot.specs.Selection.{Choice, plan, any, nothing, enough, answer, selection}
+use Rattle.ballot.specs.Selection.{Choice, plan, any, nothing, enough, anyIf, answer, selection, takenOn, taken}
 use Rattle.ballot.proofs.Tests.{and-T, T-and}
 use Rattle.ballot.proofs.Counting.{count-le}
-use Rattle.ballot.proofs.Least.{withVote, Least, nowhere, found, least-is}
+use Rattle.ballot.proofs.Least.{withVote, withVote-votes, Least, nowhere, found, least-is, Voted}
+use Rattle.ballot.proofs.AnyPlan.{any-voted, any-plan}
 
 -- passes p and has another vote than v
 abbrev pub otherVote : (Ballot → Bool) → ℕ → Ballot → Bool
@@ -126,3 +128,50 @@ backed-answers crew ballots h =
     go nobody (by-none z) = absurd (omega arith)
     go (sole v) x = tt
     go several x = tt
+
+-- The plan taken.
+
+sole-voted : (p : Ballot → Bool) (ballots : List Ballot) (v : ℕ) → Backs p ballots (sole v) → 0 < count (votes v) ballots
+sole-voted p ballots v (by-one _ i z) = omega (arith, withVote-votes p v ballots)
+
+module _ (class : Class) (crew : Crew) (ballots : List Ballot) where
+  -- what is taken is some ballot's vote, or 0
+  pub taken-voted : Voted (taken class crew ballots) ballots
+  unfolding selection taken
+  taken-voted = go class (backing test ballots) (backing-is test ballots) (enough class crew ballots)
+    where
+      test : Ballot → Bool
+      test = backed class crew ballots
+
+      open-choice : (e : Bool) → Voted (takenOn ballots (anyIf e)) ballots
+      open-choice true = any-voted ballots
+      open-choice false = inl refl
+
+      go : (class : Class) (b : Backing) → Backs test ballots b → (e : Bool)
+          → Voted (takenOn ballots (answer class b e)) ballots
+      go class nobody d e = open-choice e
+      go class (sole v) d e = inr (sole-voted test ballots v d)
+      go one several d e = open-choice e
+      go two several d e = open-choice e
+      go three several d e = any-voted ballots
+
+  -- where selection answers, slots count and none votes 0, a plan is taken
+  pub taken-plan : 0 < length ballots → count (votes 0) ballots ≡ 0 → Answers (selection class crew ballots)
+      → taken class crew ballots ≢ 0
+  unfolding selection taken
+  taken-plan h z a = go class (backing test ballots) (backing-is test ballots) (enough class crew ballots) a
+    where
+      test : Ballot → Bool
+      test = backed class crew ballots
+
+      open-choice : (e : Bool) → Answers (anyIf e) → takenOn ballots (anyIf e) ≢ 0
+      open-choice true a = any-plan ballots h z
+      open-choice false a = absurd a
+
+      go : (class : Class) (b : Backing) → Backs test ballots b → (e : Bool) → Answers (answer class b e)
+          → takenOn ballots (answer class b e) ≢ 0
+      go class nobody d e a = open-choice e a
+      go class (sole v) d e a = λ x. omega (arith, sole-voted test ballots v d, ap (λ y. count (votes y) ballots) x)
+      go one several d e a = open-choice e a
+      go two several d e a = open-choice e a
+      go three several d e a = any-plan ballots h z
