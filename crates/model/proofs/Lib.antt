@@ -1,0 +1,4 @@
+pub mod Node
+pub mod Run
+pub mod ClassOne
+pub mod Invariant
