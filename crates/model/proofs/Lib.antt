@@ -3,3 +3,5 @@ pub mod Run
 pub mod ClassOne
 pub mod Invariant
 pub mod Lock
+pub mod Phases
+pub mod GoodPhase
