@@ -5,3 +5,6 @@ pub mod Invariant
 pub mod Lock
 pub mod Phases
 pub mod GoodPhase
+pub mod Results
+pub mod GoodRun
+pub mod Theorems

@@ -277,3 +277,7 @@ module _ (class : Class) (stamps : Stamps class) (crew : Crew) (honest : ℕ →
     decides-lock = λ i s v p j f lp hp d. decides-lock i (s .phase) (s .round) (s .node) v p j f lp hp d .0;
     lock-decides = λ i s v w p j f lp hp l d. decides-lock i (s .phase) (s .round) (s .node) w p j f lp hp d .1 v l;
   }
+
+  pub later-invariant : (s : State) → locking-later .Inv s → Invariant crew honest s
+  unfolding locking-later
+  later-invariant s j = j

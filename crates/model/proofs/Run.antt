@@ -8,7 +8,7 @@ use Prim.Native.Nat.{ℕ, zero, suc, _≤_, _<_}
 use native.Mathlib.Omega.{arith}
 use native.Mathlib.Decide.{ℕ-discrete, decLe}
 use lib.Dec.{T, ltb}
-use borrow.Author.Tests.{ltb-true}
+use borrow.Author.Tests.{ltb-true, ltb-false}
 use Rattle.crew.specs.declared.Crew.{Crew}
 use Rattle.crew.specs.Thresholds.{Class}
 use Rattle.ballot.specs.Ballot.{Ballot}
@@ -49,17 +49,17 @@ pub record Locking (class : Class) (crew : Crew) (honest : ℕ → Bool) : Type 
   pub lock-decides : (i : Inboxes) (s : State) (v w p : ℕ) → Inv s → Faithful class crew honest i s
       → p < crew .n → T (honest p) → Lock v s → Decides class crew i s p w → w ≡ v
 
--- what a round gives before the records are spent, and what stands after
+-- before the records are spent round j is a step, after that it leaves the state as it was
 pub moves : (run : Run) (P : State → Type 0) (j : ℕ)
     → (state run j .phase < spent → P (step (class run) (run .crew) (run .rounds j) (state run j)))
-    → P (state run j) → P (state run (suc j))
+    → (spent ≤ state run j .phase → P (state run j)) → P (state run (suc j))
 unfolding state
-moves run P j f p = go (ltb (state run j .phase) spent) refl
+moves run P j f g = go (ltb (state run j .phase) spent) refl
   where
     go : (b : Bool) → ltb (state run j .phase) spent ≡ b
         → P (cond b (step (class run) (run .crew) (run .rounds j) (state run j)) (state run j))
     go true e = f (ltb-true (state run j .phase) spent e)
-    go false e = p
+    go false e = g (ltb-false (state run j .phase) spent e)
 
 module _ (run : Run) (l : Locking (class run) (run .crew) (run .honest))
     (faithful : (j : ℕ) → Held run j → Faithful (class run) (run .crew) (run .honest) (run .rounds j) (state run j)) where
@@ -69,7 +69,7 @@ module _ (run : Run) (l : Locking (class run) (run .crew) (run .honest))
   inv-at (suc j) h =
       let before = inv-at j (omega arith) in
       moves run (l .Inv) j
-      (λ t. l .inv-step (run .rounds j) (state run j) t before (faithful j (omega arith, t))) before
+      (λ t. l .inv-step (run .rounds j) (state run j) t before (faithful j (omega arith, t))) (λ t. before)
 
   -- a lock holds from then on
   lock-at : (v i j : ℕ) → i ≤ j → j ≤ run .total → l .Lock v (state run i) → l .Lock v (state run j)
@@ -79,7 +79,8 @@ module _ (run : Run) (l : Locking (class run) (run .crew) (run .honest))
     | no e ↦
         let y = lock-at v i j (omega arith) (omega arith) x in
         moves run (l .Lock v) j
-            (λ u. l .lock-step (run .rounds j) (state run j) v (inv-at j (omega arith)) (faithful j (omega arith, u)) y) y
+            (λ u. l .lock-step (run .rounds j) (state run j) v (inv-at j (omega arith)) (faithful j (omega arith, u)) y)
+            (λ u. y)
   ]
 
   locked : (i j v w p : ℕ) → i ≤ j → l .Lock v (state run i) → p < run .crew .n → T (run .honest p)

@@ -94,6 +94,25 @@ Held run j = (j < run .total) × (state run j .phase < spent)
 abbrev pub DecidesAt : Run → ℕ → ℕ → ℕ → Type 0
 DecidesAt run j p v = Held run j × Decides (class run) (run .crew) (run .rounds j) (state run j) p v
 
+-- 01: "A node has decided when, in some round 3 that it took, at least D counting slots held one plan"
+abbrev pub Decided : Run → ℕ → Type 0
+Decided run p = (j : ℕ) × (v : ℕ) × DecidesAt run j p v
+
+abbrev pub Undecided : Run → ℕ → ℕ → Type 0
+Undecided run p j = (i v : ℕ) → i < j → DecidesAt run i p v → ⊥
+
+-- 01: "The plan it decided is the least such plan of the first such round": v, in the first j rounds
+pub record PlanDecided (run : Run) (p j v : ℕ) : Type 0 where
+  pub round : ℕ
+  pub before : round < j
+  pub decides : DecidesAt run round p v
+  pub least : (w : ℕ) → DecidesAt run round p w → v ≤ w
+  pub first : Undecided run p round
+
+-- 01: "Its standing result is its record's result after the list."
+abbrev pub standing : Run → ℕ → ℕ
+standing run p = state run (run .total) .node p .result
+
 -- the premises of demand 3: an accepted crew, at most b nodes that are not honest, honest slots that hold what their nodes
 -- said, and no plan 0 in a counting slot
 pub record Admissible (run : Run) : Type 0 where
