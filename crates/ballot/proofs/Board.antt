@@ -9,7 +9,7 @@ use Rattle.crew.specs.Thresholds.{classOf}
 use Rattle.ballot.specs.Count.{count}
 use Rattle.ballot.specs.Ballot.{Ballot, lists}
 use Rattle.ballot.specs.Least.{least, leastOf}
-use Rattle.ballot.specs.Selection.{possible, backed, backing, enough, selection, leading, mostVoted, taken}
+use Rattle.ballot.specs.Selection.{possible, backed, backing, enough, selection, leading, mostVoted, anyPlan, taken}
 use Rattle.ballot.specs.Selection.{Choice, plan, any, nothing}
 use Rattle.ballot.specs.Validation.{valid, validated}
 use Rattle.ballot.specs.Decision.{decides, decision}
@@ -56,11 +56,13 @@ at v t = full v t []
 abbrev bare : ℕ → Ballot
 bare v = at v 0
 
--- 01 writes phase:plan
-abbrev _∶_ : ℕ → ℕ → Entry
-_∶_ t v = record { phase = t; plan = v }
+abbrev entry : ℕ → ℕ → Entry
+entry t v = record { phase = t; plan = v }
 
-infix 90 _∶_
+-- the ballots of 01's second example of class 3; the second node's history comes from the table
+abbrev phase2 : List Entry → List Ballot
+phase2 entries = full 5 1 (entry 0 5 ∷ entry 1 5 ∷ []) ∷ full 6 0 entries ∷ full 6 0 (entry 0 6 ∷ []) ∷ []
+
 abbrev board : List Example
 board =
     -- 01's board, marked p
@@ -68,16 +70,14 @@ board =
     ∷ (select crew1 (map bare (7 ∷ 7 ∷ 9 ∷ 9 ∷ [])) gives chosen nothing 0)
     ∷ (select crew1 (map bare (7 ∷ 7 ∷ 9 ∷ 9 ∷ 8 ∷ [])) gives chosen any 7)
     ∷ (select crew3 (map bare (5 ∷ 5 ∷ 6 ∷ [])) gives chosen any 5)
-    ∷ (select crew3 (full 5 1 (0 ∶ 5 ∷ 1 ∶ 5 ∷ []) ∷ full 6 0 (0 ∶ 6 ∷ 1 ∶ 5 ∷ []) ∷ full 6 0 (0 ∶ 6 ∷ []) ∷ [])
-    gives chosen (plan 5) 5)
-    ∷ (select crew3 (full 5 1 (0 ∶ 5 ∷ 1 ∶ 5 ∷ []) ∷ full 6 0 (0 ∶ 6 ∷ []) ∷ full 6 0 (0 ∶ 6 ∷ []) ∷ [])
-    gives chosen nothing 0)
+    ∷ (select crew3 (phase2 (entry 0 6 ∷ entry 1 5 ∷ [])) gives chosen (plan 5) 5)
+    ∷ (select crew3 (phase2 (entry 0 6 ∷ [])) gives chosen nothing 0)
     ∷ (select crew2 (at 5 1 ∷ at 6 0 ∷ at 6 0 ∷ at 5 1 ∷ []) gives chosen (plan 5) 5)
-    -- class 1: E slots back nothing, and 2E slots are too few for 'any'
-    ∷ (select crew1 (map bare (7 ∷ 7 ∷ 9 ∷ 8 ∷ [])) gives chosen nothing 0)
-    -- a majority of what came backs nothing
+    -- Further examples: the bounds, from both sides.
+    -- class 1: E slots back nothing, not even as a majority of what came; 2E slots are too few for 'any'
     ∷ (select crew1 (map bare (7 ∷ 7 ∷ 9 ∷ [])) gives chosen nothing 0)
-    -- class 2: E + 1 slots make a ballot possible, E do not, nor does a stamp that equals its own
+    ∷ (select crew1 (map bare (7 ∷ 7 ∷ 9 ∷ 8 ∷ [])) gives chosen nothing 0)
+    -- class 2: E + 1 slots make a ballot possible, E do not, and a stamp equal to its own does not count among them
     ∷ (select crew2 (at 5 1 ∷ at 5 1 ∷ at 6 0 ∷ []) gives chosen (plan 5) 5)
     ∷ (select crew2 (at 5 1 ∷ at 5 1 ∷ at 6 1 ∷ []) gives chosen nothing 0)
     -- b possible slots back nothing
@@ -85,13 +85,15 @@ board =
     -- E + b slots are too few for 'any', one more is enough
     ∷ (select crew2 (map bare (5 ∷ 6 ∷ 7 ∷ [])) gives chosen nothing 0)
     ∷ (select crew2 (map bare (8 ∷ 7 ∷ 6 ∷ 5 ∷ [])) gives chosen any 5)
-    -- class 3: E slots with stamp 0 are too few for 'any'; a slot with another stamp does not help
+    -- class 3: E slots with stamp 0 are too few for 'any', however many count
     ∷ (select crew3 (at 5 0 ∷ at 6 0 ∷ at 7 1 ∷ at 8 1 ∷ []) gives chosen nothing 0)
-    -- the newest stamp does not win: 6 is listed at phase 1 by more than b slots, 5 at phase 2 by b
-    ∷ (select crew3 (full 5 2 (2 ∶ 5 ∷ []) ∷ full 6 1 (1 ∶ 6 ∷ []) ∷ full 6 1 (1 ∶ 6 ∷ []) ∷ at 6 0 ∷ [])
+    -- the newest stamp does not win: 5 is listed at phase 2 by b slots, 6 at phase 1 by more
+    ∷ (select crew3
+    (full 5 2 (entry 2 5 ∷ []) ∷ full 6 1 (entry 1 6 ∷ []) ∷ full 6 1 (entry 1 6 ∷ []) ∷ at 6 0 ∷ [])
     gives chosen (plan 6) 6)
-    -- several backed plans: 'any' over all counting slots, though only E have stamp 0
-    ∷ (select crew3 (full 5 2 (1 ∶ 6 ∷ 2 ∶ 5 ∷ []) ∷ full 6 1 (1 ∶ 6 ∷ 2 ∶ 5 ∷ []) ∷ at 6 0 ∷ at 6 0 ∷ [])
+    -- several backed plans: 'any' over all counting slots, though only E of them have stamp 0
+    ∷ (select crew3
+    (full 5 2 (entry 1 6 ∷ entry 2 5 ∷ []) ∷ full 6 1 (entry 1 6 ∷ entry 2 5 ∷ []) ∷ at 6 0 ∷ at 6 0 ∷ [])
     gives chosen any 6)
     -- validation: 2c must pass n + b, whatever came
     ∷ (validate crew2 (map bare (5 ∷ 5 ∷ 5 ∷ [])) gives settled 0)
@@ -112,6 +114,6 @@ answered (validate crew ballots) = settled (validated crew ballots)
 answered (decide crew phase ballots) = settled (decision (classOf crew) crew phase ballots)
 
 board-holds : map (λ e. answered (e .question)) board ≡ map (λ e. e .answer) board
-unfolding count lists least leastOf possible backed backing enough selection leading mostVoted taken
+unfolding count lists least leastOf possible backed backing enough selection leading mostVoted anyPlan taken
     valid validated decides decision
 board-holds = refl

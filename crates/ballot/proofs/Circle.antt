@@ -1,9 +1,8 @@
 -- Selection answers, and does not say 'none', where the slots of a circle of n − b − f honest senders count.
 -- Stated of one inbox of n slots. Assumes nothing.
 use mathlib.Core.Path.{_≡_, ap}
-use mathlib.Core.Bool.{Bool, true, _&&_, _||_}
+use mathlib.Core.Bool.{Bool, true, _||_}
 use mathlib.Core.List.{List}
-use mathlib.Core.Logic.{_⊎_, inl, inr}
 use mathlib.Core.Option.{Option, none, some}
 use Prim.Native.Nat.{ℕ, _+_, _-_, _≤_, _<_}
 use native.Mathlib.Omega.{arith}
@@ -80,4 +79,5 @@ module _ (crew : Crew) (slots : Slots) (circle : ℕ → Bool) (wide : crew .n �
             → ((a : ℕ) → a < crew .n → T (circle a) → stampOr (slots a) ≤ stampOr (slots q))
             → (m : Ballot) → slots q ≡ some m → Answers (selection three crew ballots)
         go q lq kq top m e =
-            highest q lq kq m e (λ a la ka o i. omega (arith, top a la ka, ap stampOr i, ap stampOr e)) (decLt 0 (m .stamp))
+            highest q lq kq m e (λ a la ka o i. omega (arith, top a la ka, ap stampOr i, ap stampOr e))
+            (decLt 0 (m .stamp))

@@ -39,7 +39,7 @@ Implies n p r = (q : ℕ) → q < n → T (p q) → T (r q)
 abbrev pub nobody-of : ℕ → Bool
 nobody-of q = false
 
-abbrev all-of : ℕ → Bool
+abbrev pub all-of : ℕ → Bool
 all-of q = true
 
 pub tally-none : (n : ℕ) → tally nobody-of n ≡ 0
@@ -47,7 +47,7 @@ unfolding tally
 tally-none zero = refl
 tally-none (suc n) = omega (arith, tally-none n)
 
-tally-all : (n : ℕ) → tally all-of n ≡ n
+pub tally-all : (n : ℕ) → tally all-of n ≡ n
 unfolding tally
 tally-all zero = refl
 tally-all (suc n) = omega (arith, tally-all n)
@@ -232,26 +232,21 @@ module _ {A : Type 0} where
   not-above : (g : A → ℕ) (a k : A) → g k ≤ g a → bit (ltb (g a) (g k)) ≡ 0
   not-above g a k h = bit-F (ltb (g a) (g k)) λ t. omega tests
 
-  -- a list that is not empty has an element at which g is largest
-  pub count-peak : (g : A → ℕ) (x : A) (l : List A)
-      → (a : A) × (count (λ k. ltb (g a) (g k)) (x ∷ l) ≡ 0) × ((p : A → Bool) → T (p a) → 0 < count p (x ∷ l))
+  -- a is in the list, and g is nowhere larger
+  abbrev pub Peak : (A → ℕ) → List A → A → Type 0
+  Peak g l a = (count (λ k. ltb (g a) (g k)) l ≡ 0) × ((p : A → Bool) → T (p a) → 0 < count p l)
+
+  -- a list that is not empty has such an element
+  pub count-peak : (g : A → ℕ) (x : A) (l : List A) → (a : A) × Peak g (x ∷ l) a
   unfolding count
-  count-peak g x [] = (x, omega (arith, not-above g x x (omega arith)), λ p t. omega (arith, bit-T (p x) t))
-  count-peak g x (y ∷ l) = let r = count-peak g y l in go (r .0) (r .1) (r .2) (decLe (g x) (g (r .0)))
+  count-peak g x [] = (x, (omega (arith, not-above g x x (omega arith)), λ p t. omega (arith, bit-T (p x) t)))
+  count-peak g x (y ∷ l) = let r = count-peak g y l in go (r .0) (r .1) (decLe (g x) (g (r .0)))
     where
-      go : (a : A) → count (λ k. ltb (g a) (g k)) (y ∷ l) ≡ 0 → ((p : A → Bool) → T (p a) → 0 < count p (y ∷ l))
-          → Dec (g x ≤ g a)
-          → (a : A) × (count (λ k. ltb (g a) (g k)) (x ∷ y ∷ l) ≡ 0) × ((p : A → Bool) → T (p a) → 0 < count p (x ∷ y ∷ l))
-      go a top there (yes h) = (a, omega (arith, not-above g a x h), λ p t. omega (arith, there p t))
-      go a top there (no h) = (
-        x,
-        omega (
-          arith,
-          not-above g x x (omega arith),
-          count-le (λ k. ltb (g x) (g k)) (λ k. ltb (g a) (g k)) (y ∷ l) (λ k t. omega tests),
-        ),
-        λ p t. omega (arith, bit-T (p x) t),
-      )
+      go : (a : A) → Peak g (y ∷ l) a → Dec (g x ≤ g a) → (a : A) × Peak g (x ∷ y ∷ l) a
+      go a top (yes h) = (a, (omega (arith, not-above g a x h, top .0), λ p t. omega (arith, top .1 p t)))
+      go a top (no h) =
+          let lower = count-le (λ k. ltb (g x) (g k)) (λ k. ltb (g a) (g k)) (y ∷ l) (λ k t. omega tests) in
+          (x, (omega (arith, not-above g x x (omega arith), top .0), λ p t. omega (arith, bit-T (p x) t)))
 
   -- Slots: what is counted in the list of the slots is counted over their numbers.
 

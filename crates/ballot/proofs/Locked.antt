@@ -1,6 +1,6 @@
--- Selection keeps a lock: a node that selects while v is locked takes v, or nothing (source document 000, theorems 5 to 7).
--- Stated of one inbox of n slots. Assumes nothing.
-use mathlib.Core.Path.{_≡_, refl, ap, _∙_}
+-- Selection keeps a lock: a node that selects while v is locked takes v, or nothing (source document 000, theorems 5 to
+-- 7). Stated of one inbox of n slots. Assumes nothing.
+use mathlib.Core.Path.{_≡_, refl, ap}
 use mathlib.Core.Bool.{Bool, true, false, not, _&&_, _||_}
 use mathlib.Core.List.{List}
 use mathlib.Core.Logic.{_⊎_, inl, inr, _≢_}
@@ -14,7 +14,7 @@ use Rattle.crew.specs.declared.Crew.{Crew}
 use Rattle.crew.specs.Thresholds.{Class, one, two, three, E}
 use Rattle.ballot.specs.Count.{tally, count}
 use Rattle.ballot.specs.Ballot.{Ballot, inbox, votes, stamped, lists}
-use Rattle.ballot.specs.Selection.{possible, backed, enough, selection, mostVoted, taken, takenOn}
+use Rattle.ballot.specs.Selection.{possible, backed, enough, selection, anyPlan, takenOn, taken}
 use Rattle.ballot.specs.Selection.{nobody, plan, nothing, answer}
 use Rattle.ballot.proofs.Tests.{and-T, T-and, or-T, T-or-l, T-or-r}
 use Rattle.ballot.proofs.Counting.{count-le, count-none, count-not, length-count}
@@ -27,10 +27,11 @@ abbrev pub Takes : ℕ → Class → Crew → List Ballot → Type 0
 Takes v class crew ballots = (taken class crew ballots ≡ v) ⊎ (taken class crew ballots ≡ 0)
 
 takes : (v : ℕ) (class : Class) (crew : Crew) (ballots : List Ballot)
-    → (selection class crew ballots ≡ plan v) ⊎ (selection class crew ballots ≡ nothing) → Takes v class crew ballots
+    → (selection class crew ballots ≡ plan v) ⊎ (selection class crew ballots ≡ nothing)
+    → Takes v class crew ballots
 unfolding taken
-takes v class crew ballots (inl e) = inl (ap (takenOn ballots) e)
-takes v class crew ballots (inr e) = inr (ap (takenOn ballots) e)
+takes v class crew ballots (inl e) = inl (ap (takenOn crew ballots) e)
+takes v class crew ballots (inr e) = inr (ap (takenOn crew ballots) e)
 
 -- What an inbox shows of a lock: a core of D − b senders at least, whose ballots all vote v with a stamp from t on.
 pub record Core (crew : Crew) (slots : Slots) (v t : ℕ) : Type 0 where
@@ -86,7 +87,10 @@ module _ (crew : Crew) (reach : crew .d + crew .b + crew .f ≤ crew .n) (slots 
         omega (
           tests,
           outside-lock-at-most-E (supports m) λ k e x y.
-              elim (or-T (votes (m .vote) k) (ltb (k .stamp) (m .stamp)) y) [ inl z ↦ omega tests | inr z ↦ omega tests ],
+              elim (or-T (votes (m .vote) k) (ltb (k .stamp) (m .stamp)) y) [
+                | inl z ↦ omega tests
+                | inr z ↦ omega tests
+              ],
         )
 
     -- Class 2: a rival backed by more than b possible slots would have an honest one, with a stamp below t.
@@ -168,7 +172,7 @@ module _ (crew : Crew) (reach : crew .d + crew .b + crew .f ≤ crew .n) (slots 
           omega (tests, outside-lock-at-most-E (stamped 0) (λ k e l x. omega tests)))
 
       -- under a common start (t = 0) every honest ballot votes v, so v leads wherever more than E slots count
-      leads-three : t ≡ 0 → T (enough three crew ballots) → mostVoted ballots ≡ v
+      leads-three : t ≡ 0 → T (enough three crew ballots) → anyPlan crew ballots ≡ v
       unfolding enough
       leads-three z h =
           let others = liars-at-most-b crew slots (λ m. not (votes v m)) honest few λ q l y k o x.
@@ -182,12 +186,12 @@ module _ (crew : Crew) (reach : crew .d + crew .b + crew .f ≤ crew .n) (slots 
       start-three : t ≡ 0 → Takes v three crew ballots
       unfolding taken
       start-three z = elim (selection-only three crew ballots v rivals-three) [
-        | inl e ↦ inl (ap (takenOn ballots) e)
+        | inl e ↦ inl (ap (takenOn crew ballots) e)
         | inr e ↦ rw (e .0) (go (enough three crew ballots) (leads-three z))
       ]
         where
-          go : (e : Bool) → (T e → mostVoted ballots ≡ v)
-              → (takenOn ballots (answer three nobody e) ≡ v) ⊎ (takenOn ballots (answer three nobody e) ≡ 0)
+          go : (e : Bool) → (T e → anyPlan crew ballots ≡ v)
+              → (takenOn crew ballots (answer three nobody e) ≡ v) ⊎ (takenOn crew ballots (answer three nobody e) ≡ 0)
           go true h = inl (h tt)
           go false h = inr refl
 

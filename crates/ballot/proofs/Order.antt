@@ -1,5 +1,5 @@
--- An inbox's order does not matter: two lists with the same ballots, each as often, give the same selection, the same plan
--- taken, the same validation and the same decision. Assumes nothing.
+-- An inbox's order does not matter: two lists with the same ballots, each as often, give the same selection, the same
+-- plan taken, the same validation and the same decision. Assumes nothing.
 use mathlib.Core.Path.{_≡_, refl, ap, ap₂, _∙_, fun-ext}
 use mathlib.Core.Bool.{Bool, true, false, cond, _&&_}
 use mathlib.Core.List.{List, [], _∷_}
@@ -22,14 +22,16 @@ use Rattle.ballot.proofs.Counting.{bit-T, length-count}
 use Rattle.ballot.proofs.Least.{Same, least-same, leastOf-same}
 use Rattle.ballot.proofs.AnyPlan.{any-same}
 
--- Lists that have each element as often have the same counts, whatever the test: take one element out of both, and go on.
+-- Lists that have each element as often have the same counts, whatever the test: take one element out of both, go on.
 
-module _ {A : Type 0} (same : A → A → Bool) (sound : (a b : A) → T (same a b) → a ≡ b) (self : (a : A) → T (same a a)) where
+module _ {A : Type 0} (same : A → A → Bool) (sound : (a b : A) → T (same a b) → a ≡ b)
+    (self : (a : A) → T (same a a)) where
   without : A → List A → List A
   without x [] = []
   without x (y ∷ l) = cond (same x y) l (y ∷ without x l)
 
-  take-out : (p : A → Bool) (x : A) (l : List A) → 0 < count (same x) l → count p l ≡ bit (p x) + count p (without x l)
+  take-out : (p : A → Bool) (x : A) (l : List A) → 0 < count (same x) l
+      → count p l ≡ bit (p x) + count p (without x l)
   unfolding without count
   take-out p x [] h = absurd (omega arith)
   take-out p x (y ∷ l) h = go (same x y) refl h (take-out p x l)
@@ -132,9 +134,9 @@ module _ (crew : Crew) (l k : List Ballot) (s : Same l k) where
   unfolding taken
   taken-same class = rw (selection-same class) (go (selection class crew k))
     where
-      go : (c : Choice) → takenOn l c ≡ takenOn k c
+      go : (c : Choice) → takenOn crew l c ≡ takenOn crew k c
       go (plan v) = refl
-      go any = any-same l k s
+      go any = any-same crew l k s
       go nothing = refl
 
   pub validated-same : validated crew l ≡ validated crew k

@@ -1,5 +1,5 @@
--- Selection by counts: whether none, exactly one or several plans are backed, when the answer is not 'none', and that the plan
--- taken is a slot's vote. Builds on specs/Selection.antt. Assumes nothing.
+-- Selection by counts: whether none, exactly one or several plans are backed, when the answer is not 'none', and that
+-- the plan taken is a slot's vote. Builds on specs/Selection.antt. Assumes nothing.
 use mathlib.Core.Path.{_≡_, refl, ap, _∙_}
 use mathlib.Core.Bool.{Bool, true, false, not, cond, _&&_}
 use mathlib.Core.List.{List}
@@ -18,7 +18,8 @@ use Rattle.ballot.specs.Count.{count}
 use Rattle.ballot.specs.Ballot.{Ballot, votes}
 use Rattle.ballot.specs.Least.{least}
 use Rattle.ballot.specs.Selection.{backed, Backing, nobody, sole, several, besides, backing}
-use Rattle.ballot.specs.Selection.{Choice, plan, any, nothing, enough, anyIf, answer, selection, takenOn, taken}
+use Rattle.ballot.specs.Selection.{Choice, plan, any, nothing, anyIf, enough, answer, selection}
+use Rattle.ballot.specs.Selection.{takenOn, taken}
 use Rattle.ballot.proofs.Tests.{and-T, T-and}
 use Rattle.ballot.proofs.Counting.{count-le}
 use Rattle.ballot.proofs.Least.{withVote, withVote-votes, Least, nowhere, found, least-is, Voted}
@@ -30,8 +31,10 @@ otherVote p v m = p m && not (votes v m)
 
 pub data Backs (p : Ballot → Bool) (ballots : List Ballot) : Backing → Type 0 where
   by-none : count p ballots ≡ 0 → Backs p ballots nobody
-  by-one : (v : ℕ) → 0 < count (withVote p v) ballots → count (otherVote p v) ballots ≡ 0 → Backs p ballots (sole v)
-  by-more : (v : ℕ) → 0 < count (withVote p v) ballots → 0 < count (otherVote p v) ballots → Backs p ballots several
+  by-one : (v : ℕ) → 0 < count (withVote p v) ballots → count (otherVote p v) ballots ≡ 0
+      → Backs p ballots (sole v)
+  by-more : (v : ℕ) → 0 < count (withVote p v) ballots → 0 < count (otherVote p v) ballots
+      → Backs p ballots several
 
 module _ (p : Ballot → Bool) (ballots : List Ballot) where
   pub backing-is : Backs p ballots (backing p ballots)
@@ -124,14 +127,16 @@ unfolding selection
 backed-answers crew ballots h =
     go (backing (backed three crew ballots) ballots) (backing-is (backed three crew ballots) ballots)
   where
-    go : (b : Backing) → Backs (backed three crew ballots) ballots b → Answers (answer three b (enough three crew ballots))
+    go : (b : Backing) → Backs (backed three crew ballots) ballots b
+        → Answers (answer three b (enough three crew ballots))
     go nobody (by-none z) = absurd (omega arith)
     go (sole v) x = tt
     go several x = tt
 
 -- The plan taken.
 
-sole-voted : (p : Ballot → Bool) (ballots : List Ballot) (v : ℕ) → Backs p ballots (sole v) → 0 < count (votes v) ballots
+sole-voted : (p : Ballot → Bool) (ballots : List Ballot) (v : ℕ) → Backs p ballots (sole v)
+    → 0 < count (votes v) ballots
 sole-voted p ballots v (by-one _ i z) = omega (arith, withVote-votes p v ballots)
 
 module _ (class : Class) (crew : Crew) (ballots : List Ballot) where
@@ -143,17 +148,17 @@ module _ (class : Class) (crew : Crew) (ballots : List Ballot) where
       test : Ballot → Bool
       test = backed class crew ballots
 
-      open-choice : (e : Bool) → Voted (takenOn ballots (anyIf e)) ballots
-      open-choice true = any-voted ballots
+      open-choice : (e : Bool) → Voted (takenOn crew ballots (anyIf e)) ballots
+      open-choice true = any-voted crew ballots
       open-choice false = inl refl
 
       go : (class : Class) (b : Backing) → Backs test ballots b → (e : Bool)
-          → Voted (takenOn ballots (answer class b e)) ballots
+          → Voted (takenOn crew ballots (answer class b e)) ballots
       go class nobody d e = open-choice e
       go class (sole v) d e = inr (sole-voted test ballots v d)
       go one several d e = open-choice e
       go two several d e = open-choice e
-      go three several d e = any-voted ballots
+      go three several d e = any-voted crew ballots
 
   -- where selection answers, slots count and none votes 0, a plan is taken
   pub taken-plan : 0 < length ballots → count (votes 0) ballots ≡ 0 → Answers (selection class crew ballots)
@@ -164,14 +169,14 @@ module _ (class : Class) (crew : Crew) (ballots : List Ballot) where
       test : Ballot → Bool
       test = backed class crew ballots
 
-      open-choice : (e : Bool) → Answers (anyIf e) → takenOn ballots (anyIf e) ≢ 0
-      open-choice true a = any-plan ballots h z
+      open-choice : (e : Bool) → Answers (anyIf e) → takenOn crew ballots (anyIf e) ≢ 0
+      open-choice true a = any-plan crew ballots h z
       open-choice false a = absurd a
 
       go : (class : Class) (b : Backing) → Backs test ballots b → (e : Bool) → Answers (answer class b e)
-          → takenOn ballots (answer class b e) ≢ 0
+          → takenOn crew ballots (answer class b e) ≢ 0
       go class nobody d e a = open-choice e a
       go class (sole v) d e a = λ x. omega (arith, sole-voted test ballots v d, ap (λ y. count (votes y) ballots) x)
       go one several d e a = open-choice e a
       go two several d e a = open-choice e a
-      go three several d e a = any-plan ballots h z
+      go three several d e a = any-plan crew ballots h z

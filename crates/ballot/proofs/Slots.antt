@@ -11,7 +11,8 @@ use Rattle.crew.specs.Thresholds.{E}
 use Rattle.ballot.specs.Count.{tally, count, holds}
 use Rattle.ballot.specs.Ballot.{Ballot, inbox}
 use Rattle.ballot.proofs.Tests.{holds-T, T-holds}
-use Rattle.ballot.proofs.Counting.{tally-le, tally-has, tally-none, tally-apart, nobody-of, count-gather}
+use Rattle.ballot.proofs.Counting.{Implies, tally-le, tally-has, tally-none, tally-meet, tally-apart, nobody-of}
+use Rattle.ballot.proofs.Counting.{count-gather}
 
 -- the slots of an inbox, by port
 abbrev pub Slots : Type 0
@@ -26,7 +27,8 @@ abbrev pub FewLiars : Crew → (ℕ → Bool) → Type 0
 FewLiars crew honest = tally (λ q. not (honest q)) (crew .n) ≤ crew .b
 
 module _ (crew : Crew) (slots : Slots) (p : Ballot → Bool) where
-  pub slot-counts : (q : ℕ) → q < crew .n → (m : Ballot) → slots q ≡ some m → T (p m) → 0 < count p (inbox crew slots)
+  pub slot-counts : (q : ℕ) → q < crew .n → (m : Ballot) → slots q ≡ some m → T (p m)
+      → 0 < count p (inbox crew slots)
   slot-counts q l m e t =
       omega (
         arith,
@@ -80,15 +82,18 @@ module _ (crew : Crew) (slots : Slots) (p : Ballot → Bool) where
             let r = present q l k in T-holds p (slots q) (r .0) (r .1) (h q l k (r .0) (r .1)),
       )
 
--- Overlap: where two counts make more than n + b, some honest slot passes both tests.
-pub overlap : (crew : Crew) (honest : ℕ → Bool) → FewLiars crew honest → (left right : Slots) (p r : Ballot → Bool)
+-- Overlap: two tests that no honest slot passes both. If their slots come from certain senders, the two counts make at
+-- most the number of these senders and b.
+pub overlap : (crew : Crew) (honest : ℕ → Bool) → FewLiars crew honest → (senders : ℕ → Bool) (left right : Slots)
+    (p r : Ballot → Bool)
+    → Implies (crew .n) (λ q. holds p (left q)) senders → Implies (crew .n) (λ q. holds r (right q)) senders
     → ((q : ℕ) → q < crew .n → T (honest q) → T (holds p (left q)) → T (holds r (right q)) → ⊥)
-    → count p (inbox crew left) + count r (inbox crew right) ≤ crew .n + crew .b
-overlap crew honest few left right p r apart =
+    → count p (inbox crew left) + count r (inbox crew right) ≤ tally senders (crew .n) + crew .b
+overlap crew honest few senders left right p r in-left in-right apart =
     omega (
       arith,
       count-gather p left (crew .n),
       count-gather r right (crew .n),
-      tally-apart (λ q. holds p (left q)) (λ q. holds r (right q)) (λ q. not (honest q)) (crew .n) λ q l s t.
-          not-T (honest q) (λ h. apart q l h s t),
+      tally-meet (λ q. holds p (left q)) (λ q. holds r (right q)) senders (λ q. not (honest q)) (crew .n) in-left in-right
+          λ q l s t. not-T (honest q) (λ h. apart q l h s t),
     )

@@ -1,5 +1,6 @@
 -- A ballot is what one counting slot says; the rules see an inbox as the list of its ballots.
--- Document 01, 'Messages': "A slot counts when reading it succeeds and its run, kind and phase are those of the node's coming round".
+-- Document 01, 'Messages': "A slot counts when reading it succeeds and its run, kind and phase are those of the node's
+-- coming round".
 use mathlib.Core.Bool.{Bool, true, false, _&&_}
 use mathlib.Core.List.{List, [], _∷_}
 use mathlib.Core.Option.{Option}
@@ -33,7 +34,8 @@ unfoldable pub lists : ℕ → ℕ → Ballot → Bool
 lists v t m = ltb 0 (count (isEntry t v) (m .entries))
 
 -- Two ballots say the same.
--- 01: "Two inboxes with the same counting messages, each in as many slots of one as of the other, give the same answers."
+-- 01: "Two inboxes with the same counting messages, each in as many slots of one as of the other, give the same
+-- answers."
 abbrev pub sameEntry : Entry → Entry → Bool
 sameEntry a b = eqb (a .phase) (b .phase) && eqb (a .plan) (b .plan)
 

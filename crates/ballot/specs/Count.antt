@@ -1,4 +1,5 @@
--- Counting: how many elements of a list, or how many numbers below n, pass a test. Every rule of document 01 goes by counts.
+-- Counting: how many elements of a list, or how many numbers below n, pass a test. Every rule of document 01 goes by
+-- counts of slots.
 use mathlib.Core.Bool.{Bool, true, false}
 use mathlib.Core.List.{List, [], _∷_}
 use mathlib.Core.Option.{Option, none, some}

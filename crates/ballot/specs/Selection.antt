@@ -68,20 +68,25 @@ answer three several slots = any
 unfoldable pub selection : Class → Crew → List Ballot → Choice
 selection class crew ballots = answer class (backing (backed class crew ballots) ballots) (enough class crew ballots)
 
--- no ballot's vote has more slots than v
+-- no vote has more slots than v
 unfoldable pub leading : List Ballot → ℕ → Bool
 leading ballots v =
     eqb (count (λ k. ltb (count (votes v) ballots) (count (votes (k .vote)) ballots)) ballots) 0
 
--- 01: "For 'any' the node takes the vote of most slots, the least plan on a tie"
+-- "the vote of most slots, the least plan on a tie"
 unfoldable pub mostVoted : List Ballot → ℕ
 mostVoted ballots = leastOf (leading ballots) ballots
 
+-- What a node of this crew takes for 'any'.
+-- 01: "For 'any' the node takes the vote of most slots, the least plan on a tie"
+unfoldable pub anyPlan : Crew → List Ballot → ℕ
+anyPlan crew ballots = mostVoted ballots
+
 -- 01: "Select is the plan, or 0 for 'none'": what a node takes on an answer
-abbrev pub takenOn : List Ballot → Choice → ℕ
-takenOn ballots (plan v) = v
-takenOn ballots any = mostVoted ballots
-takenOn ballots nothing = 0
+abbrev pub takenOn : Crew → List Ballot → Choice → ℕ
+takenOn crew ballots (plan v) = v
+takenOn crew ballots any = anyPlan crew ballots
+takenOn crew ballots nothing = 0
 
 unfoldable pub taken : Class → Crew → List Ballot → ℕ
-taken class crew ballots = takenOn ballots (selection class crew ballots)
+taken class crew ballots = takenOn crew ballots (selection class crew ballots)

@@ -152,7 +152,6 @@ unfolding entriesBelow count
 lists-below history zero phase v l e d = absurd (omega arith)
 lists-below history (suc j) phase v l e d = go (ℕ-discrete phase j) (λ h. lists-below history j phase v h e d)
   where
-
     it : ℕ → Entry
     it x = record { phase = j; plan = x }
 

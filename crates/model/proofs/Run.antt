@@ -79,8 +79,8 @@ module _ (run : Run) (l : Locking (class run) (run .crew) (run .honest))
     | no e ↦
         let y = lock-at v i j (omega arith) (omega arith) x in
         moves run (l .Lock v) j
-            (λ u. l .lock-step (run .rounds j) (state run j) v (inv-at j (omega arith)) (faithful j (omega arith, u)) y)
-            (λ u. y)
+        (λ u. l .lock-step (run .rounds j) (state run j) v (inv-at j (omega arith)) (faithful j (omega arith, u)) y)
+        (λ u. y)
   ]
 
   locked : (i j v w p : ℕ) → i ≤ j → l .Lock v (state run i) → p < run .crew .n → T (run .honest p)
