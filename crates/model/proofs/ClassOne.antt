@@ -1,10 +1,10 @@
 -- Class 1: a decision locks the votes of D − b honest nodes, and selection keeps them. Assumes nothing.
-use mathlib.Core.Path.{_≡_, sym, ap, _∙_}
+use mathlib.Core.Path.{_≡_, sym, _∙_}
 use mathlib.Core.Bool.{Bool, not, _&&_}
 use mathlib.Core.List.{List}
-use mathlib.Core.Logic.{_⊎_, inl, inr}
-use mathlib.Core.Option.{Option, none, some}
-use Prim.Native.Nat.{ℕ, _+_, _*_, _≤_, _<_}
+use mathlib.Core.Logic.{inl, inr}
+use mathlib.Core.Option.{some}
+use Prim.Native.Nat.{ℕ, _+_, _≤_, _<_}
 use native.Mathlib.Omega.{arith}
 use native.Mathlib.Decide.{ℕ-discrete}
 use lib.Dec.{T, eqb→eq}
@@ -21,9 +21,9 @@ use Rattle.ballot.proofs.Counting.{count-gather, tally-split, tally-not}
 use Rattle.ballot.proofs.Slots.{FewLiars}
 use Rattle.ballot.proofs.Locked.{Core, Takes, outside-lock-at-most-E, lock-taken-one}
 use Rattle.model.specs.Node.{Node, Round, selecting, validating, deciding, ifPlan, say, turn}
-use Rattle.model.specs.Run.{State, Inboxes, roundAfter, step, Faithful, Decides, start}
+use Rattle.model.specs.Run.{Each, State, Inboxes, roundAfter, step, Faithful, Decides}
 use Rattle.model.proofs.Node.{ifPlan-is, said, same-vote}
-use Rattle.model.proofs.Run.{Each, heard, Locking}
+use Rattle.model.proofs.Run.{heard, Locking}
 
 -- the rounds that class 1 has
 abbrev pub InClassOne : Round → Type 0
@@ -64,47 +64,47 @@ module _ (crew : Crew) (honest : ℕ → Bool) (few : FewLiars crew honest)
     members : Each crew core (λ q. T (honest q) × (s .node q .vote ≡ v))
 
   -- the lock as an honest node's inbox shows it
-  shown : (i : Inboxes) (s : State) (v : ℕ) → InClassOne (s .round) → Faithful one crew honest i s → Lock v s
-      → (p : ℕ) → p < crew .n → T (honest p) → Core crew (i p) v 0
-  shown i s v o f l p lp hp = record {
+  shown : (i : Inboxes) (s : State) → InClassOne (s .round) → Faithful one crew honest i s
+      → (v : ℕ) → Lock v s → Each crew honest λ p. Core crew (i p) v 0
+  shown i s o f v l p lp hp = record {
     core = l .core;
     ample = l .ample;
     says = λ q lq k m e.
         let d = l .members q lq k in
-        let m-is = heard one crew honest i s f p q lp lq hp (d .0) m e in
+        let m-is = heard one crew honest i s f p lp hp q lq (d .0) m e in
         (sym (says-vote crew (s .round) o (s .phase) q (s .node q) m m-is) ∙ d .1, omega arith);
   }
 
-  lock-step : (i : Inboxes) (s : State) (v : ℕ) → InClassOne (s .round) → Faithful one crew honest i s → Lock v s
-      → Lock v (step one crew i s)
-  lock-step i s v o f l = record {
+  lock-step : (i : Inboxes) (s : State) → InClassOne (s .round) → Faithful one crew honest i s
+      → (v : ℕ) → Lock v s → Lock v (step one crew i s)
+  lock-step i s o f v l = record {
     core = l .core;
     ample = l .ample;
     members = λ q lq k.
         let d = l .members q lq k in (
           d .0,
           keeps-vote crew (s .round) o (s .phase) (inbox crew (i q)) (s .node q) v (d .1)
-              (lock-taken-one crew reach (i q) v 0 (shown i s v o f l q lq (d .0))),
+              (lock-taken-one crew reach (i q) v 0 (shown i s o f v l q lq (d .0))),
         );
   }
 
   -- another plan has at most E slots, and D passes E
-  lock-decides : (i : Inboxes) (s : State) (v w p : ℕ) → InClassOne (s .round) → Faithful one crew honest i s
-      → p < crew .n → T (honest p) → Lock v s → Decides one crew i s p w → w ≡ v
+  decision-locked : (i : Inboxes) (s : State) → InClassOne (s .round) → Faithful one crew honest i s
+      → Each crew honest λ p. (v w : ℕ) → Decides one crew i s p v → Lock w s → v ≡ w
   unfolding decides
-  lock-decides i s v w p o f lp hp l d = elim (ℕ-discrete w v) [
+  decision-locked i s o f p lp hp v w d l = elim (ℕ-discrete v w) [
     | yes e ↦ e
     | no e ↦
-        let few-votes = outside-lock-at-most-E crew reach (i p) v 0 (shown i s v o f l p lp hp) (votes w) λ m x y z.
+        let few-votes = outside-lock-at-most-E crew reach (i p) w 0 (shown i s o f w l p lp hp) (votes v) λ m x y z.
         omega tests in
         omega (tests, d .1)
   ]
 
   -- of the D slots that decide at least D − b are honest
-  decides-lock : (i : Inboxes) (s : State) (v p : ℕ) → InClassOne (s .round) → Faithful one crew honest i s
-      → p < crew .n → T (honest p) → Decides one crew i s p v → Lock v s
+  decision-locks : (i : Inboxes) (s : State) → InClassOne (s .round) → Faithful one crew honest i s
+      → Each crew honest λ p. (v : ℕ) → Decides one crew i s p v → Lock v s
   unfolding decides
-  decides-lock i s v p o f lp hp d =
+  decision-locks i s o f p lp hp v d =
       let voter : ℕ → Bool = λ q. holds (votes v) (i p q) in
       record {
         core = λ q. honest q && voter q;
@@ -112,7 +112,7 @@ module _ (crew : Crew) (honest : ℕ → Bool) (few : FewLiars crew honest)
         members = λ q lq k.
             let a = and-T (honest q) (voter q) k in
             let h = holds-T (votes v) (i p q) (a .1) in
-            let m-is = heard one crew honest i s f p q lp lq hp (a .0) (h .0) (h .1) in
+            let m-is = heard one crew honest i s f p lp hp q lq (a .0) (h .0) (h .1) in
             (a .0, says-vote crew (s .round) o (s .phase) q (s .node q) (h .0) m-is ∙ eqb→eq _ _ (h .2));
       }
 
@@ -128,6 +128,6 @@ module _ (crew : Crew) (honest : ℕ → Bool) (few : FewLiars crew honest)
     };
     inv-step = λ i s t o f. in-class-one-after (s .round) o;
     lock-step = lock-step;
-    decides-lock = decides-lock;
-    lock-decides = lock-decides;
+    decision-locks = decision-locks;
+    decision-locked = decision-locked;
   }

@@ -1,9 +1,9 @@
--- A good phase: its circle selects one plan, validates it in classes 2 and 3, and decides it. Stated of one phase, whatever
--- went before. Assumes nothing.
-use mathlib.Core.Path.{_≡_, refl, sym, ap, _∙_}
-use mathlib.Core.Bool.{Bool, true, not, _&&_}
-use mathlib.Core.List.{List, []}
-use mathlib.Core.Logic.{_⊎_, inl, inr, _≢_}
+-- A good phase: its circle selects one plan, validates it in classes 2 and 3, and decides it. Stated of one phase,
+-- whatever went before. Assumes nothing.
+use mathlib.Core.Path.{_≡_, sym, _∙_}
+use mathlib.Core.Bool.{Bool, not, _&&_}
+use mathlib.Core.List.{[]}
+use mathlib.Core.Logic.{inl, inr, _≢_}
 use mathlib.Core.Option.{Option, none, some}
 use Prim.Native.Nat.{ℕ, _+_, _-_, _*_, _≤_, _<_}
 use native.Mathlib.Omega.{arith}
@@ -21,22 +21,21 @@ use Rattle.ballot.proofs.Tests.{and-T, T-and, T-holds}
 use Rattle.ballot.proofs.Counting.{count-gather, tally-le, tally-meet, tally-not, tally-some}
 use Rattle.ballot.proofs.Least.{Same}
 use Rattle.ballot.proofs.Selection.{Answers, taken-plan}
-use Rattle.ballot.proofs.Slots.{FewLiars, slot-counts, circle-passes}
+use Rattle.ballot.proofs.Slots.{slot-counts, circle-passes}
 use Rattle.ballot.proofs.Validation.{valid-validated}
 use Rattle.ballot.proofs.Decision.{Stamps, stamp-fresh}
 use Rattle.ballot.proofs.Order.{taken-same}
 use Rattle.ballot.proofs.Circle.{circle-counts, answers-one, answers-two, answers-three}
-use Rattle.model.specs.Node.{Node, Round, selecting, validating, deciding, ifPlan, entriesBelow, say}
-use Rattle.model.specs.Run.{State, Inboxes, turned, step}
+use Rattle.model.specs.Node.{Node, Round, selecting, validating, deciding, ifPlan, entriesBelow}
+use Rattle.model.specs.Run.{Each, State, Inboxes, turned, step, saying}
 use Rattle.model.proofs.Node.{ifPlan-is, confirms-is, said, same-vote, same-stamp, lists-below}
-use Rattle.model.proofs.Run.{Each, at}
+use Rattle.model.proofs.Run.{at}
 use Rattle.model.proofs.Invariant.{Invariant, listers}
 use Rattle.model.proofs.Phases.{Unstamped}
 
 -- each circle node's slot, in each circle node's inbox, holds what that node says
 abbrev pub Hears : Class → Crew → (ℕ → Bool) → Inboxes → State → Type 0
-Hears class crew circle i s = Each crew circle λ p. Each crew circle λ q.
-    i p q ≡ say class crew (s .phase) (s .round) q (s .node q)
+Hears class crew circle i s = Each crew circle λ p. Each crew circle λ q. i p q ≡ saying class crew s q
 
 -- all of the circle have the same counting messages, and in none of them is the plan 0
 pub record Alike (crew : Crew) (circle : ℕ → Bool) (i : Inboxes) : Type 0 where
@@ -76,7 +75,7 @@ module _ (crew : Crew) (circle : ℕ → Bool) (wide : crew .n ≤ tally circle 
   all-validated class i phase nodes v enough plan hears select p lp kp =
       let many = circle-passes crew (i p) (votes v) circle wide (λ q lq kq. (_, says q lq kq)) λ q lq kq m e.
       omega (tests, select q lq kq, same-vote (said (sym (says q lq kq) ∙ e))) in
-      valid-validated crew (i p) v (omega arith)
+      valid-validated crew phase (i p) v (omega arith)
     where
       spoken : ℕ → Ballot
       spoken q = record { vote = nodes q .select; stamp = 0; entries = [] }
@@ -95,14 +94,13 @@ module _ (crew : Crew) (circle : ℕ → Bool) (wide : crew .n ≤ tally circle 
       → Each crew circle (λ p. T (decides class crew phase (inbox crew (i p)) v))
   unfolding decides
   all-decide class i phase nodes v hears speak p lp kp =
-      omega (
-        tests,
-        circle-passes crew (i p) (λ m. fresh class phase m && votes v m) circle wide (λ q lq kq. (_, hears p lp kp q lq kq))
-            λ q lq kq m e.
-            let y : Ballot = record { vote = nodes q .vote; stamp = nodes q .stamp; entries = [] } in
-            let t = speak q lq kq in
-            rw (← (said (sym (hears p lp kp q lq kq) ∙ e))) (T-and (fresh class phase y) (votes v y) (t .1) (omega tests)),
-      )
+      let test : Ballot → Bool = λ m. fresh class phase m && votes v m in
+      let many = circle-passes crew (i p) test circle wide (λ q lq kq. (_, hears p lp kp q lq kq)) λ q lq kq m e.
+      let y : Ballot = record { vote = nodes q .vote; stamp = nodes q .stamp; entries = [] } in
+      let t = speak q lq kq in
+      let same : y ≡ m = said (sym (hears p lp kp q lq kq) ∙ e) in
+      rw (← same) (T-and (fresh class phase y) (votes v y) (t .1) (omega tests)) in
+      omega tests
 
   -- Class 1: two rounds.
   pub two-rounds : (class : Class) → Unstamped class → anyAbove class crew < crew .n - crew .b - crew .f
@@ -111,8 +109,10 @@ module _ (crew : Crew) (circle : ℕ → Bool) (wide : crew .n ≤ tally circle 
       → Hears class crew circle g (step class crew i s) → CircleDecides class crew circle phase g)
   two-rounds two a above i g phase round nodes r h alike h₂ = absurd a
   two-rounds three a above i g phase round nodes r h alike h₂ = absurd a
-  two-rounds one a above i g phase validating nodes r h alike h₂ = absurd (let y : _≡_ {A = ℕ} 0 1 = cc in omega arith)
-  two-rounds one a above i g phase deciding nodes r h alike h₂ = absurd (let y : _≡_ {A = ℕ} 0 1 = cc in omega arith)
+  two-rounds one a above i g phase validating nodes r h alike h₂ =
+      absurd (let y : _≡_ {A = ℕ} 0 1 = cc in omega arith)
+  two-rounds one a above i g phase deciding nodes r h alike h₂ =
+      absurd (let y : _≡_ {A = ℕ} 0 1 = cc in omega arith)
   two-rounds one a above i g phase selecting nodes r h alike h₂ =
       let v = one-plan one i phase nodes h alike λ p lp kp.
       answers-one crew (i p) circle wide (λ q lq kq. (_, h p lp kp q lq kq)) above in (
@@ -150,18 +150,23 @@ module _ (crew : Crew) (circle : ℕ → Bool) (wide : crew .n ≤ tally circle 
             let is-v = all-validated class e phase nodes₁ v enough plan h₂ takes q lq kq in
             elim (confirms-is x phase (nodes₁ q .base) (nodes₁ q .stamp)) [
               | inl z ↦ absurd (plan (omega arith))
-              | inr z ↦ (omega arith, stamp-fresh class stamps phase (record { vote = _; stamp = _; entries = [] }) (omega arith))
+              | inr z ↦ (omega arith, stamp-fresh class stamps phase _ (omega arith))
             ],
       )
 
   -- Class 3: selection answers, for the circle's highest stamp is listed by more than b of the circle.
   module _ (honest : ℕ → Bool) (inside : Each crew circle (λ q. T (honest q)))
-      (size : 3 * crew .b + 2 * crew .f < crew .n) (above : anyAbove three crew < crew .n - crew .b - crew .f)
+      (strong : 4 * crew .b + 2 * crew .f < validAbove crew)
+      (above : anyAbove three crew < crew .n - crew .b - crew .f)
       (phase : ℕ) (nodes : ℕ → Node) (j : Invariant crew honest (at phase selecting nodes)) (i : Inboxes)
       (h : Hears three crew circle i (at phase selecting nodes)) (alike : Alike crew circle i)
       (p : ℕ) (lp : p < crew .n) (kp : T (circle p)) where
     spoken : ℕ → Ballot
-    spoken q = record { vote = nodes q .vote; stamp = nodes q .stamp; entries = entriesBelow (nodes q .history) phase }
+    spoken q = record {
+      vote = nodes q .vote;
+      stamp = nodes q .stamp;
+      entries = entriesBelow (nodes q .history) phase;
+    }
 
     votes-plan : Each crew circle (λ q. nodes q .vote ≢ 0)
     unfolding spoken
@@ -169,7 +174,7 @@ module _ (crew : Crew) (circle : ℕ → Bool) (wide : crew .n ≤ tally circle 
         let zero-vote = slot-counts crew (i p) (votes 0) q lq (spoken q) (h p lp kp q lq kq) (omega tests) in
         omega (arith, alike .plans p lp kp)
 
-    -- Listers of the stamp, counted with the liars, pass (n + b) / 2; at most b + f of them are outside the circle.
+    -- those who let the stamp be validated are more than 2b + f, and at most b + f of them are outside the circle
     stamp-listed : Each crew circle λ q.
         0 < nodes q .stamp → crew .b < count (lists (nodes q .vote) (nodes q .stamp)) (inbox crew (i p))
     unfolding spoken lists
@@ -199,7 +204,8 @@ module _ (crew : Crew) (circle : ℕ → Bool) (wide : crew .n ≤ tally circle 
         let w = said (sym (h p lp kp y ly ky) ∙ f) in
         let hx = inside x lx kx in
         let hy = inside y ly ky in
-        let one-base = j .unique x lx hx y ly hy (omega (arith, same-stamp u, same-stamp w)) (omega (arith, same-stamp u)) in
+        let stamps : nodes x .stamp ≡ nodes y .stamp = omega (arith, same-stamp u, same-stamp w) in
+        let one-base = j .unique x lx hx y ly hy stamps (omega (arith, same-stamp u)) in
         omega (arith, same-vote u, same-vote w, j .each x lx hx .voted, j .each y ly hy .voted))
         (λ x lx kx m e pos.
         let u = said (sym (h p lp kp x lx kx) ∙ e) in
@@ -207,20 +213,21 @@ module _ (crew : Crew) (circle : ℕ → Bool) (wide : crew .n ≤ tally circle 
 
   -- Classes 2 and 3: a good phase.
   pub good-rounds : (class : Class) → Stamps class → (honest : ℕ → Bool) → Each crew circle (λ q. T (honest q))
-      → 3 * crew .b + 2 * crew .f < crew .n → validAbove crew < 2 * (crew .n - crew .b - crew .f)
+      → 4 * crew .b + 2 * crew .f < validAbove crew → validAbove crew < 2 * (crew .n - crew .b - crew .f)
       → anyAbove class crew < crew .n - crew .b - crew .f
       → (i e g : Inboxes) (phase : ℕ) (round : Round) (nodes : ℕ → Node) → round ≡ selecting
       → (let s = at phase round nodes in Invariant crew honest s → Hears class crew circle i s → Alike crew circle i
-      → Hears class crew circle e (step class crew i s) → Hears class crew circle g (step class crew e (step class crew i s))
+      → Hears class crew circle e (step class crew i s)
+      → Hears class crew circle g (step class crew e (step class crew i s))
       → CircleDecides class crew circle phase g)
-  good-rounds class a honest inside size enough above i e g phase validating nodes r j h alike h₂ h₃ =
+  good-rounds class a honest inside strong enough above i e g phase validating nodes r j h alike h₂ h₃ =
       absurd (let y : _≡_ {A = ℕ} 0 1 = cc in omega arith)
-  good-rounds class a honest inside size enough above i e g phase deciding nodes r j h alike h₂ h₃ =
+  good-rounds class a honest inside strong enough above i e g phase deciding nodes r j h alike h₂ h₃ =
       absurd (let y : _≡_ {A = ℕ} 0 1 = cc in omega arith)
-  good-rounds one a honest inside size enough above i e g phase selecting nodes r j h alike h₂ h₃ = absurd a
-  good-rounds two a honest inside size enough above i e g phase selecting nodes r j h alike h₂ h₃ =
+  good-rounds one a honest inside strong enough above i e g phase selecting nodes r j h alike h₂ h₃ = absurd a
+  good-rounds two a honest inside strong enough above i e g phase selecting nodes r j h alike h₂ h₃ =
       three-rounds two a enough i e g phase nodes h alike
       (λ p lp kp. answers-two crew (i p) circle wide (λ q lq kq. (_, h p lp kp q lq kq)) above) h₂ h₃
-  good-rounds three a honest inside size enough above i e g phase selecting nodes r j h alike h₂ h₃ =
+  good-rounds three a honest inside strong enough above i e g phase selecting nodes r j h alike h₂ h₃ =
       three-rounds three a enough i e g phase nodes h alike
-      (highest-answers honest inside size above phase nodes j i h alike) h₂ h₃
+      (highest-answers honest inside strong above phase nodes j i h alike) h₂ h₃

@@ -1,14 +1,14 @@
--- Classes 2 and 3: what holds of every honest node when a round begins; that a phase validates one plan; and that every stamp
--- is backed by the histories of those who let it be validated. Assumes nothing.
+-- Classes 2 and 3: what holds of every honest node when a round begins; that a phase validates one plan; and that every
+-- stamp is backed by the histories of those who let it be validated. Assumes nothing.
 use mathlib.Core.Path.{_≡_, refl, sym, ap, _∙_}
 use mathlib.Core.Bool.{Bool, not, _&&_}
-use mathlib.Core.Logic.{_⊎_, inl, inr, _≢_}
-use mathlib.Core.List.{List, []}
+use mathlib.Core.Logic.{inl, inr, _≢_}
+use mathlib.Core.List.{[]}
 use mathlib.Core.Option.{Option, none, some}
 use Prim.Native.Nat.{ℕ, suc, _+_, _*_, _≤_, _<_}
 use native.Mathlib.Omega.{arith}
 use lib.ListN.{length, getD, length-replicate}
-use lib.Dec.{T, eqb, eqb→eq}
+use lib.Dec.{T, eqb}
 use Rattle.wire.proofs.Tests.{tests}
 use Rattle.crew.specs.declared.Crew.{Crew}
 use Rattle.crew.specs.Thresholds.{Class, one, two, three, validAbove}
@@ -23,10 +23,10 @@ use Rattle.ballot.proofs.Validation.{validated-slots, validated-unique}
 use Rattle.ballot.proofs.Decision.{Stamps}
 use Rattle.model.specs.Node.{Node, Round, selecting, validating, deciding}
 use Rattle.model.specs.Node.{begin, ifPlan, selects, confirms, settles}
-use Rattle.model.specs.Run.{State, Inboxes, turned, step, Faithful, spent, start}
+use Rattle.model.specs.Run.{Each, State, Inboxes, turned, step, Faithful, spent, start}
 use Rattle.model.proofs.Node.{ifPlan-is, confirms-is, said, same-vote, not-none, begins-blank}
 use Rattle.model.proofs.Node.{kept-length, kept-other, kept-here}
-use Rattle.model.proofs.Run.{Each, at, heard}
+use Rattle.model.proofs.Run.{at, heard}
 
 -- One node.
 
@@ -146,10 +146,10 @@ module _ (class : Class) (crew : Crew) (honest : ℕ → Bool) (few : FewLiars c
 
   module _ (f : Faithful class crew honest i (at phase validating nodes)) where
     -- in round 2 an honest slot holds the plan that its node selected
-    pub slot-selected : (p q : ℕ) → p < crew .n → q < crew .n → T (honest p) → T (honest q) → (m : Ballot)
+    pub slot-selected : Each crew honest λ p. Each crew honest λ q. (m : Ballot)
         → i p q ≡ some m → (nodes q .select ≢ 0) × (nodes q .select ≡ m .vote)
-    slot-selected p q lp lq hp hq m e =
-        let h = heard class crew honest i (at phase validating nodes) f p q lp lq hp hq m e in
+    slot-selected p lp hp q lq hq m e =
+        let h = heard class crew honest i (at phase validating nodes) f p lp hp q lq hq m e in
         let its : Ballot = record { vote = nodes q .select; stamp = 0; entries = [] } in
         elim (ifPlan-is {A = Option Ballot} (nodes q .select) (some its) none) [
           | inl z ↦ absurd (not-none (sym (z .1) ∙ h))
@@ -157,24 +157,24 @@ module _ (class : Class) (crew : Crew) (honest : ℕ → Bool) (few : FewLiars c
         ]
 
     -- two honest nodes that validate a plan in this round validate the same one
-    pub unique-validation : (p q : ℕ) → p < crew .n → q < crew .n → T (honest p) → T (honest q)
-        → validated crew (inbox crew (i p)) ≢ 0 → validated crew (inbox crew (i q)) ≢ 0
+    pub unique-validation : Each crew honest λ p. Each crew honest λ q.
+        validated crew (inbox crew (i p)) ≢ 0 → validated crew (inbox crew (i q)) ≢ 0
         → validated crew (inbox crew (i p)) ≡ validated crew (inbox crew (i q))
-    unique-validation p q lp lq hp hq =
-        validated-unique crew honest few (i p) (i q) λ a v w la ha s t.
+    unique-validation p lp hp q lq hq =
+        validated-unique crew honest few phase (i p) (i q) λ a v w la ha s t.
         let m = holds-T (votes v) (i p a) s in
         let o = holds-T (votes w) (i q a) t in
-        let x = slot-selected p a lp la hp ha (m .0) (m .1) in
-        let y = slot-selected q a lq la hq ha (o .0) (o .1) in
+        let x = slot-selected p lp hp a la ha (m .0) (m .1) in
+        let y = slot-selected q lq hq a la ha (o .0) (o .1) in
         omega tests
 
     -- the honest slots that validate a plan come from nodes that have it in their histories
-    validators-list : Invariant crew honest (at phase validating nodes) → (q : ℕ) → q < crew .n → T (honest q) → (v : ℕ)
+    validators-list : Invariant crew honest (at phase validating nodes) → Each crew honest λ q. (v : ℕ)
         → tally (λ a. honest a && holds (votes v) (i q a)) (crew .n) ≤ tally (listers honest nodes phase v) (crew .n)
     validators-list j q lq hq v = tally-le _ (listers honest nodes phase v) (crew .n) λ a la x.
         let y = and-T (honest a) (holds (votes v) (i q a)) x in
         let m = holds-T (votes v) (i q a) (y .1) in
-        let b = slot-selected q a lq la hq (y .0) (m .0) (m .1) in
+        let b = slot-selected q lq hq a la (y .0) (m .0) (m .1) in
         T-and (honest a) (eqb (getD (nodes a .history) phase 0) v) (y .0)
         (omega (tests, j .each a la (y .0) .recorded (b .0)))
 
@@ -191,7 +191,7 @@ module _ (class : Class) (crew : Crew) (honest : ℕ → Bool) (few : FewLiars c
             ]
             | inr z ↦ elim (confirms-is (validated crew (inbox crew (i q))) phase (nodes q .base) (nodes q .stamp)) [
               | inl w ↦ omega (arith, j .each q lq hq .stamped)
-              | inr w ↦ omega (arith, unique-validation p q lp lq hp hq (z .0) (w .0))
+              | inr w ↦ omega (arith, unique-validation p lp hp q lq hq (z .0) (w .0))
             ]
           ];
       backing = λ q lq hq pos.
@@ -222,7 +222,11 @@ pub invariant-step : (class : Class) → Stamps class → (crew : Crew) (honest 
     → Invariant crew honest (at phase round nodes) → Faithful class crew honest i (at phase round nodes)
     → Invariant crew honest (step class crew i (at phase round nodes))
 invariant-step one a crew honest few i phase selecting nodes t j f = absurd a
-invariant-step two a crew honest few i phase selecting nodes t j f = invariant-selects two crew honest few i phase nodes t j
-invariant-step three a crew honest few i phase selecting nodes t j f = invariant-selects three crew honest few i phase nodes t j
-invariant-step class a crew honest few i phase validating nodes t j f = invariant-confirms class crew honest few i phase nodes f j
-invariant-step class a crew honest few i phase deciding nodes t j f = invariant-settles class crew honest few i phase nodes j
+invariant-step two a crew honest few i phase selecting nodes t j f =
+    invariant-selects two crew honest few i phase nodes t j
+invariant-step three a crew honest few i phase selecting nodes t j f =
+    invariant-selects three crew honest few i phase nodes t j
+invariant-step class a crew honest few i phase validating nodes t j f =
+    invariant-confirms class crew honest few i phase nodes f j
+invariant-step class a crew honest few i phase deciding nodes t j f =
+    invariant-settles class crew honest few i phase nodes j

@@ -4,7 +4,7 @@ pub mod ClassOne
 pub mod Invariant
 pub mod Lock
 pub mod Phases
-pub mod GoodPhase
 pub mod Results
+pub mod GoodPhase
 pub mod GoodRun
 pub mod Theorems

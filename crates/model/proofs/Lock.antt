@@ -1,8 +1,8 @@
--- Classes 2 and 3: a decision at a phase locks its plan, as the base of D − b honest nodes with a stamp from that phase on.
--- Rounds keep the lock, and while it holds nothing else is decided. Assumes nothing.
-use mathlib.Core.Path.{_≡_, refl}
+-- Classes 2 and 3: a decision at a phase locks its plan, as the base of D − b honest nodes with a stamp from that phase
+-- on. Rounds keep the lock, and while it holds nothing else is decided. Assumes nothing.
+use mathlib.Core.Path.{_≡_}
 use mathlib.Core.Bool.{Bool, not, _&&_}
-use mathlib.Core.Logic.{_⊎_, inl, inr, _≢_}
+use mathlib.Core.Logic.{_⊎_, inl, inr}
 use mathlib.Core.Option.{some}
 use Prim.Native.Nat.{ℕ, suc, _+_, _≤_, _<_}
 use native.Mathlib.Omega.{arith}
@@ -24,9 +24,9 @@ use Rattle.ballot.proofs.Validation.{validated-slots}
 use Rattle.ballot.proofs.Decision.{Stamps, fresh-stamp}
 use Rattle.ballot.proofs.Locked.{Core, Takes, lock-taken-two, lock-taken-three}
 use Rattle.model.specs.Node.{Node, Round, selecting, validating, deciding, entriesSaid}
-use Rattle.model.specs.Run.{State, Inboxes, turned, step, Faithful, Decides, start}
+use Rattle.model.specs.Run.{Each, State, Inboxes, turned, step, Faithful, Decides, start}
 use Rattle.model.proofs.Node.{confirms-is, said, same-vote, same-stamp, said-lists, kept-keeps, begins-blank}
-use Rattle.model.proofs.Run.{Each, at, heard, Locking}
+use Rattle.model.proofs.Run.{at, heard, Locking}
 use Rattle.model.proofs.Invariant.{Invariant, invariant-begins, invariant-step, slot-selected}
 
 -- between selection and validation a node has selected the locked plan, or none
@@ -65,20 +65,26 @@ common-locks crew honest few reach plans v all = record {
 }
 
 module _ (class : Class) (stamps : Stamps class) (crew : Crew) (honest : ℕ → Bool) (few : FewLiars crew honest)
-    (reach : crew .d + crew .b + crew .f ≤ crew .n) (above : crew .b < crew .d) (i : Inboxes) (phase : ℕ) (nodes : ℕ → Node) where
+    (reach : crew .d + crew .b + crew .f ≤ crew .n) (above : crew .b < crew .d) (i : Inboxes) (phase : ℕ)
+    (nodes : ℕ → Node) where
   -- Selection.
 
-  module _ (v : ℕ) (j : Invariant crew honest (at phase selecting nodes)) (l : Lock crew honest v (at phase selecting nodes))
-      (f : Faithful class crew honest i (at phase selecting nodes)) where
+  module _ (j : Invariant crew honest (at phase selecting nodes))
+      (f : Faithful class crew honest i (at phase selecting nodes)) (v : ℕ)
+      (l : Lock crew honest v (at phase selecting nodes)) where
     -- every honest node takes v, or nothing
     all-take : Each crew honest (λ q. Takes v class crew (inbox crew (i q)))
-    all-take q lq hq = go class stamps listed
+    all-take q lq hq = go class stamps
       where
         spoken : ℕ → Ballot
-        spoken a = record { vote = nodes a .vote; stamp = nodes a .stamp; entries = entriesSaid class (nodes a .history) phase }
+        spoken a = record {
+          vote = nodes a .vote;
+          stamp = nodes a .stamp;
+          entries = entriesSaid class (nodes a .history) phase;
+        }
 
         from : (a : ℕ) → a < crew .n → T (honest a) → (m : Ballot) → i q a ≡ some m → spoken a ≡ m
-        from a la ha m e = said (heard class crew honest i (at phase selecting nodes) f q a lq la hq ha m e)
+        from a la ha m e = said (heard class crew honest i (at phase selecting nodes) f q lq hq a la ha m e)
 
         shown : Core crew (i q) v (l .since)
         shown = record {
@@ -98,18 +104,16 @@ module _ (class : Class) (stamps : Stamps class) (crew : Crew) (honest : ℕ →
               | inr z ↦ inr (omega (arith, same-stamp b))
             ]
 
-        Listed : Type 0
-        Listed = EachFrom honest crew (i q) (λ m. (w x : ℕ) → T (lists w x m) → l .since < x → w ≡ v)
-
-        listed : Listed
+        listed : EachFrom honest crew (i q) (λ m. (w x : ℕ) → T (lists w x m) → l .since < x → w ≡ v)
         listed a la ha m e w x h y =
-            let d = said-lists class (nodes a .history) phase w x (nodes a .vote) (nodes a .stamp) (rw (from a la ha m e) h) in
+            let its : T (lists w x (spoken a)) = rw (from a la ha m e) h in
+            let d = said-lists class (nodes a .history) phase w x (nodes a .vote) (nodes a .stamp) its in
             elim (l .later a la ha x y) [ inl z ↦ omega arith | inr z ↦ absurd (d .1 (omega arith)) ]
 
-        go : (class : Class) → Stamps class → Listed → Takes v class crew (inbox crew (i q))
-        go one z listed = absurd z
-        go two z listed = lock-taken-two crew reach (i q) v (l .since) shown honest few rest
-        go three z listed = lock-taken-three crew reach (i q) v (l .since) shown honest few rest listed
+        go : (class : Class) → Stamps class → Takes v class crew (inbox crew (i q))
+        go one z = absurd z
+        go two z = lock-taken-two crew reach (i q) v (l .since) shown honest few rest
+        go three z = lock-taken-three crew reach (i q) v (l .since) shown honest few rest listed
 
     lock-selects : Lock crew honest v (at phase validating (turned class crew i phase selecting nodes))
     lock-selects = record {
@@ -120,13 +124,14 @@ module _ (class : Class) (stamps : Stamps class) (crew : Crew) (honest : ℕ →
       members = l .members;
       rest = l .rest;
       later = λ q lq hq x y.
-          kept-keeps (nodes q .history) phase (taken class crew (inbox crew (i q))) v x (all-take q lq hq) (l .later q lq hq x y);
+          kept-keeps (nodes q .history) phase (taken class crew (inbox crew (i q))) v x (all-take q lq hq)
+          (l .later q lq hq x y);
       selected = all-take;
     }
 
   -- Validation.
 
-  module _ (v : ℕ) (f : Faithful class crew honest i (at phase validating nodes))
+  module _ (f : Faithful class crew honest i (at phase validating nodes)) (v : ℕ)
       (l : Lock crew honest v (at phase validating nodes)) where
     -- every honest node validates v, or nothing: more than b slots hold what is validated, so an honest one does
     all-validate : Each crew honest λ q.
@@ -141,7 +146,7 @@ module _ (class : Class) (stamps : Stamps class) (crew : Crew) (honest : ℕ →
         go (no z) (yes y) = inl y
         go (no z) (no y) =
             let liars = liars-at-most-b crew (i q) (votes w) honest few λ a la ha m e x.
-            let b = slot-selected class crew honest few i phase nodes f q a lq la hq ha m e in
+            let b = slot-selected class crew honest few i phase nodes f q lq hq a la ha m e in
             elim (l .selected a la ha) [ inl u ↦ omega tests | inr u ↦ b .0 u ] in
             absurd (omega (arith, validated-slots crew (inbox crew (i q)) z))
 
@@ -184,8 +189,9 @@ module _ (class : Class) (stamps : Stamps class) (crew : Crew) (honest : ℕ →
     selected = λ q lq hq. tt;
   }
 
-  module _ (j : Invariant crew honest (at phase deciding nodes)) (f : Faithful class crew honest i (at phase deciding nodes))
-      (v p : ℕ) (lp : p < crew .n) (hp : T (honest p)) (d : T (decides class crew phase (inbox crew (i p)) v)) where
+  module _ (j : Invariant crew honest (at phase deciding nodes))
+      (f : Faithful class crew honest i (at phase deciding nodes)) (p : ℕ) (lp : p < crew .n) (hp : T (honest p)) (v : ℕ)
+      (d : T (decides class crew phase (inbox crew (i p)) v)) where
     voter : Ballot → Bool
     voter m = fresh class phase m && votes v m
 
@@ -199,13 +205,13 @@ module _ (class : Class) (stamps : Stamps class) (crew : Crew) (honest : ℕ →
         omega (tests, d, count-gather voter (i p) (crew .n), tally-split honest (λ q. holds voter (i p q)) (crew .n))
 
     -- and each of them has the base v, with the phase as its stamp
-    decider-is : (q : ℕ) → q < crew .n → T (decider q) → T (honest q) × (nodes q .base ≡ v) × (nodes q .stamp ≡ phase)
+    decider-is : Each crew decider (λ q. T (honest q) × (nodes q .base ≡ v) × (nodes q .stamp ≡ phase))
     unfolding decider voter
     decider-is q lq t =
         let x = and-T (honest q) (holds voter (i p q)) t in
         let h = holds-T voter (i p q) (x .1) in
         let y = and-T (fresh class phase (h .0)) (votes v (h .0)) (h .2) in
-        let b = said (heard class crew honest i (at phase deciding nodes) f p q lp lq hp (x .0) (h .0) (h .1)) in
+        let b = said (heard class crew honest i (at phase deciding nodes) f p lp hp q lq (x .0) (h .0) (h .1)) in
         let stamp = fresh-stamp class stamps phase (h .0) (y .0) in
         let base = j .each q lq (x .0) .voted in
         (x .0, omega (tests, same-vote b), omega (arith, same-stamp b))
@@ -226,7 +232,9 @@ module _ (class : Class) (stamps : Stamps class) (crew : Crew) (honest : ℕ →
           ample = deciders-ample;
           members = λ q lq t. let y = decider-is q lq t in (y .0, y .1, omega arith);
           rest = λ q lq hq. elim (ℕ-discrete (nodes q .stamp) phase) [
-            | yes z ↦ inl (omega (arith, j .unique q lq hq (o .0) (o .1) (o .2) (omega arith) (omega (arith, j .begun))))
+            | yes z ↦
+                let one-base = j .unique q lq hq (o .0) (o .1) (o .2) (omega arith) (omega (arith, j .begun)) in
+                inl (omega arith)
             | no z ↦ inr (omega (arith, j .each q lq hq .stamped))
           ];
           later = λ q lq hq x y. inr (j .each q lq hq .blank x y);
@@ -241,31 +249,35 @@ module _ (class : Class) (stamps : Stamps class) (crew : Crew) (honest : ℕ →
 -- Any round.
 
 module _ (class : Class) (stamps : Stamps class) (crew : Crew) (honest : ℕ → Bool) (few : FewLiars crew honest)
-    (reach : crew .d + crew .b + crew .f ≤ crew .n) (above : crew .b < crew .d) where
-  lock-step : (i : Inboxes) (phase : ℕ) (round : Round) (nodes : ℕ → Node) (v : ℕ)
+    (reach : crew .d + crew .b + crew .f ≤ crew .n) (above : crew .b < crew .d) (i : Inboxes) where
+  lock-step : (phase : ℕ) (round : Round) (nodes : ℕ → Node)
       → Invariant crew honest (at phase round nodes) → Faithful class crew honest i (at phase round nodes)
-      → Lock crew honest v (at phase round nodes) → Lock crew honest v (step class crew i (at phase round nodes))
-  lock-step i phase selecting nodes v j f l = go class stamps f
+      → (v : ℕ) → Lock crew honest v (at phase round nodes)
+      → Lock crew honest v (step class crew i (at phase round nodes))
+  lock-step phase selecting nodes j f v l = go class stamps f
     where
       go : (class : Class) → Stamps class → Faithful class crew honest i (at phase selecting nodes)
           → Lock crew honest v (step class crew i (at phase selecting nodes))
       go one a f = absurd a
-      go two a f = lock-selects two a crew honest few reach above i phase nodes v j l f
-      go three a f = lock-selects three a crew honest few reach above i phase nodes v j l f
-  lock-step i phase validating nodes v j f l = lock-confirms class stamps crew honest few reach above i phase nodes v f l
-  lock-step i phase deciding nodes v j f l = lock-settles class stamps crew honest few reach above i phase nodes v l
+      go two a f = lock-selects two a crew honest few reach above i phase nodes j f v l
+      go three a f = lock-selects three a crew honest few reach above i phase nodes j f v l
+  lock-step phase validating nodes j f v l = lock-confirms class stamps crew honest few reach above i phase nodes f v l
+  lock-step phase deciding nodes j f v l = lock-settles class stamps crew honest few reach above i phase nodes v l
 
-  decides-lock : (i : Inboxes) (phase : ℕ) (round : Round) (nodes : ℕ → Node) (v p : ℕ)
+  -- what is decided is locked, and is what was locked before
+  locks : (phase : ℕ) (round : Round) (nodes : ℕ → Node)
       → Invariant crew honest (at phase round nodes) → Faithful class crew honest i (at phase round nodes)
-      → p < crew .n → T (honest p) → Decides class crew i (at phase round nodes) p v
+      → Each crew honest λ p. (v : ℕ) → Decides class crew i (at phase round nodes) p v
       → Lock crew honest v (at phase round nodes) × ((w : ℕ) → Lock crew honest w (at phase round nodes) → v ≡ w)
-  decides-lock i phase selecting nodes v p j f lp hp d = absurd (let y : _≡_ {A = ℕ} 0 1 = cc (d .0) in omega arith)
-  decides-lock i phase validating nodes v p j f lp hp d = absurd (let y : _≡_ {A = ℕ} 0 1 = cc (d .0) in omega arith)
-  decides-lock i phase deciding nodes v p j f lp hp d = (
-    decision-locks class stamps crew honest few reach above i phase nodes j f v p lp hp (d .1),
-    decision-locked class stamps crew honest few reach above i phase nodes j f v p lp hp (d .1),
+  locks phase selecting nodes j f p lp hp v d = absurd (let y : _≡_ {A = ℕ} 0 1 = cc (d .0) in omega arith)
+  locks phase validating nodes j f p lp hp v d = absurd (let y : _≡_ {A = ℕ} 0 1 = cc (d .0) in omega arith)
+  locks phase deciding nodes j f p lp hp v d = (
+    decision-locks class stamps crew honest few reach above i phase nodes j f p lp hp v (d .1),
+    decision-locked class stamps crew honest few reach above i phase nodes j f p lp hp v (d .1),
   )
 
+module _ (class : Class) (stamps : Stamps class) (crew : Crew) (honest : ℕ → Bool) (few : FewLiars crew honest)
+    (reach : crew .d + crew .b + crew .f ≤ crew .n) (above : crew .b < crew .d) where
   pub locking-later : Locking class crew honest
   locking-later = record {
     Inv = Invariant crew honest;
@@ -273,9 +285,11 @@ module _ (class : Class) (stamps : Stamps class) (crew : Crew) (honest : ℕ →
     begins = invariant-begins crew honest;
     common = common-locks crew honest few reach;
     inv-step = λ i s. invariant-step class stamps crew honest few i (s .phase) (s .round) (s .node);
-    lock-step = λ i s. lock-step i (s .phase) (s .round) (s .node);
-    decides-lock = λ i s v p j f lp hp d. decides-lock i (s .phase) (s .round) (s .node) v p j f lp hp d .0;
-    lock-decides = λ i s v w p j f lp hp l d. decides-lock i (s .phase) (s .round) (s .node) w p j f lp hp d .1 v l;
+    lock-step = λ i s. lock-step class stamps crew honest few reach above i (s .phase) (s .round) (s .node);
+    decision-locks = λ i s j f p lp hp v d.
+        locks class stamps crew honest few reach above i (s .phase) (s .round) (s .node) j f p lp hp v d .0;
+    decision-locked = λ i s j f p lp hp v w d.
+        locks class stamps crew honest few reach above i (s .phase) (s .round) (s .node) j f p lp hp v d .1 w;
   }
 
   pub later-invariant : (s : State) → locking-later .Inv s → Invariant crew honest s

@@ -113,8 +113,8 @@ unfolding count
 entry-lists j v phase w h = elim (ifPlan-is v (it ∷ []) []) [
   | inl z ↦ absurd (omega (arith, ap (count (isEntry phase w)) (z .1)))
   | inr z ↦
-      let b : T (isEntry phase w it) = bit-pos (isEntry phase w it) (omega (arith, ap (count (isEntry phase w)) (z .1))) in
-      let d = and-T (eqb j phase) (eqb v w) b in
+      let one = ap (count (isEntry phase w)) (z .1) in
+      let d = and-T (eqb j phase) (eqb v w) (bit-pos (isEntry phase w it) (omega arith)) in
       (eqb→eq j phase (d .0), eqb→eq v w (d .1), z .0)
 ]
   where

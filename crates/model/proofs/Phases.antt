@@ -1,4 +1,5 @@
--- Which round stands where: every phase has its rounds, one after the other, until the records are spent. Assumes nothing.
+-- Which round stands where: every phase has its rounds, one after the other, until the records are spent.
+-- Assumes nothing.
 use mathlib.Core.Path.{_≡_, refl, ap, ap₂, _∙_}
 use mathlib.Core.Bool.{cond}
 use mathlib.Core.Logic.{_⊎_, inl, inr}

@@ -1,9 +1,7 @@
 -- A node's result is the plan that it decided, and 0 where it has decided none. Assumes nothing.
-use mathlib.Core.Path.{_≡_, refl, sym, ap, _∙_, subst}
-use mathlib.Core.Bool.{Bool}
+use mathlib.Core.Path.{_≡_, refl, ap, subst}
 use mathlib.Core.List.{List}
 use mathlib.Core.Logic.{_⊎_, inl, inr, _≢_}
-use mathlib.Core.Option.{some}
 use Prim.Native.Nat.{ℕ, zero, suc, _≤_, _<_}
 use native.Mathlib.Omega.{arith}
 use native.Mathlib.Decide.{ℕ-discrete}
@@ -15,7 +13,7 @@ use Rattle.ballot.specs.Decision.{decision}
 use Rattle.ballot.proofs.Slots.{no-slot-counts}
 use Rattle.ballot.proofs.Decision.{decision-decides, decides-voted, decision-least, decision-plan}
 use Rattle.model.specs.Node.{Round, selecting, validating, deciding, ifPlan, turn}
-use Rattle.model.specs.Run.{spent, Run, class, state, Held, DecidesAt, Undecided, PlanDecided, Admissible}
+use Rattle.model.specs.Run.{Run, class, state, Held, DecidesAt, Undecided, PlanDecided, Admissible}
 use Rattle.model.proofs.Node.{ifPlan-is}
 use Rattle.model.proofs.Run.{moves}
 
@@ -28,7 +26,7 @@ module _ (run : Run) (ok : Admissible run) (p : ℕ) (lp : p < run .crew .n) (hp
 
   pub no-zero-votes : (j : ℕ) → Held run j → count (votes 0) (inbox (run .crew) (run .rounds j p)) ≡ 0
   no-zero-votes j h = no-slot-counts (run .crew) (run .rounds j p) (votes 0) λ q lq m e t.
-      ok .plans j p q h lp hp lq m e (eqb→eq (m .vote) 0 t)
+      ok .plans j h p lp hp q lq m e (eqb→eq (m .vote) 0 t)
 
   -- what a node decides is a plan
   pub decided-plan : (j v : ℕ) → DecidesAt run j p v → v ≢ 0
@@ -40,15 +38,19 @@ module _ (run : Run) (ok : Admissible run) (p : ℕ) (lp : p < run .crew .n) (hp
   abbrev Result : ℕ → ℕ → Type 0
   Result j v = PlanDecided run p j v ⊎ (Undecided run p j × (v ≡ 0))
 
-  -- a round without a decision
-  idle : (j v : ℕ) → ((w : ℕ) → DecidesAt run j p w → ⊥) → Result j v → Result (suc j) v
-  idle j v quiet (inl r) = inl (record {
+  -- one round more does not change a plan that was decided
+  longer : (j v : ℕ) → PlanDecided run p j v → Result (suc j) v
+  longer j v r = inl (record {
     round = r .round;
     before = omega (arith, r .before);
     decides = r .decides;
     least = r .least;
     first = r .first;
   })
+
+  -- a round without a decision
+  idle : (j v : ℕ) → ((w : ℕ) → DecidesAt run j p w → ⊥) → Result j v → Result (suc j) v
+  idle j v quiet (inl r) = longer j v r
   idle j v quiet (inr r) = inr (
     λ i w t d. elim (ℕ-discrete i j) [
       | yes e ↦ quiet w (subst (λ x. DecidesAt run x p w) e d)
@@ -58,45 +60,37 @@ module _ (run : Run) (ok : Admissible run) (p : ℕ) (lp : p < run .crew .n) (hp
   )
 
   -- round 3: a result that stands is kept, and otherwise the decision becomes the result
-  settles : (j v : ℕ) → Held run j → state run j .round ≡ deciding → Result j v
-      → Result (suc j) (ifPlan v v (decision (class run) (run .crew) (state run j .phase) (ballots j)))
-  settles j v held r (inl s) =
-      let kept : ifPlan v v w ≡ v = elim (ifPlan-is v v w) [
-        | inl z ↦ absurd (decided-plan (s .round) v (s .decides) (z .0))
-        | inr z ↦ z .1
-      ] in
-      rw kept (inl (record {
-        round = s .round;
-        before = omega (arith, s .before);
-        decides = s .decides;
-        least = s .least;
-        first = s .first;
-      }))
-    where
-      w : ℕ
-      w = decision (class run) (run .crew) (state run j .phase) (ballots j)
-  settles j v held r (inr s) =
-      let new : ifPlan v v w ≡ w = elim (ifPlan-is v v w) [ inl z ↦ z .1 | inr z ↦ absurd (z .0 (s .1)) ] in
-      rw new (go (ℕ-discrete w 0))
-    where
-      w : ℕ
-      w = decision (class run) (run .crew) (state run j .phase) (ballots j)
+  module _ (j v : ℕ) (held : Held run j) (r : state run j .round ≡ deciding) where
+    abbrev new : ℕ
+    new = decision (class run) (run .crew) (state run j .phase) (ballots j)
 
-      go : Dec (w ≡ 0) → Result (suc j) w
-      go (yes z) = idle j w (λ u d.
-          decision-plan (class run) (run .crew) (state run j .phase) (ballots j) quorum u (d .1 .1) (no-zero-votes j held) z)
-          (inr (s .0, z))
-      go (no z) = inl (record {
-        round = j;
-        before = omega arith;
-        decides = (held, (r, decision-decides (class run) (run .crew) (state run j .phase) (ballots j) z));
-        least = λ u d. decision-least (class run) (run .crew) (state run j .phase) (ballots j) quorum u (d .1 .1);
-        first = s .0;
-      })
+    decision-result : Undecided run p j → Dec (new ≡ 0) → Result (suc j) new
+    decision-result free (yes z) =
+        let quiet : (u : ℕ) → DecidesAt run j p u → ⊥ = λ u d.
+        decision-plan (class run) (run .crew) (state run j .phase) (ballots j) quorum u (d .1 .1) (no-zero-votes j held) z in
+        idle j new quiet (inr (free, z))
+    decision-result free (no z) = inl (record {
+      round = j;
+      before = omega arith;
+      decides = (held, (r, decision-decides (class run) (run .crew) (state run j .phase) (ballots j) z));
+      least = λ u d. decision-least (class run) (run .crew) (state run j .phase) (ballots j) quorum u (d .1 .1);
+      first = free;
+    })
+
+    settles : Result j v → Result (suc j) (ifPlan v v new)
+    settles (inl s) = elim (ifPlan-is v v new) [
+      | inl z ↦ absurd (decided-plan (s .round) v (s .decides) (z .0))
+      | inr z ↦ rw (z .1) (longer j v s)
+    ]
+    settles (inr s) = elim (ifPlan-is v v new) [
+      | inl z ↦ rw (z .1) (decision-result (s .0) (ℕ-discrete new 0))
+      | inr z ↦ absurd (z .0 (s .1))
+    ]
 
   takes-round : (j : ℕ) → Held run j → (round : Round) → state run j .round ≡ round
       → Result j (state run j .node p .result)
-      → Result (suc j) ((turn (class run) (run .crew) (state run j .phase) round (ballots j) (state run j .node p)) .result)
+      → Result (suc j)
+      ((turn (class run) (run .crew) (state run j .phase) round (ballots j) (state run j .node p)) .result)
   takes-round j held selecting r s =
       idle j _ (λ w d. absurd (let y : _≡_ {A = ℕ} 0 1 = cc (r, d .1 .0) in omega arith)) s
   takes-round j held validating r s =

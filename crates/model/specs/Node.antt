@@ -52,13 +52,15 @@ entriesSaid two history phase = []
 entriesSaid three history phase = entriesBelow history phase
 
 -- What node q says in a round, or nothing where it is silent.
--- 01: "round 1 vote, stamp and, in class 3 only, its non-empty entries of earlier phases; round 2 select, or silence (length 0,
--- nothing written) if select is 0; round 3 vote and stamp"
+-- 01: "round 1 vote, stamp and, in class 3 only, its non-empty entries of earlier phases; round 2 select, or silence
+-- (length 0, nothing written) if select is 0; round 3 vote and stamp"
 abbrev pub say : Class → Crew → ℕ → Round → ℕ → Node → Option Ballot
 say class crew phase selecting q d =
     some (record { vote = d .vote; stamp = d .stamp; entries = entriesSaid class (d .history) phase })
 say class crew phase validating q d =
-    cond (validates crew phase q) (ifPlan (d .select) (some (record { vote = d .select; stamp = 0; entries = [] })) none) none
+    cond (validates crew phase q)
+    (ifPlan (d .select) (some (record { vote = d .select; stamp = 0; entries = [] })) none)
+    none
 say class crew phase deciding q d = some (record { vote = d .vote; stamp = d .stamp; entries = [] })
 
 -- What taking a round does to a node.

@@ -1,5 +1,5 @@
--- Runs of the abstract engine: honest nodes by number, whole rounds, inboxes that anybody may fill, decisions, good phases.
--- Document 01, 'The list in demand 3' and 'Good phase'.
+-- Runs of the abstract engine: honest nodes by number, whole rounds, inboxes that anybody may fill, decisions and good
+-- phases. Document 01, 'The list in demand 3' and 'Good phase'.
 use mathlib.Core.Path.{_≡_}
 use mathlib.Core.Bool.{Bool, cond, not}
 use mathlib.Core.Logic.{_⊎_, _≢_}
@@ -14,6 +14,10 @@ use Rattle.ballot.specs.Count.{tally, count}
 use Rattle.ballot.specs.Ballot.{Ballot, inbox, sameBallot}
 use Rattle.ballot.specs.Decision.{decides}
 use Rattle.model.specs.Node.{Node, Round, selecting, validating, deciding, begin, say, turn}
+
+-- every one of these nodes
+abbrev pub Each : Crew → (ℕ → Bool) → (ℕ → Type 0) → Type 0
+Each crew nodes P = (q : ℕ) → q < crew .n → T (nodes q) → P q
 
 -- the state when a round begins: its phase and number, and the nodes' records
 pub record State : Type 0 where
@@ -49,22 +53,28 @@ step class crew inboxes s = record {
   node = turned class crew inboxes (s .phase) (s .round) (s .node);
 }
 
+-- what node q says in this state
+abbrev pub saying : Class → Crew → State → ℕ → Option Ballot
+saying class crew s q = say class crew (s .phase) (s .round) q (s .node q)
+
 -- An honest node's slot, in an honest node's inbox, is absent or holds what that node says; other slots hold anything.
 abbrev pub Faithful : Class → Crew → (ℕ → Bool) → Inboxes → State → Type 0
-Faithful class crew honest inboxes s = (p q : ℕ) → p < crew .n → q < crew .n → T (honest p) → T (honest q)
-    → (inboxes p q ≡ none) ⊎ (inboxes p q ≡ say class crew (s .phase) (s .round) q (s .node q))
+Faithful class crew honest inboxes s = Each crew honest λ p. Each crew honest λ q.
+    (inboxes p q ≡ none) ⊎ (inboxes p q ≡ saying class crew s q)
 
 -- in this round node p decides v
 abbrev pub Decides : Class → Crew → Inboxes → State → ℕ → ℕ → Type 0
 Decides class crew inboxes s p v =
     (s .round ≡ deciding) × T (decides class crew (s .phase) (inbox crew (inboxes p)) v)
 
--- A list of rounds. The crew, who is honest, each node's initial plan, the inboxes of round j from 0 on, and how many
--- rounds there are.
+-- A list of rounds, with what it begins from.
 pub record Run : Type 0 where
   pub crew : Crew
+  -- which node numbers are those of honest nodes
   pub honest : ℕ → Bool
+  -- each node's initial plan
   pub plans : ℕ → ℕ
+  -- the inboxes of each round, from round 0 on, and how many rounds the list has
   pub rounds : ℕ → Inboxes
   pub total : ℕ
 
@@ -113,28 +123,30 @@ pub record PlanDecided (run : Run) (p j v : ℕ) : Type 0 where
 abbrev pub standing : Run → ℕ → ℕ
 standing run p = state run (run .total) .node p .result
 
--- the premises of demand 3: an accepted crew, at most b nodes that are not honest, honest slots that hold what their nodes
--- said, and no plan 0 in a counting slot
+-- What demand 3 supposes of a list of rounds.
 pub record Admissible (run : Run) : Type 0 where
   pub crew-accepted : acceptOf (run .crew) ≡ accepted tt
+  -- at most b nodes are not honest
   pub few : tally (λ q. not (run .honest q)) (run .crew .n) ≤ run .crew .b
-  pub faithful : (j : ℕ) → Held run j → Faithful (class run) (run .crew) (run .honest) (run .rounds j) (state run j)
-  pub plans : (j p q : ℕ) → Held run j → p < run .crew .n → T (run .honest p) → q < run .crew .n → (m : Ballot)
-      → run .rounds j p q ≡ some m → m .vote ≢ 0
+  pub faithful : (j : ℕ) → Held run j
+      → Faithful (class run) (run .crew) (run .honest) (run .rounds j) (state run j)
+  -- 01, bounds of a message: "plans not 0"
+  pub plans : (j : ℕ) → Held run j → Each (run .crew) (run .honest) λ p.
+      (q : ℕ) → q < run .crew .n → (m : Ballot) → run .rounds j p q ≡ some m → m .vote ≢ 0
 
--- The phase is good for a circle of honest nodes.
+-- The phase is good for this circle.
 pub record Good (run : Run) (phase : ℕ) (circle : ℕ → Bool) : Type 0 where
   -- 01: "there is a circle of at least n − b − f honest nodes"
-  pub inside : (q : ℕ) → q < run .crew .n → T (circle q) → T (run .honest q)
+  pub inside : Each (run .crew) circle (λ q. T (run .honest q))
   pub wide : run .crew .n ≤ tally circle (run .crew .n) + run .crew .b + run .crew .f
   -- 01: "A good phase has all its rounds in the list."
   pub listed : (j : ℕ) → state run j .phase ≡ phase → j < run .total
   -- 01: "In round 1 all of them have the same counting messages, each in as many slots of one inbox as of another"
-  pub equal : (j p q : ℕ) → state run j .phase ≡ phase → state run j .round ≡ selecting
-      → p < run .crew .n → q < run .crew .n → T (circle p) → T (circle q) → (m : Ballot)
-      → count (sameBallot m) (inbox (run .crew) (run .rounds j p)) ≡ count (sameBallot m) (inbox (run .crew) (run .rounds j q))
-  -- 01: "every circle node's slot counts in each. In rounds 2 and 3 the slot of every circle node that is not silent counts
-  -- in every circle node's inbox." No node is silent in round 1
-  pub counts : (j p q : ℕ) → state run j .phase ≡ phase → p < run .crew .n → q < run .crew .n → T (circle p) → T (circle q)
-      → say (class run) (run .crew) (state run j .phase) (state run j .round) q (state run j .node q) ≢ none
-      → run .rounds j p q ≢ none
+  pub equal : (j : ℕ) → state run j .phase ≡ phase → state run j .round ≡ selecting
+      → Each (run .crew) circle λ p. Each (run .crew) circle λ q. (m : Ballot)
+      → count (sameBallot m) (inbox (run .crew) (run .rounds j p))
+      ≡ count (sameBallot m) (inbox (run .crew) (run .rounds j q))
+  -- 01: "every circle node's slot counts in each. In rounds 2 and 3 the slot of every circle node that is not silent
+  -- counts in every circle node's inbox." In round 1 nobody is silent
+  pub counts : (j : ℕ) → state run j .phase ≡ phase → Each (run .crew) circle λ p. Each (run .crew) circle λ q.
+      saying (class run) (run .crew) (state run j) q ≢ none → run .rounds j p q ≢ none
