@@ -1,0 +1,263 @@
+-- The laws of counting, for any n and any list. Builds on specs/Count.antt.
+-- Assumes nothing.
+use mathlib.Core.Path.{_≡_, refl, ap, _∙_, subst}
+use mathlib.Core.Bool.{Bool, true, false, not, _&&_}
+use mathlib.Core.List.{List, [], _∷_, _++_}
+use mathlib.Core.Logic.{_⊎_, inl, inr}
+use mathlib.Core.Option.{Option, none, some}
+use Prim.Native.Nat.{ℕ, zero, suc, _+_, _≤_, _<_}
+use native.Mathlib.Omega.{arith}
+use native.Mathlib.Decide.{ℕ-discrete, decLe, decLt}
+use lib.ListN.{length}
+use lib.Dec.{T, ltb}
+use Rattle.wire.proofs.Tests.{tests}
+use Rattle.ballot.specs.Count.{bit, tally, count, holds, push, gather}
+
+-- One test.
+
+pub bit-le : (b : Bool) → bit b ≤ 1
+bit-le true = omega arith
+bit-le false = omega arith
+
+pub bit-T : (b : Bool) → T b → bit b ≡ 1
+bit-T true t = refl
+bit-T false t = absurd t
+
+pub bit-pos : (b : Bool) → 0 < bit b → T b
+bit-pos true h = tt
+bit-pos false h = omega arith
+
+pub bit-F : (b : Bool) → (T b → ⊥) → bit b ≡ 0
+bit-F true t = absurd (t tt)
+bit-F false t = refl
+
+-- Numbers below n.
+
+abbrev pub Implies : ℕ → (ℕ → Bool) → (ℕ → Bool) → Type 0
+Implies n p r = (q : ℕ) → q < n → T (p q) → T (r q)
+
+abbrev pub nobody-of : ℕ → Bool
+nobody-of q = false
+
+abbrev pub all-of : ℕ → Bool
+all-of q = true
+
+pub tally-none : (n : ℕ) → tally nobody-of n ≡ 0
+unfolding tally
+tally-none zero = refl
+tally-none (suc n) = omega (arith, tally-none n)
+
+pub tally-all : (n : ℕ) → tally all-of n ≡ n
+unfolding tally
+tally-all zero = refl
+tally-all (suc n) = omega (arith, tally-all n)
+
+pub tally-bound : (p : ℕ → Bool) (n : ℕ) → tally p n ≤ n
+unfolding tally
+tally-bound p zero = omega arith
+tally-bound p (suc n) = omega (arith, bit-le (p n), tally-bound p n)
+
+pub tally-not : (p : ℕ → Bool) (n : ℕ) → tally p n + tally (λ q. not (p q)) n ≡ n
+unfolding tally
+tally-not p zero = refl
+tally-not p (suc n) = go (p n) (tally-not p n)
+  where
+    rest : ℕ
+    rest = tally (λ q. not (p q)) n
+
+    go : (a : Bool) → tally p n + rest ≡ n → bit a + tally p n + (bit (not a) + rest) ≡ suc n
+    go true i = omega arith
+    go false i = omega arith
+
+-- what passes p or r passes u, and what passes both passes x: the counts of p and r make at most those of u and x
+pub tally-meet : (p r u x : ℕ → Bool) (n : ℕ) → Implies n p u → Implies n r u
+    → ((q : ℕ) → q < n → T (p q) → T (r q) → T (x q)) → tally p n + tally r n ≤ tally u n + tally x n
+unfolding tally
+tally-meet p r u x zero h k m = omega arith
+tally-meet p r u x (suc n) h k m =
+    go (p n) (r n) (u n) (x n) (h n (omega arith)) (k n (omega arith)) (m n (omega arith))
+    (tally-meet p r u x n (λ q l. h q (omega arith)) (λ q l. k q (omega arith)) (λ q l. m q (omega arith)))
+  where
+    go : (a b c d : Bool) → (T a → T c) → (T b → T c) → (T a → T b → T d)
+        → tally p n + tally r n ≤ tally u n + tally x n
+        → bit a + tally p n + (bit b + tally r n) ≤ bit c + tally u n + (bit d + tally x n)
+    go true true true true f g m i = omega arith
+    go true true true false f g m i = absurd (m tt tt)
+    go true true false d f g m i = absurd (f tt)
+    go true false true d f g m i = omega (arith, bit-le d)
+    go true false false d f g m i = absurd (f tt)
+    go false true true d f g m i = omega (arith, bit-le d)
+    go false true false d f g m i = absurd (g tt)
+    go false false c d f g m i = omega (arith, bit-le d)
+
+-- two tests that together only x passes: their counts make at most n and the count of x
+pub tally-apart : (p r x : ℕ → Bool) (n : ℕ) → ((q : ℕ) → q < n → T (p q) → T (r q) → T (x q))
+    → tally p n + tally r n ≤ n + tally x n
+tally-apart p r x n h = omega (arith, tally-meet p r all-of x n (λ q l t. tt) (λ q l t. tt) h, tally-all n)
+
+-- what passes u passes p or r
+tally-join : (u p r : ℕ → Bool) (n : ℕ) → ((q : ℕ) → q < n → T (u q) → T (p q) ⊎ T (r q))
+    → tally u n ≤ tally p n + tally r n
+unfolding tally
+tally-join u p r zero h = omega arith
+tally-join u p r (suc n) h =
+    go (u n) (p n) (r n) (h n (omega arith)) (tally-join u p r n (λ q l. h q (omega arith)))
+  where
+    go : (c a b : Bool) → (T c → T a ⊎ T b) → tally u n ≤ tally p n + tally r n
+        → bit c + tally u n ≤ bit a + tally p n + (bit b + tally r n)
+    go false a b f i = omega arith
+    go true true b f i = omega arith
+    go true false true f i = omega arith
+    go true false false f i = elim (f tt) [ inl x ↦ absurd x | inr x ↦ absurd x ]
+
+pub tally-le : (p r : ℕ → Bool) (n : ℕ) → Implies n p r → tally p n ≤ tally r n
+tally-le p r n h = omega (arith, tally-join p r nobody-of n (λ q l t. inl (h q l t)), tally-none n)
+
+-- what passes p is honest and passes p, or is not honest
+pub tally-split : (h p : ℕ → Bool) (n : ℕ) → tally p n ≤ tally (λ q. h q && p q) n + tally (λ q. not (h q)) n
+tally-split h p n = tally-join p (λ q. h q && p q) (λ q. not (h q)) n λ q l t. go (h q) (p q) t
+  where
+    go : (a b : Bool) → T b → T (a && b) ⊎ T (not a)
+    go true b t = inl t
+    go false b t = inr tt
+
+pub tally-some : (p : ℕ → Bool) (n : ℕ) → 0 < tally p n → (q : ℕ) × (q < n) × T (p q)
+unfolding tally
+tally-some p zero h = absurd (omega arith)
+tally-some p (suc n) h = go (p n) refl h (tally-some p n)
+  where
+    go : (a : Bool) → p n ≡ a → 0 < bit a + tally p n → (0 < tally p n → (q : ℕ) × (q < n) × T (p q))
+        → (q : ℕ) × (q < suc n) × T (p q)
+    go true e h rec = (n, omega arith, rw e tt)
+    go false e h rec = let r = rec (omega arith) in (r .0, omega arith, r .2)
+
+pub tally-has : (p : ℕ → Bool) (n q : ℕ) → q < n → T (p q) → 0 < tally p n
+unfolding tally
+tally-has p zero q l t = absurd (omega arith)
+tally-has p (suc n) q l t = go (ℕ-discrete q n) (λ k. tally-has p n q k t)
+  where
+    go : Dec (q ≡ n) → (q < n → 0 < tally p n) → 0 < bit (p n) + tally p n
+    go (yes e) rec = omega (arith, bit-T (p n) (rw e at t))
+    go (no e) rec = omega (arith, rec (omega arith))
+
+-- among the numbers that pass p there is one at which g is largest
+pub tally-peak : (p : ℕ → Bool) (g : ℕ → ℕ) (n : ℕ) → 0 < tally p n
+    → (q : ℕ) × (q < n) × T (p q) × ((a : ℕ) → a < n → T (p a) → g a ≤ g q)
+unfolding tally
+tally-peak p g zero h = absurd (omega arith)
+tally-peak p g (suc n) h = go (p n) refl h (decLt 0 (tally p n)) (tally-peak p g n)
+  where
+    Peak : ℕ → Type 0
+    Peak n = (q : ℕ) × (q < n) × T (p q) × ((a : ℕ) → a < n → T (p a) → g a ≤ g q)
+
+    last : (a : ℕ) → a < suc n → (a ≡ n) ⊎ (a < n)
+    last a l = elim (ℕ-discrete a n) [ yes e ↦ inl e | no e ↦ inr (omega arith) ]
+
+    above : T (p n) → (r : Peak n) → Dec (g n < g (r .0)) → Peak (suc n)
+    above t r (yes y) = (
+      r .0,
+      omega arith,
+      r .2,
+      λ a l u. elim (last a l) [ inl e ↦ omega (arith, ap g e) | inr e ↦ r .3 a e u ],
+    )
+    above t r (no y) = (
+      n,
+      omega arith,
+      t,
+      λ a l u. elim (last a l) [ inl e ↦ omega (arith, ap g e) | inr e ↦ omega (arith, r .3 a e u) ],
+    )
+
+    alone : T (p n) → (0 < tally p n → ⊥) → Peak (suc n)
+    alone t y = (
+      n,
+      omega arith,
+      t,
+      λ a l u. elim (last a l) [ inl e ↦ omega (arith, ap g e) | inr e ↦ absurd (y (tally-has p n a e u)) ],
+    )
+
+    below : p n ≡ false → Peak n → Peak (suc n)
+    below e r = (
+      r .0,
+      omega arith,
+      r .2,
+      λ a l u. elim (last a l) [ inl z ↦ absurd (subst (λ b. T b) (ap p z ∙ e) u) | inr z ↦ r .3 a z u ],
+    )
+
+    go : (b : Bool) → p n ≡ b → 0 < bit b + tally p n → Dec (0 < tally p n) → (0 < tally p n → Peak n)
+        → Peak (suc n)
+    go true e h (yes y) rec = let r = rec y in above (rw e tt) r (decLt (g n) (g (r .0)))
+    go true e h (no y) rec = alone (rw e tt) y
+    go false e h y rec = below e (rec (omega arith))
+
+-- Elements of a list.
+
+module _ {A : Type 0} where
+  pub count-le : (p r : A → Bool) (l : List A) → ((a : A) → T (p a) → T (r a)) → count p l ≤ count r l
+  unfolding count
+  count-le p r [] h = omega arith
+  count-le p r (x ∷ l) h = go (p x) (r x) (h x) (count-le p r l h)
+    where
+      go : (a b : Bool) → (T a → T b) → count p l ≤ count r l → bit a + count p l ≤ bit b + count r l
+      go true true f i = omega arith
+      go true false f i = absurd (f tt)
+      go false b f i = omega arith
+
+  pub count-none : (p : A → Bool) (l : List A) → ((a : A) → T (p a) → ⊥) → count p l ≡ 0
+  unfolding count
+  count-none p [] h = refl
+  count-none p (x ∷ l) h = omega (arith, bit-F (p x) (h x), count-none p l h)
+
+  pub count-not : (p : A → Bool) (l : List A) → count p l + count (λ a. not (p a)) l ≡ length l
+  unfolding count
+  count-not p [] = refl
+  count-not p (x ∷ l) = go (p x) (count-not p l)
+    where
+      rest : ℕ
+      rest = count (λ a. not (p a)) l
+
+      go : (a : Bool) → count p l + rest ≡ length l → bit a + count p l + (bit (not a) + rest) ≡ suc (length l)
+      go true i = omega arith
+      go false i = omega arith
+
+  pub count-append : (p : A → Bool) (l k : List A) → count p (l ++ k) ≡ count p l + count p k
+  unfolding count
+  count-append p [] k = omega arith
+  count-append p (x ∷ l) k = omega (arith, count-append p l k)
+
+  pub length-count : (l : List A) → length l ≡ count (λ a. true) l
+  unfolding count
+  length-count [] = refl
+  length-count (x ∷ l) = omega (arith, length-count l)
+
+  not-above : (g : A → ℕ) (a k : A) → g k ≤ g a → bit (ltb (g a) (g k)) ≡ 0
+  not-above g a k h = bit-F (ltb (g a) (g k)) λ t. omega tests
+
+  -- a is in the list, and g is nowhere larger
+  abbrev pub Peak : (A → ℕ) → List A → A → Type 0
+  Peak g l a = (count (λ k. ltb (g a) (g k)) l ≡ 0) × ((p : A → Bool) → T (p a) → 0 < count p l)
+
+  -- a list that is not empty has such an element
+  pub count-peak : (g : A → ℕ) (x : A) (l : List A) → (a : A) × Peak g (x ∷ l) a
+  unfolding count
+  count-peak g x [] = (x, (omega (arith, not-above g x x (omega arith)), λ p t. omega (arith, bit-T (p x) t)))
+  count-peak g x (y ∷ l) = let r = count-peak g y l in go (r .0) (r .1) (decLe (g x) (g (r .0)))
+    where
+      go : (a : A) → Peak g (y ∷ l) a → Dec (g x ≤ g a) → (a : A) × Peak g (x ∷ y ∷ l) a
+      go a top (yes h) = (a, (omega (arith, not-above g a x h, top .0), λ p t. omega (arith, top .1 p t)))
+      go a top (no h) =
+          let lower = count-le (λ k. ltb (g x) (g k)) (λ k. ltb (g a) (g k)) (y ∷ l) (λ k t. omega tests) in
+          (x, (omega (arith, not-above g x x (omega arith), top .0), λ p t. omega (arith, bit-T (p x) t)))
+
+  -- Slots: what is counted in the list of the slots is counted over their numbers.
+
+  count-push : (p : A → Bool) (o : Option A) (l : List A) → count p (push o l) ≡ bit (holds p o) + count p l
+  unfolding count
+  count-push p none l = omega arith
+  count-push p (some a) l = refl
+
+  pub count-gather : (p : A → Bool) (slots : ℕ → Option A) (n : ℕ)
+      → count p (gather slots n) ≡ tally (λ q. holds p (slots q)) n
+  unfolding count tally gather
+  count-gather p slots zero = refl
+  count-gather p slots (suc n) =
+      omega (arith, count-push p (slots n) (gather slots n), count-gather p slots n)

@@ -1,0 +1,12 @@
+pub mod Board
+pub mod Tests
+pub mod Counting
+pub mod Least
+pub mod AnyPlan
+pub mod Selection
+pub mod Slots
+pub mod Validation
+pub mod Decision
+pub mod Order
+pub mod Locked
+pub mod Circle

@@ -1,0 +1,182 @@
+-- Selection by counts: whether none, exactly one or several plans are backed, when the answer is not 'none', and that
+-- the plan taken is a slot's vote. Builds on specs/Selection.antt. Assumes nothing.
+use mathlib.Core.Path.{_≡_, refl, ap, _∙_}
+use mathlib.Core.Bool.{Bool, true, false, not, cond, _&&_}
+use mathlib.Core.List.{List}
+use mathlib.Core.Logic.{_⊎_, inl, inr, _≢_}
+use mathlib.Core.Option.{Option, none, some}
+use Prim.Native.Nat.{ℕ, _≤_, _<_}
+use native.Mathlib.Omega.{arith}
+use native.Mathlib.Decide.{ℕ-discrete}
+use lib.ListN.{length}
+use lib.Dec.{T, eqb}
+use borrow.Author.Tests.{eqb-true, eqb-false}
+use Rattle.wire.proofs.Tests.{tests}
+use Rattle.crew.specs.declared.Crew.{Crew}
+use Rattle.crew.specs.Thresholds.{Class, one, two, three}
+use Rattle.ballot.specs.Count.{count}
+use Rattle.ballot.specs.Ballot.{Ballot, votes}
+use Rattle.ballot.specs.Least.{least}
+use Rattle.ballot.specs.Selection.{backed, Backing, nobody, sole, several, besides, backing}
+use Rattle.ballot.specs.Selection.{Choice, plan, any, nothing, anyIf, enough, answer, selection}
+use Rattle.ballot.specs.Selection.{takenOn, taken}
+use Rattle.ballot.proofs.Tests.{and-T, T-and}
+use Rattle.ballot.proofs.Counting.{count-le}
+use Rattle.ballot.proofs.Least.{withVote, withVote-votes, Least, nowhere, found, least-is, Voted}
+use Rattle.ballot.proofs.AnyPlan.{any-voted, any-plan}
+
+-- passes p and has another vote than v
+abbrev pub otherVote : (Ballot → Bool) → ℕ → Ballot → Bool
+otherVote p v m = p m && not (votes v m)
+
+pub data Backs (p : Ballot → Bool) (ballots : List Ballot) : Backing → Type 0 where
+  by-none : count p ballots ≡ 0 → Backs p ballots nobody
+  by-one : (v : ℕ) → 0 < count (withVote p v) ballots → count (otherVote p v) ballots ≡ 0
+      → Backs p ballots (sole v)
+  by-more : (v : ℕ) → 0 < count (withVote p v) ballots → 0 < count (otherVote p v) ballots
+      → Backs p ballots several
+
+module _ (p : Ballot → Bool) (ballots : List Ballot) where
+  pub backing-is : Backs p ballots (backing p ballots)
+  unfolding backing
+  backing-is = go (least p ballots) (least-is p ballots)
+    where
+      others : ℕ → ℕ
+      others v = count (otherVote p v) ballots
+
+      split : (v : ℕ) (a : Bool) → eqb (others v) 0 ≡ a → 0 < count (withVote p v) ballots
+          → Backs p ballots (cond a (sole v) several)
+      split v true e i = by-one v i (eqb-true (others v) 0 e)
+      split v false e i = by-more v i (omega (arith, eqb-false (others v) 0 e))
+
+      go : (o : Option ℕ) → Least p ballots o → Backs p ballots (besides p ballots o)
+      go none (nowhere z) = by-none z
+      go (some v) (found _ i z) = split v (eqb (others v) 0) refl i
+
+  -- none or only v
+  abbrev OnlyBacks : ℕ → Backing → Type 0
+  OnlyBacks v b = ((b ≡ nobody) × (count p ballots ≡ 0)) ⊎ (b ≡ sole v)
+
+  -- where no other plan than v is backed, v alone is, or none
+  backing-only : (v : ℕ) → count (otherVote p v) ballots ≡ 0 → OnlyBacks v (backing p ballots)
+  backing-only v h = go (backing p ballots) backing-is
+    where
+      rival : (w : ℕ) → w ≢ v → count (withVote p w) ballots ≤ count (otherVote p v) ballots
+      rival w d = count-le (withVote p w) (otherVote p v) ballots λ m t.
+          let x = and-T (p m) (votes w m) t in T-and (p m) (not (votes v m)) (x .0) (omega tests)
+
+      same : (w : ℕ) → 0 < count (withVote p w) ballots → w ≡ v
+      same w i = elim (ℕ-discrete w v) [ yes d ↦ d | no d ↦ omega (arith, rival w d) ]
+
+      go : (b : Backing) → Backs p ballots b → OnlyBacks v b
+      go nobody (by-none z) = inl (refl, z)
+      go (sole w) (by-one _ i z) = inr (ap sole (same w i))
+      go several (by-more w i j) = absurd (omega (arith, ap (λ x. count (otherVote p x) ballots) (same w i)))
+
+-- The answer.
+
+module _ (class : Class) (crew : Crew) (ballots : List Ballot) where
+  -- where no other plan than v is backed, the answer is v, or none is backed and it goes by how many slots count
+  pub selection-only : (v : ℕ) → count (otherVote (backed class crew ballots) v) ballots ≡ 0
+      → (selection class crew ballots ≡ plan v)
+      ⊎ ((selection class crew ballots ≡ answer class nobody (enough class crew ballots))
+      × (count (backed class crew ballots) ballots ≡ 0))
+  unfolding selection
+  selection-only v only = elim (backing-only (backed class crew ballots) ballots v only) [
+    | inl r ↦ inr (ap (λ b. answer class b (enough class crew ballots)) (r .0), r .1)
+    | inr r ↦ inl (ap (λ b. answer class b (enough class crew ballots)) r)
+  ]
+
+  -- where only v is backed, and it is wherever slots enough count, the answer is v or 'none'
+  pub selection-finds : (v : ℕ) → count (otherVote (backed class crew ballots) v) ballots ≡ 0
+      → (T (enough class crew ballots) → 0 < count (backed class crew ballots) ballots)
+      → (selection class crew ballots ≡ plan v) ⊎ (selection class crew ballots ≡ nothing)
+  selection-finds v only backs = elim (selection-only v only) [
+    | inl e ↦ inl e
+    | inr e ↦ inr (e .0 ∙ short (enough class crew ballots) λ t. omega (arith, backs t))
+  ]
+    where
+      short : (e : Bool) → (T e → ⊥) → answer class nobody e ≡ nothing
+      short true h = absurd (h tt)
+      short false h = refl
+
+-- the answer is not 'none'
+abbrev pub Answers : Choice → Type 0
+Answers (plan v) = Unit {0}
+Answers any = Unit {0}
+Answers nothing = ⊥
+
+pub enough-answers : (class : Class) (crew : Crew) (ballots : List Ballot) → T (enough class crew ballots)
+    → Answers (selection class crew ballots)
+unfolding selection
+enough-answers class crew ballots h =
+    go class (backing (backed class crew ballots) ballots) (enough class crew ballots) h
+  where
+    go : (class : Class) (b : Backing) (e : Bool) → T e → Answers (answer class b e)
+    go class b false h = absurd h
+    go class nobody true h = tt
+    go class (sole v) true h = tt
+    go one several true h = tt
+    go two several true h = tt
+    go three several true h = tt
+
+-- class 3: one backed plan is enough, and so are more
+pub backed-answers : (crew : Crew) (ballots : List Ballot) → 0 < count (backed three crew ballots) ballots
+    → Answers (selection three crew ballots)
+unfolding selection
+backed-answers crew ballots h =
+    go (backing (backed three crew ballots) ballots) (backing-is (backed three crew ballots) ballots)
+  where
+    go : (b : Backing) → Backs (backed three crew ballots) ballots b
+        → Answers (answer three b (enough three crew ballots))
+    go nobody (by-none z) = absurd (omega arith)
+    go (sole v) x = tt
+    go several x = tt
+
+-- The plan taken.
+
+sole-voted : (p : Ballot → Bool) (ballots : List Ballot) (v : ℕ) → Backs p ballots (sole v)
+    → 0 < count (votes v) ballots
+sole-voted p ballots v (by-one _ i z) = omega (arith, withVote-votes p v ballots)
+
+module _ (class : Class) (crew : Crew) (ballots : List Ballot) where
+  -- what is taken is some ballot's vote, or 0
+  pub taken-voted : Voted (taken class crew ballots) ballots
+  unfolding selection taken
+  taken-voted = go class (backing test ballots) (backing-is test ballots) (enough class crew ballots)
+    where
+      test : Ballot → Bool
+      test = backed class crew ballots
+
+      open-choice : (e : Bool) → Voted (takenOn crew ballots (anyIf e)) ballots
+      open-choice true = any-voted crew ballots
+      open-choice false = inl refl
+
+      go : (class : Class) (b : Backing) → Backs test ballots b → (e : Bool)
+          → Voted (takenOn crew ballots (answer class b e)) ballots
+      go class nobody d e = open-choice e
+      go class (sole v) d e = inr (sole-voted test ballots v d)
+      go one several d e = open-choice e
+      go two several d e = open-choice e
+      go three several d e = any-voted crew ballots
+
+  -- where selection answers, slots count and none votes 0, a plan is taken
+  pub taken-plan : 0 < length ballots → count (votes 0) ballots ≡ 0 → Answers (selection class crew ballots)
+      → taken class crew ballots ≢ 0
+  unfolding selection taken
+  taken-plan h z a = go class (backing test ballots) (backing-is test ballots) (enough class crew ballots) a
+    where
+      test : Ballot → Bool
+      test = backed class crew ballots
+
+      open-choice : (e : Bool) → Answers (anyIf e) → takenOn crew ballots (anyIf e) ≢ 0
+      open-choice true a = any-plan crew ballots h z
+      open-choice false a = absurd a
+
+      go : (class : Class) (b : Backing) → Backs test ballots b → (e : Bool) → Answers (answer class b e)
+          → takenOn crew ballots (answer class b e) ≢ 0
+      go class nobody d e a = open-choice e a
+      go class (sole v) d e a = λ x. omega (arith, sole-voted test ballots v d, ap (λ y. count (votes y) ballots) x)
+      go one several d e a = open-choice e a
+      go two several d e a = open-choice e a
+      go three several d e a = any-plan crew ballots h z

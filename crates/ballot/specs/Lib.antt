@@ -1,0 +1,6 @@
+pub mod Count
+pub mod Ballot
+pub mod Least
+pub mod Selection
+pub mod Validation
+pub mod Decision

@@ -1,0 +1,92 @@
+-- Selection, round 1 of a phase: document 01, 'The three rounds'; source document 000, Algorithms 5 to 7.
+-- "Selection answers a plan, 'any' or 'none'."
+use mathlib.Core.Bool.{Bool, true, false, not, cond, _&&_, _||_}
+use mathlib.Core.List.{List}
+use mathlib.Core.Option.{Option, none, some}
+use Prim.Native.Nat.{ℕ}
+use lib.ListN.{length}
+use lib.Dec.{ltb, eqb}
+use Rattle.crew.specs.declared.Crew.{Crew}
+use Rattle.crew.specs.Thresholds.{Class, one, two, three, E, anyAbove}
+use Rattle.ballot.specs.Count.{count}
+use Rattle.ballot.specs.Ballot.{Ballot, votes, stamped, lists}
+use Rattle.ballot.specs.Least.{least, leastOf}
+
+-- 01: "a slot is possible if more than E slots have its vote or a stamp below its own"
+unfoldable pub possible : Crew → List Ballot → Ballot → Bool
+possible crew ballots m = ltb (E crew) (count (λ k. votes (m .vote) k || ltb (k .stamp) (m .stamp)) ballots)
+
+-- The ballot's vote is backed; in class 3 it is backed through this ballot's stamp.
+-- 01, class 1: "backed are the plans voted by more than E slots"
+-- 01, class 2: "backed are votes of more than b possible slots"
+-- 01, class 3: "backed is the vote v of a possible slot with stamp t where more than b slots list v at phase t"
+unfoldable pub backed : Class → Crew → List Ballot → Ballot → Bool
+backed one crew ballots m = ltb (E crew) (count (votes (m .vote)) ballots)
+backed two crew ballots m = ltb (crew .b) (count (λ k. possible crew ballots k && votes (m .vote) k) ballots)
+backed three crew ballots m =
+    possible crew ballots m && ltb (crew .b) (count (lists (m .vote) (m .stamp)) ballots)
+
+-- how many plans are backed: none, exactly one, or more
+pub data Backing : Type 0 where
+  nobody : Backing
+  sole : ℕ → Backing
+  several : Backing
+
+-- a plan backed through several ballots counts once: the least one, and whether there is another
+abbrev pub besides : (Ballot → Bool) → List Ballot → Option ℕ → Backing
+besides p ballots none = nobody
+besides p ballots (some v) = cond (eqb (count (λ m. p m && not (votes v m)) ballots) 0) (sole v) several
+
+unfoldable pub backing : (Ballot → Bool) → List Ballot → Backing
+backing p ballots = besides p ballots (least p ballots)
+
+pub data Choice : Type 0 where
+  plan : ℕ → Choice
+  any nothing : Choice
+
+-- 01, class 1: "'any' if more than 2E slots count"; class 2: "if more than E + b slots count";
+-- class 3: "if more than E slots have stamp 0"
+unfoldable pub enough : Class → Crew → List Ballot → Bool
+enough one crew ballots = ltb (anyAbove one crew) (length ballots)
+enough two crew ballots = ltb (anyAbove two crew) (length ballots)
+enough three crew ballots = ltb (anyAbove three crew) (count (stamped 0) ballots)
+
+-- 01: "'any' if .., else 'none'"
+abbrev pub anyIf : Bool → Choice
+anyIf true = any
+anyIf false = nothing
+
+-- 01, classes 1 and 2: "Exactly one: that plan. Otherwise 'any' if .., else 'none'."
+-- 01, class 3: "Exactly one plan: that plan. More: 'any'. None: 'any' if .., else 'none'."
+abbrev pub answer : Class → Backing → Bool → Choice
+answer class (sole v) slots = plan v
+answer class nobody slots = anyIf slots
+answer one several slots = anyIf slots
+answer two several slots = anyIf slots
+answer three several slots = any
+
+unfoldable pub selection : Class → Crew → List Ballot → Choice
+selection class crew ballots = answer class (backing (backed class crew ballots) ballots) (enough class crew ballots)
+
+-- no vote has more slots than v
+unfoldable pub leading : List Ballot → ℕ → Bool
+leading ballots v =
+    eqb (count (λ k. ltb (count (votes v) ballots) (count (votes (k .vote)) ballots)) ballots) 0
+
+-- "the vote of most slots, the least plan on a tie"
+unfoldable pub mostVoted : List Ballot → ℕ
+mostVoted ballots = leastOf (leading ballots) ballots
+
+-- What a node of this crew takes for 'any'.
+-- 01: "For 'any' the node takes the vote of most slots, the least plan on a tie"
+unfoldable pub anyPlan : Crew → List Ballot → ℕ
+anyPlan crew ballots = mostVoted ballots
+
+-- 01: "Select is the plan, or 0 for 'none'": what a node takes on an answer
+abbrev pub takenOn : Crew → List Ballot → Choice → ℕ
+takenOn crew ballots (plan v) = v
+takenOn crew ballots any = anyPlan crew ballots
+takenOn crew ballots nothing = 0
+
+unfoldable pub taken : Class → Crew → List Ballot → ℕ
+taken class crew ballots = takenOn crew ballots (selection class crew ballots)

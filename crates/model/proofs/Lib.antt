@@ -1,0 +1,10 @@
+pub mod Node
+pub mod Run
+pub mod ClassOne
+pub mod Invariant
+pub mod Lock
+pub mod Phases
+pub mod Results
+pub mod GoodPhase
+pub mod GoodRun
+pub mod Theorems
