@@ -152,8 +152,8 @@ pub facts-sound : (d : Node) → Sound d → sound d ≡ true
 unfolding sound
 facts-sound d s =
     let place = all-true _ _ _ _ _ _ (le-leb _ _ (s .phase-from)) (le-leb _ _ (s .phase-to)) (le-leb _ _ (s .round-from))
-        (le-leb _ _ (s .round-to)) (validation-allowed (d .crew .class) (d .round) (s .unvalidated))
-        (round-left (d .round) (d .phase) (s .round-from) (s .unspent)) in
+    (le-leb _ _ (s .round-to)) (validation-allowed (d .crew .class) (d .round) (s .unvalidated))
+    (round-left (d .round) (d .phase) (s .round-from) (s .unspent)) in
     let vote = le-leb _ _ (s .vote) in
     let base = le-leb _ _ (s .base) in
     let initial = le-leb _ _ (s .initial) in

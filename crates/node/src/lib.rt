@@ -176,10 +176,13 @@ impl Node {
     pub const UNSTAMPED: u8 = 0;
     // The rounds of a phase.
     pub const SELECTION: u8 = 1;
+
     pub const VALIDATION: u8 = 2;
+
     pub const DECISION: u8 = 3;
     // The class whose nodes skip validation, and the class whose nodes list their histories.
     pub const UNVALIDATED: u8 = 1;
+
     pub const LISTING: u8 = 3;
 
     // Starts a node with its initial plan, or says why not.
@@ -219,7 +222,9 @@ impl Node {
     fn has_plans(self) -> bool
         ensures { λ r. ⌜ r ≡ plansKnown self ⌝ }
     {
-        (Node::NO_PLAN < self.vote) & (Node::NO_PLAN < self.base) & (Node::NO_PLAN < self.history[0])
+        (Node::NO_PLAN < self.vote)
+            & (Node::NO_PLAN < self.base)
+            & (Node::NO_PLAN < self.history[0])
     }
 
     // The vote's stamp is of an earlier phase, or of this one once it is validated.
@@ -288,7 +293,15 @@ impl Node {
         if self.round == Node::SELECTION {
             let history = self.history;
             let phases = self.listed_phases();
-            return message::write_selection(buf, self.run, self.phase, self.vote, self.stamp, history, phases);
+            return message::write_selection(
+                buf,
+                self.run,
+                self.phase,
+                self.vote,
+                self.stamp,
+                history,
+                phases,
+            );
         }
         if self.round == Node::VALIDATION {
             if Node::NO_PLAN < self.select {

@@ -1,0 +1,31 @@
+-- What asking for the coming selection answers: document 01.
+use Prim.Native.Nat.{ℕ, _*_}
+use mathlib.Core.Bool.{_&&_}
+use mathlib.Core.List.{List}
+use lib.ListN.{length}
+use lib.Dec.{ltb, eqb}
+use Rattle.wire.specs.Outcome.{Outcome, accepted, refused, require}
+use Rattle.crew.specs.Thresholds.{classOf}
+use Rattle.ballot.specs.Selection.{Choice, plan, any, nothing, selection}
+use Rattle.node.specs.declared.Node.{Node}
+use Rattle.node.specs.Soundness.{sound}
+use Rattle.rounds.specs.Inbox.{ballots}
+use Rattle.rounds.specs.Taking.{number}
+use Rattle.rounds.specs.declared.Asking.{Asking}
+use Rattle.rounds.specs.declared.Asking.the-variants.{Plan, Any, Nothing, Refused}
+
+-- 01: "only asking for the coming selection (answered as the plan, 'any' or 'none'): 7; 8; 14 inbox length not 202n. Asking
+-- outside round 1 is also 7."
+unfoldable pub askOf : Node → List ℕ → Outcome Choice
+askOf d bytes =
+    require (sound d && eqb (d .round) 1) 7
+    (require (ltb (d .phase) 64) 8
+    (require (eqb (length bytes) (202 * d .crew .n)) 14
+    (accepted (selection (classOf (d .crew)) (d .crew) (ballots d bytes)))))
+
+-- what an answer of `ask` says in 01's terms
+abbrev pub answered : Asking → Outcome Choice
+answered (Plan v) = accepted (plan v)
+answered Any = accepted any
+answered Nothing = accepted nothing
+answered (Refused why) = refused (number why)

@@ -1,0 +1,40 @@
+-- From an inbox's bytes to the ballots that count: document 01, 'Messages'.
+use Prim.Native.Nat.{ℕ, _*_}
+use mathlib.Core.Bool.{Bool, cond, _&&_}
+use mathlib.Core.List.{List, []}
+use mathlib.Core.Option.{Option, none, some}
+use lib.ListN.{take, drop}
+use lib.Dec.{eqb}
+use Rattle.wire.specs.Outcome.{Outcome, accepted, refused}
+use Rattle.message.specs.Fields.{Body, selection, validation, decision, Message}
+use Rattle.message.specs.Encoding.{kindOf}
+use Rattle.message.specs.Reading.{readOf}
+use Rattle.ballot.specs.Ballot.{Ballot, inbox}
+use Rattle.node.specs.declared.Node.{Node}
+
+-- 01: "An inbox is n slots of 202 bytes; slot q is the part that starts at byte 202 times q"
+abbrev pub slotAt : List ℕ → ℕ → List ℕ
+slotAt bytes q = take 202 (drop (202 * q) bytes)
+
+-- what a message puts forward: its vote or plan, and its stamp and entries where its kind has them
+abbrev pub ballotOf : Body → Ballot
+ballotOf (selection vote stamp entries) = record { vote = vote; stamp = stamp; entries = entries }
+ballotOf (validation plan) = record { vote = plan; stamp = 0; entries = [] }
+ballotOf (decision vote stamp) = record { vote = vote; stamp = stamp; entries = [] }
+
+-- 01: "its run, kind and phase are those of the node's coming round": round k takes kind k
+abbrev pub isComing : Node → Message → Bool
+isComing d m = eqb (m .run) (d .run) && eqb (kindOf (m .body)) (d .round) && eqb (m .phase) (d .phase)
+
+-- 01: "A slot counts when reading it succeeds and its run, kind and phase are those of the node's coming round; a slot that
+-- reading refuses is simply absent": the ballot of a slot that counts
+abbrev pub counted : Node → Outcome Message → Option Ballot
+counted d (accepted m) = cond (isComing d m) (some (ballotOf (m .body))) none
+counted d (refused number) = none
+
+unfoldable pub ballotAt : Node → List ℕ → ℕ → Option Ballot
+ballotAt d bytes q = counted d (readOf (slotAt bytes q))
+
+-- the ballots of the n slots
+abbrev pub ballots : Node → List ℕ → List Ballot
+ballots d bytes = inbox (d .crew) (ballotAt d bytes)
