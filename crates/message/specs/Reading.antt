@@ -1,5 +1,5 @@
 -- What reading a slice answers: document 01, 'Messages', and refusals 10 to 13.
-use Prim.Native.Nat.{ℕ, zero, suc, _*_}
+use Prim.Native.Nat.{ℕ, zero, suc, _+_, _*_}
 use mathlib.Core.Bool.{Bool, cond, _&&_}
 use mathlib.Core.List.{List, [], _∷_}
 use lib.ListN.{length, getD, take, drop}
@@ -65,6 +65,10 @@ readOf s =
     require (framed s) 10
     (require (kindKnown s) 11
     (tested s (bodyAt s)))
+
+-- the bytes of so many entries, where the slice holds them
+abbrev pub entriesCounted : List ℕ → ℕ → List ℕ
+entriesCounted s count = cond (leb (13 + 3 * count) (length s)) (take (3 * count) (drop 13 s)) []
 
 -- 01: "the entries as a part of the caller's slice: an empty part for kinds 2 and 3 and where reading refuses"
 abbrev pub entriesPart : List ℕ → Body → List ℕ

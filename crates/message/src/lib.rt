@@ -23,6 +23,7 @@ ghost use Rattle.message.specs.Reading.{
   kindKnown,
   tested,
   readOf,
+  entriesCounted,
   entriesPartOf,
   answered as readAs,
 };
@@ -313,6 +314,19 @@ pub fn read(s: &[u8]) -> Reading
     }
 }
 
+// The bytes of a selection's entries where reading it has told how many there are, as a part of the slice: nothing is
+// read again. Its place is free where it is empty, as it is where the slice is too short for so many.
+pub fn entries_counted(s: &[u8], count: u8) -> &[u8]
+    ensures { λ r. ⌜ now r ≡ entriesCounted (now (s .entry)) count ⌝ }
+{
+    let end = ENTRIES_AT + ENTRY * (wide(count) as usize);
+    if end <= s.len() {
+        &s[ENTRIES_AT..end]
+    } else {
+        &s[..0]
+    }
+}
+
 // The bytes of the entries that reading finds, as a part of the slice. Its place is free where it is empty.
 pub fn entries(s: &[u8]) -> &[u8]
     ensures { λ r. ⌜ now r ≡ entriesPartOf (now (s .entry)) (readOf (now (s .entry))) ⌝ }
@@ -325,10 +339,7 @@ pub fn entries(s: &[u8]) -> &[u8]
             vote: _,
             stamp: _,
             count,
-        } => {
-            let size = ENTRY * (wide(count) as usize);
-            &s[ENTRIES_AT..ENTRIES_AT + size]
-        }
+        } => entries_counted(s, count),
         Reading::Validation {
             run: _,
             phase: _,

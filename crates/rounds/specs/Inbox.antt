@@ -23,17 +23,17 @@ ballotOf (validation plan) = record { vote = plan; stamp = 0; entries = [] }
 ballotOf (decision vote stamp) = record { vote = vote; stamp = stamp; entries = [] }
 
 -- 01: "its run, kind and phase are those of the node's coming round": round k takes kind k
-abbrev pub isComing : Node → Message → Bool
-isComing d m = eqb (m .run) (d .run) && eqb (kindOf (m .body)) (d .round) && eqb (m .phase) (d .phase)
+abbrev pub isOf : ℕ → ℕ → ℕ → Message → Bool
+isOf run phase round m = eqb (m .run) run && eqb (kindOf (m .body)) round && eqb (m .phase) phase
 
 -- 01: "A slot counts when reading it succeeds and its run, kind and phase are those of the node's coming round; a slot that
--- reading refuses is simply absent": the ballot of a slot that counts
-abbrev pub counted : Node → Outcome Message → Option Ballot
-counted d (accepted m) = cond (isComing d m) (some (ballotOf (m .body))) none
-counted d (refused number) = none
+-- reading refuses is simply absent": the ballot of a slot that counts, by what reading it answers
+abbrev pub counted : ℕ → ℕ → ℕ → Outcome Message → Option Ballot
+counted run phase round (accepted m) = cond (isOf run phase round m) (some (ballotOf (m .body))) none
+counted run phase round (refused number) = none
 
 unfoldable pub ballotAt : Node → List ℕ → ℕ → Option Ballot
-ballotAt d bytes q = counted d (readOf (slotAt bytes q))
+ballotAt d bytes q = counted (d .run) (d .phase) (d .round) (readOf (slotAt bytes q))
 
 -- the ballots of the n slots
 abbrev pub ballots : Node → List ℕ → List Ballot

@@ -52,7 +52,8 @@ loop-less c = search needs
 
 loop-again : tie.Need-loop-again Inv-loop μ-loop
 loop-again c =
-    let b4 = c .before .before .before .before in (
+    let b4 = c .before .before .before .before in
+    let b4 = b4 in (
       search needs,
       entries-more _ _ _ _ _ _ _ _ (c .before .before .before .wide .ensures .0) (c .before .is-plan .ensures ∙ ap planOk (c .before .before .u16-at .ensures))
           (b4 .before .loop-test .taken) (b4 .before .before .loop .inv .1) (c .if1 .taken),
@@ -61,6 +62,7 @@ loop-again c =
 returns : tie.Need-returns Inv-loop μ-loop
 returns c =
     let b4 = c .before .before .before .before in
+    let b4 = b4 in
     entries-stop _ _ _ _ _ _ _ _ (c .before .before .before .wide .ensures .0) (c .before .is-plan .ensures ∙ ap planOk (c .before .before .u16-at .ensures))
     (b4 .before .loop-test .taken) (b4 .before .before .loop .inv .1) (c .if1 .left)
 

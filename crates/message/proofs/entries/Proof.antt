@@ -1,7 +1,6 @@
 use mathlib.Core.Path.{sym, _∙_, ap}
-use native.Mathlib.Nat.{add-sub-cancel-left}
-use native.Mathlib.Omega.{arith}
 use borrow.Author.Needs.{needs}
+use borrow.Author.Tests.{le-leb}
 use denote.Ref.{now}
 use Rattle.message.proofs.EntryLaws.{entries-count}
 use Rattle.message.proofs.ReadLaws.{read-fits}
@@ -15,29 +14,8 @@ read-requires c κs = search needs
 enum-known-reading : tie.Need-enum-known-reading
 enum-known-reading c = search needs
 
-wide-requires : tie.Need-wide-requires
-wide-requires c κs = search needs
-
-cast-size : tie.Need-cast-size
-cast-size c = search needs
-
-mul-size : tie.Need-mul-size
-mul-size c = search needs
-
-add-result : tie.Need-add-result
-add-result c = search needs
-
-sub-result : tie.Need-sub-result
-sub-result c = search needs
-
-part-result-start : tie.Need-part-result-start
-part-result-start c = search needs
-
-part-result-end : tie.Need-part-result-end
-part-result-end c =
-    let b4 = c .before .before .before .before in
-    let read-as = sym (b4 .read .ensures) ∙ ap (λ r. answered r (now (b4 .before .before .args .s))) (c .before .before .reading .given .1) in
-    omega (arith, simp entries-count at (read-fits (now (b4 .before .before .args .s)) _ read-as), c .wide .ensures .0)
+entries-counted-requires : tie.Need-entries-counted-requires
+entries-counted-requires c κs = search needs
 
 enum-told : tie.Need-enum-told
 enum-told c = search needs
@@ -60,8 +38,10 @@ slice-aggregate-result-3 c = search needs
 returns : tie.Need-returns
 returns c =
     let b4 = c .before .before .before .before in
-    let read-as = sym (b4 .before .read .ensures) ∙ ap (λ r. answered r (now (b4 .before .before .before .args .s))) (c .before .before .before .reading .given .1) in
-    simp (add-sub-cancel-left, read-as, entries-count, c .before .wide .ensures .0)
+    let s = now (b4 .before .before .args .s) in
+    let as-read = sym (b4 .read .ensures) ∙ ap (λ r. answered r s) (c .before .before .reading .given .1) in
+    let fits = simp entries-count at (read-fits s _ as-read) in
+    simp (c .entries-counted .ensures, as-read, entries-count, le-leb _ _ fits)
 
 returns-2 : tie.Need-returns-2
 returns-2 c =
@@ -84,13 +64,7 @@ entries-spec =
     (tie.spec
     read-requires
     enum-known-reading
-    wide-requires
-    cast-size
-    mul-size
-    add-result
-    sub-result
-    part-result-start
-    part-result-end
+    entries-counted-requires
     enum-told
     slice-aggregate-result
     enum-told-2

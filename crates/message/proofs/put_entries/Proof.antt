@@ -52,6 +52,7 @@ loop-less c = search needs
 loop-again : tie.Need-loop-again Inv-loop μ-loop
 loop-again c =
     let b4 = c .before .before .before .before in
+    let b4 = b4 in
     let l = b4 .before .loop in
     let e = c .before .before .put-entry in
     let kept : length (e .last .0) ≡ length (l .buf) = e .kept .0 in

@@ -33,6 +33,7 @@ returns-3 c =
 returns-4 : tie.Need-returns-4
 returns-4 c =
     let b4 = c .before .before .before .before in
+    let b4 = b4 in
     sym (
     kind-unknown (now (b4 .before .args .s)) (λ e. c .before .before .if1 .left (c .before .before .before .u16-at .ensures ∙ e))
     (λ e. c .before .if2 .left (c .before .before .before .u16-at .ensures ∙ e)) (λ e. c .if3 .left (c .before .before .before .u16-at .ensures ∙ e)))

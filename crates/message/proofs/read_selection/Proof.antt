@@ -58,6 +58,7 @@ returns-2 : tie.Need-returns-2
 unfolding tested
 returns-2 c =
     let b4 = c .before .before .before .before in
+    let b4 = b4 in
     let b8 = b4 .before .before .before .before in
     simp (
       tested,
@@ -72,6 +73,7 @@ returns-3 : tie.Need-returns-3
 unfolding tested
 returns-3 c =
     let b4 = c .before .before .before .before in
+    let b4 = b4 in
     simp (
       tested,
       entries-count,
