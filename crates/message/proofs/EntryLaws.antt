@@ -2,12 +2,12 @@
 -- Assumes nothing.
 use mathlib.Core.Path.{_≡_, refl, ap}
 use mathlib.Core.Bool.{Bool, true, false, _&&_}
-use mathlib.Core.List.{List}
+use mathlib.Core.List.{List, [], _∷_}
 use Prim.Native.Nat.{ℕ, zero, suc, _+_, _*_, _-_, _<_, _≤_}
 use native.Mathlib.Nat.{add-zero, add-assoc}
 use native.Mathlib.Omega.{arith}
 use lib.Dec.{leb, ltb}
-use lib.ListN.{length, getD, drop}
+use lib.ListN.{length, getD, take, drop}
 use lib.Seq.{getD-drop, drop-drop}
 use Rattle.wire.specs.Bytes.{numberAt}
 use Rattle.message.specs.Bounds.{planOk, entriesOk}
@@ -19,12 +19,24 @@ entries-count zero s = refl
 entries-count (suc k) s = ap suc (entries-count k (drop 3 s))
 
 -- the first of k + 1 entries at a place, and the others
-entries-at : (k place least phase : ℕ) (s : List ℕ)
-    → entriesOk least phase (entriesIn (suc k) (drop place s))
-    ≡ (leb least (getD s place 0) && ltb (getD s place 0) phase && planOk (numberAt 2 s (place + 1))
-    && entriesOk (getD s place 0 + 1) phase (entriesIn k (drop (place + 3) s)))
-unfolding entriesOk entriesIn
-entries-at k place least phase s = simp (getD-drop, drop-drop, add-zero, add-assoc)
+pub entries-next : (k place : ℕ) (s : List ℕ)
+    → entriesIn (suc k) (drop place s)
+    ≡ record { phase = getD s place 0; plan = numberAt 2 s (place + 1) } ∷ entriesIn k (drop (place + 3) s)
+unfolding entriesIn
+entries-next k place s = simp (getD-drop, drop-drop, add-zero, add-assoc)
+
+-- entries stand in their own three bytes each
+pub entries-take : (k n : ℕ) (s : List ℕ) → 3 * k ≤ n → 3 * k ≤ length s → entriesIn k (take n s) ≡ entriesIn k s
+unfolding entriesIn
+entries-take zero n s room long = refl
+entries-take (suc k) zero s room long = absurd (omega arith)
+entries-take (suc k) (suc zero) s room long = absurd (omega arith)
+entries-take (suc k) (suc (suc zero)) s room long = absurd (omega arith)
+entries-take (suc k) (suc (suc (suc n))) [] room long = absurd (omega arith)
+entries-take (suc k) (suc (suc (suc n))) (a ∷ []) room long = absurd (omega arith)
+entries-take (suc k) (suc (suc (suc n))) (a ∷ b ∷ []) room long = absurd (omega arith)
+entries-take (suc k) (suc (suc (suc n))) (a ∷ b ∷ c ∷ s) room long =
+    ap (λ es. record { phase = a; plan = numberAt 2 (a ∷ b ∷ c ∷ s) 1 } ∷ es) (entries-take k n s (omega arith) (omega arith))
 
 -- A turn of the loop: entry i has been read, `whole` is what all entries answer, and those from i on answer it too.
 module _ (count i least phase entry-phase : ℕ) (plan-ok : Bool) (s : List ℕ) (whole : Bool)
@@ -34,10 +46,12 @@ module _ (count i least phase entry-phase : ℕ) (plan-ok : Bool) (s : List ℕ)
     (rest : entriesOk least phase (entriesIn (count - i) (drop (13 + 3 * i) s)) ≡ whole) where
   turn : (leb least entry-phase && ltb entry-phase phase && plan-ok
       && entriesOk (entry-phase + 1) phase (entriesIn (count - (i + 1)) (drop (13 + 3 * (i + 1)) s))) ≡ whole
+  unfolding entriesOk
   turn =
       let left : count - i ≡ suc (count - (i + 1)) = omega arith in
       let next : 13 + 3 * (i + 1) ≡ 13 + 3 * i + 3 = omega arith in
-      rw (phase-is, plan-is, next, ← entries-at (count - (i + 1)) (13 + 3 * i) least phase s, ← left) rest
+      let first = rw (left, entries-next (count - (i + 1)) (13 + 3 * i) s) at rest in
+      rw (phase-is, plan-is, next) first
 
   pub entries-more : (leb least entry-phase && ltb entry-phase phase && plan-ok) ≡ true
       → entriesOk (entry-phase + 1) phase (entriesIn (count - (i + 1)) (drop (13 + 3 * (i + 1)) s)) ≡ whole

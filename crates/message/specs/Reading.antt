@@ -1,15 +1,16 @@
 -- What reading a slice answers: document 01, 'Messages', and refusals 10 to 13.
-use Prim.Native.Nat.{ℕ, zero, suc, _+_, _*_}
+use Prim.Native.Nat.{ℕ, zero, suc, _+_, _*_, _/_}
 use mathlib.Core.Bool.{Bool, cond, _&&_}
 use mathlib.Core.List.{List, [], _∷_}
 use lib.ListN.{length, getD, take, drop}
-use lib.Dec.{leb, eqb}
+use lib.Dec.{leb, ltb, eqb}
 use Rattle.wire.specs.Outcome.{Outcome, accepted, refused, require}
 use Rattle.wire.specs.Entry.{Entry}
 use Rattle.wire.specs.Bytes.{numberAt}
 use Rattle.message.specs.Fields.{Body, selection, validation, decision, Message}
 use Rattle.message.specs.Bounds.{within}
 use Rattle.message.specs.Encoding.{sizeOf}
+use Rattle.message.specs.declared.Entry.{Entry as ShownEntry}
 use Rattle.message.specs.declared.Refusal.{Refusal}
 use Rattle.message.specs.declared.Refusal.the-variants.{Cut, Kind, Length, Bound}
 use Rattle.message.specs.declared.Reading.{Reading}
@@ -79,6 +80,16 @@ entriesPart s (decision vote stamp) = []
 abbrev pub entriesPartOf : List ℕ → Outcome Message → List ℕ
 entriesPartOf s (accepted m) = entriesPart s (m .body)
 entriesPartOf s (refused number) = []
+
+-- entry i of such a part, where it has one
+abbrev pub entryAt : List ℕ → ℕ → Entry
+entryAt part i =
+    cond (ltb i (length part / 3))
+    (record { phase = getD part (3 * i) 0; plan = numberAt 2 part (3 * i + 1) })
+    (record { phase = 0; plan = 0 })
+
+abbrev pub entryAs : ShownEntry → Entry
+entryAs e = record { phase = e .phase; plan = e .plan }
 
 -- 01's number of each refusal
 abbrev pub number : Refusal → ℕ

@@ -25,6 +25,8 @@ ghost use Rattle.message.specs.Reading.{
   readOf,
   entriesCounted,
   entriesPartOf,
+  entryAt,
+  entryAs,
   answered as readAs,
 };
 ghost use Rattle.message.specs.Writing.{
@@ -59,7 +61,7 @@ const COUNT_AT: usize = 12;
 
 const ENTRIES_AT: usize = 13;
 // An entry is a phase (1) and a plan (2).
-const ENTRY: usize = 3;
+const ENTRY_SIZE: usize = 3;
 
 // The kinds and their lengths; a selection is as long as its entries make it.
 const SELECTION: u16 = 1;
@@ -107,6 +109,12 @@ pub enum Reading {
         stamp: u8,
     },
     Refused(Refusal),
+}
+
+// An entry of a history: the plan of a phase.
+pub struct Entry {
+    pub phase: u8,
+    pub plan: u16,
 }
 
 // Why writing refuses; `number` in specs/Writing.antt has 01's numbers.
@@ -177,7 +185,7 @@ fn are_entries(s: &[u8], count: usize, phase: u16) -> bool
     let mut least: u16 = 0;
     let mut i = 0;
     while i < count {
-        let place = ENTRIES_AT + ENTRY * i;
+        let place = ENTRIES_AT + ENTRY_SIZE * i;
         let entry_phase = wide(s[place]);
         let ok = (least <= entry_phase) & (entry_phase < phase) & is_plan(u16_at(s, place + 1));
         if ok {
@@ -319,7 +327,7 @@ pub fn read(s: &[u8]) -> Reading
 pub fn entries_counted(s: &[u8], count: u8) -> &[u8]
     ensures { λ r. ⌜ now r ≡ entriesCounted (now (s .entry)) count ⌝ }
 {
-    let end = ENTRIES_AT + ENTRY * (wide(count) as usize);
+    let end = ENTRIES_AT + ENTRY_SIZE * (wide(count) as usize);
     if end <= s.len() {
         &s[ENTRIES_AT..end]
     } else {
@@ -352,6 +360,21 @@ pub fn entries(s: &[u8]) -> &[u8]
             stamp: _,
         } => &s[..0],
         Reading::Refused(_) => &s[..0],
+    }
+}
+
+// Entry i of the bytes that `entries` shows; phase 0 and no plan where they have no such entry.
+pub fn entry_at(part: &[u8], i: usize) -> Entry
+    ensures { λ r. ⌜ entryAs r ≡ entryAt (now (part .entry)) i ⌝ }
+{
+    if i < part.len() / ENTRY_SIZE {
+        let place = ENTRY_SIZE * i;
+        Entry {
+            phase: part[place],
+            plan: u16_at(part, place + 1),
+        }
+    } else {
+        Entry { phase: 0, plan: 0 }
     }
 }
 
@@ -448,7 +471,7 @@ fn put_entry(buf: &mut [u8], place: usize, phase: u8, plan: u16) -> usize
     if is_plan(plan) {
         buf[place] = phase;
         put16(buf, place + 1, plan);
-        place + ENTRY
+        place + ENTRY_SIZE
     } else {
         place
     }
@@ -484,7 +507,7 @@ pub fn write_selection(
     let allowed = (phases <= phase) & (is_phase(phase) & (is_plan(vote) & (stamp < phase)));
     if allowed {
         let count = count_entries(history, phases);
-        let size = SELECTION_LENGTH as usize + ENTRY * count;
+        let size = SELECTION_LENGTH as usize + ENTRY_SIZE * count;
         if buf.len() < size {
             return Writing::Refused(WriteRefusal::Short);
         }

@@ -1,3 +1,4 @@
 pub mod Inbox
 pub mod Taking
 pub mod Asking
+pub mod Columns

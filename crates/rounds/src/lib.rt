@@ -1,5 +1,17 @@
 // Asking for the coming selection, and taking a round: from an inbox's bytes to the next record.
-// What each answers stands in specs/Asking.antt and specs/Taking.antt, what a slot says in specs/Inbox.antt.
+// What each answers stands in specs/Asking.antt and specs/Taking.antt, what a slot says in specs/Inbox.antt. The slots are
+// read once, into columns (specs/Columns.antt); the rules run over those.
+use message::Reading;
+ghost use mathlib.Core.Path.{_≡_};
+ghost use mathlib.Core.Bool.{true, false};
+ghost use mathlib.Core.Option.{Option, none, some};
+ghost use Prim.Native.Nat.{_+_, _*_, _<_, _≤_};
+ghost use lib.ListN.{length, set, drop};
+ghost use Rattle.wire.specs.Bytes.{numberAt};
+ghost use Rattle.message.specs.Reading.{readOf, entriesIn};
+ghost use Rattle.message.specs.Bounds.{entriesOk};
+ghost use Rattle.rounds.specs.Inbox.{slotAt, counted};
+ghost use Rattle.rounds.specs.Columns.{columns, empty, PhasesBelow, laid, put, filled, saidAs};
 
 // Why a round is not taken, or a selection not told; `number` in specs/Taking.antt has 01's numbers.
 pub enum Refusal {
@@ -20,4 +32,110 @@ pub enum Asking {
     Any,
     Nothing,
     Refused(Refusal),
+}
+
+// 01: "An inbox is n slots of 202 bytes": a selection with all 63 entries fits.
+const SLOT: usize = 202;
+// The columns have a place for each node of the largest crew.
+const SLOTS: usize = 32;
+// A history has a place for each phase 0 to 63.
+const PHASES: usize = 64;
+const PLACES: usize = 2048;
+// An entry is a phase (1) and a plan (2).
+const ENTRY: usize = 3;
+
+// What a slot says to a node: a ballot, of its history only how many entries it has, or nothing where it does not count.
+enum Said {
+    Ballot {
+        vote: u16,
+        stamp: u8,
+        count: u8,
+    },
+    Nothing,
+}
+
+// Kind and coming round are matched here and nowhere else: round k takes kind k.
+fn hear(slot: &[u8], run: u32, phase: u8, round: u8) -> Said
+    ensures { λ r. ⌜ saidAs r (now (slot .entry)) ≡ counted run phase round (readOf (now (slot .entry))) ⌝ }
+{
+    let reading = message::read(slot);
+    match reading {
+        Reading::Selection {
+            run: its_run,
+            phase: its_phase,
+            vote,
+            stamp,
+            count,
+        } => {
+            let counts = (its_run == run) & (1 == round) & (its_phase == phase);
+            if counts {
+                return Said::Ballot { vote, stamp, count };
+            }
+            Said::Nothing
+        }
+        Reading::Validation {
+            run: its_run,
+            phase: its_phase,
+            plan,
+        } => {
+            let counts = (its_run == run) & (2 == round) & (its_phase == phase);
+            if counts {
+                return Said::Ballot {
+                    vote: plan,
+                    stamp: 0,
+                    count: 0,
+                };
+            }
+            Said::Nothing
+        }
+        Reading::Decision {
+            run: its_run,
+            phase: its_phase,
+            vote,
+            stamp,
+        } => {
+            let counts = (its_run == run) & (3 == round) & (its_phase == phase);
+            if counts {
+                return Said::Ballot {
+                    vote,
+                    stamp,
+                    count: 0,
+                };
+            }
+            Said::Nothing
+        }
+        Reading::Refused(_) => Said::Nothing,
+    }
+}
+
+fn wide(x: u8) -> u16
+    ensures { λ r. ⌜ (r ≡ x) × (r < 256) ⌝ }
+{
+    x as u16
+}
+
+// The plan of the entry at a place: after its phase, two bytes.
+fn entry_plan(part: &[u8], place: usize) -> u16
+    requires { ⌜ place + 2 < length (now part) ⌝ }
+    ensures { λ r. ⌜ r ≡ numberAt 2 (now (part .entry)) (place + 1) ⌝ }
+{
+    wide(part[place + 1]) + 256 * wide(part[place + 2])
+}
+
+// Lays a slot's entries into its row of the histories.
+fn lay_entries(histories: &mut [u16; 2048], row: usize, part: &[u8], count: usize)
+    requires { ⌜ (row + 64 ≤ 2048)
+        × (3 * count ≤ length (now part))
+        × (length (now part) ≤ 202)
+        × PhasesBelow 64 (entriesIn count (now part)) ⌝ }
+    ensures { λ _. ⌜ now (histories .exit)
+        ≡ laid (now (histories .entry)) row (entriesIn count (now (part .entry))) ⌝ }
+{
+    let mut i = 0;
+    while i < count {
+        let place = ENTRY * i;
+        let phase = wide(part[place]) as usize;
+        histories[row + phase] = entry_plan(part, place);
+        i = i + 1;
+    }
 }
