@@ -7,7 +7,6 @@ ghost use mathlib.Core.Bool.{true, false};
 ghost use mathlib.Core.Option.{Option, none, some};
 ghost use Prim.Native.Nat.{_+_, _*_, _<_, _≤_};
 ghost use lib.ListN.{length, set, drop};
-ghost use Rattle.wire.specs.Bytes.{numberAt};
 ghost use Rattle.message.specs.Reading.{readOf, entriesIn};
 ghost use Rattle.message.specs.Bounds.{entriesOk};
 ghost use Rattle.rounds.specs.Inbox.{slotAt, counted};
@@ -41,8 +40,6 @@ const SLOTS: usize = 32;
 // A history has a place for each phase 0 to 63.
 const PHASES: usize = 64;
 const PLACES: usize = 2048;
-// An entry is a phase (1) and a plan (2).
-const ENTRY: usize = 3;
 
 // What a slot says to a node: a ballot, of its history only how many entries it has, or nothing where it does not count.
 enum Said {
@@ -108,34 +105,71 @@ fn hear(slot: &[u8], run: u32, phase: u8, round: u8) -> Said
     }
 }
 
-fn wide(x: u8) -> u16
-    ensures { λ r. ⌜ (r ≡ x) × (r < 256) ⌝ }
-{
-    x as u16
-}
-
-// The plan of the entry at a place: after its phase, two bytes.
-fn entry_plan(part: &[u8], place: usize) -> u16
-    requires { ⌜ place + 2 < length (now part) ⌝ }
-    ensures { λ r. ⌜ r ≡ numberAt 2 (now (part .entry)) (place + 1) ⌝ }
-{
-    wide(part[place + 1]) + 256 * wide(part[place + 2])
-}
-
 // Lays a slot's entries into its row of the histories.
 fn lay_entries(histories: &mut [u16; 2048], row: usize, part: &[u8], count: usize)
-    requires { ⌜ (row + 64 ≤ 2048)
-        × (3 * count ≤ length (now part))
-        × (length (now part) ≤ 202)
-        × PhasesBelow 64 (entriesIn count (now part)) ⌝ }
+    requires { ⌜ (row + 64 ≤ 2048) × (3 * count ≤ length (now part)) × PhasesBelow 64 (entriesIn count (now part)) ⌝ }
     ensures { λ _. ⌜ now (histories .exit)
         ≡ laid (now (histories .entry)) row (entriesIn count (now (part .entry))) ⌝ }
 {
     let mut i = 0;
     while i < count {
-        let place = ENTRY * i;
-        let phase = wide(part[place]) as usize;
-        histories[row + phase] = entry_plan(part, place);
+        let entry = message::entry_at(part, i);
+        let place = row + entry.phase as usize;
+        histories[place] = entry.plan;
         i = i + 1;
+    }
+}
+
+// Puts what a slot says into the columns; a slot that does not count adds nothing.
+fn read_slot(
+    slot: &[u8],
+    q: usize,
+    run: u32,
+    phase: u8,
+    round: u8,
+    present: &mut [bool; 32],
+    votes: &mut [u16; 32],
+    stamps: &mut [u8; 32],
+    histories: &mut [u16; 2048],
+)
+    requires { ⌜ q < 32 ⌝ }
+    ensures { λ _. ⌜ columns (now (present .exit)) (now (votes .exit)) (now (stamps .exit)) (now (histories .exit))
+        ≡ put (columns (now (present .entry)) (now (votes .entry)) (now (stamps .entry)) (now (histories .entry)))
+        q (counted run phase round (readOf (now (slot .entry)))) ⌝ }
+{
+    let heard = hear(slot, run, phase, round);
+    let Said::Ballot { vote, stamp, count } = heard else {
+        return;
+    };
+    present[q] = true;
+    votes[q] = vote;
+    stamps[q] = stamp;
+    lay_entries(histories, PHASES * q, message::entries_counted(slot, count), count as usize);
+}
+
+// Reads the slots of an inbox, once, into empty columns.
+fn read_slots(
+    inbox: &[u8],
+    n: usize,
+    run: u32,
+    phase: u8,
+    round: u8,
+    present: &mut [bool; 32],
+    votes: &mut [u16; 32],
+    stamps: &mut [u8; 32],
+    histories: &mut [u16; 2048],
+)
+    requires { ⌜ (n ≤ 32)
+        × (length (now inbox) ≡ 202 * n)
+        × (columns (now present) (now votes) (now stamps) (now histories) ≡ empty) ⌝ }
+    ensures { λ _. ⌜ columns (now (present .exit)) (now (votes .exit)) (now (stamps .exit)) (now (histories .exit))
+        ≡ filled (λ q. counted run phase round (readOf (slotAt (now (inbox .entry)) q))) n ⌝ }
+{
+    let mut q = 0;
+    while q < n {
+        let start = SLOT * q;
+        let end = start + SLOT;
+        read_slot(&inbox[start..end], q, run, phase, round, present, votes, stamps, histories);
+        q = q + 1;
     }
 }

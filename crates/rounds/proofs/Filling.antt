@@ -1,0 +1,17 @@
+-- What the walk over the slots goes by: one slot more in the columns.
+-- Assumes nothing.
+use mathlib.Core.Path.{_≡_, refl, ap, _∙_}
+use mathlib.Core.Option.{Option}
+use Prim.Native.Nat.{ℕ, suc, _+_}
+use native.Mathlib.Numerals.{add-one}
+use Rattle.ballot.specs.Ballot.{Ballot}
+use Rattle.rounds.specs.Columns.{Columns, put, filled}
+
+pub filled-next : (slots : ℕ → Option Ballot) (q : ℕ) → filled slots (q + 1) ≡ put (filled slots q) q (slots q)
+unfolding filled
+filled-next slots q = rw (add-one q)
+
+pub filled-more : (slots : ℕ → Option Ballot) (q : ℕ) (before after : Columns) (slot : Option Ballot)
+    → before ≡ filled slots q → slot ≡ slots q → after ≡ put before q slot → after ≡ filled slots (q + 1)
+filled-more slots q before after slot is-before is-slot is-after =
+    rw (filled-next slots q, is-after, is-before, is-slot)

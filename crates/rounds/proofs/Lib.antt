@@ -1,0 +1,3 @@
+pub mod EntryTurns
+pub mod Heard
+pub mod Filling
