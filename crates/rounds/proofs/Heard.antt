@@ -22,7 +22,7 @@ use Rattle.rounds.specs.Inbox.{isOf, ballotOf, counted}
 use Rattle.rounds.specs.Columns.{PhasesBelow}
 
 -- entries that keep their bounds in a message of some phase lie below that phase, and below any later one
-ok-below : (least phase later : ℕ) (es : List Entry) → phase ≤ later → entriesOk least phase es ≡ true → PhasesBelow later es
+pub ok-below : (least phase later : ℕ) (es : List Entry) → phase ≤ later → entriesOk least phase es ≡ true → PhasesBelow later es
 unfolding entriesOk
 ok-below least phase later [] h ok = tt
 ok-below least phase later (e ∷ es) h ok =

@@ -1,3 +1,5 @@
 pub mod EntryTurns
 pub mod Heard
 pub mod Filling
+pub mod Rows
+pub mod Meaning
