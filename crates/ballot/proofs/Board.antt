@@ -9,7 +9,8 @@ use Rattle.crew.specs.Thresholds.{classOf}
 use Rattle.ballot.specs.Count.{count}
 use Rattle.ballot.specs.Ballot.{Ballot, lists}
 use Rattle.ballot.specs.Least.{least, leastOf}
-use Rattle.ballot.specs.Selection.{possible, backed, backing, enough, selection, leading, mostVoted, anyPlan, taken}
+use Rattle.ballot.specs.Selection.{possible, backed, backing, enough, selection}
+use Rattle.ballot.specs.Selection.{leading, mostVoted, anyPlan, taken}
 use Rattle.ballot.specs.Selection.{Choice, plan, any, nothing}
 use Rattle.ballot.specs.Validation.{valid, validated}
 use Rattle.ballot.specs.Decision.{decides, decision}

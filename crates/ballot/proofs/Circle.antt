@@ -15,9 +15,9 @@ use Rattle.crew.specs.Thresholds.{one, two, three, anyAbove}
 use Rattle.ballot.specs.Count.{tally, count}
 use Rattle.ballot.specs.Ballot.{Ballot, inbox, votes, stamped, lists}
 use Rattle.ballot.specs.Selection.{possible, backed, enough, selection}
-use Rattle.ballot.proofs.Tests.{T-and, T-or-l, T-or-r}
+use Rattle.ballot.proofs.Tests.{T-or-l, T-or-r}
 use Rattle.ballot.proofs.Counting.{tally-peak, length-count}
-use Rattle.ballot.proofs.Selection.{Answers, enough-answers, backed-answers}
+use Rattle.ballot.proofs.Selection.{Answers, back-three, enough-answers, backed-answers}
 use Rattle.ballot.proofs.Slots.{Slots, EachFrom, slot-counts, circle-passes}
 
 abbrev stampOr : Option Ballot → ℕ
@@ -51,7 +51,7 @@ module _ (crew : Crew) (slots : Slots) (circle : ℕ → Bool) (wide : crew .n �
     highest : (q : ℕ) → q < crew .n → T (circle q) → (m : Ballot) → slots q ≡ some m
         → EachFrom circle crew slots (λ o. o .stamp ≤ m .stamp) → Dec (0 < m .stamp)
         → Answers (selection three crew ballots)
-    unfolding enough backed possible
+    unfolding enough possible
     highest q lq kq m e top (yes pos) =
         let support = circle-passes crew slots (λ k. votes (m .vote) k || ltb (k .stamp) (m .stamp)) circle wide present
         λ a la ka o i. elim (ℕ-discrete (o .stamp) (m .stamp)) [
@@ -59,9 +59,7 @@ module _ (crew : Crew) (slots : Slots) (circle : ℕ → Bool) (wide : crew .n �
               (omega (tests, unique a la ka o i q lq kq m e z (omega arith)))
           | no z ↦ T-or-r (votes (m .vote) o) (ltb (o .stamp) (m .stamp)) (omega (tests, top a la ka o i))
         ] in
-        let its : T (backed three crew ballots m) =
-        T-and (possible crew ballots m) (ltb (crew .b) (count (lists (m .vote) (m .stamp)) ballots)) (omega tests)
-        (omega (tests, listed q lq kq m e pos)) in
+        let its = back-three crew ballots m (omega tests) (listed q lq kq m e pos) in
         backed-answers crew ballots (slot-counts crew slots (backed three crew ballots) q lq m e its)
     highest q lq kq m e top (no pos) =
         enough-answers three crew ballots (omega (

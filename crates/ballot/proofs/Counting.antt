@@ -52,11 +52,6 @@ unfolding tally
 tally-all zero = refl
 tally-all (suc n) = omega (arith, tally-all n)
 
-pub tally-bound : (p : ℕ → Bool) (n : ℕ) → tally p n ≤ n
-unfolding tally
-tally-bound p zero = omega arith
-tally-bound p (suc n) = omega (arith, bit-le (p n), tally-bound p n)
-
 pub tally-not : (p : ℕ → Bool) (n : ℕ) → tally p n + tally (λ q. not (p q)) n ≡ n
 unfolding tally
 tally-not p zero = refl

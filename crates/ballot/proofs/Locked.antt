@@ -19,7 +19,7 @@ use Rattle.ballot.specs.Selection.{nobody, plan, nothing, answer}
 use Rattle.ballot.proofs.Tests.{and-T, T-and, or-T, T-or-l, T-or-r}
 use Rattle.ballot.proofs.Counting.{count-le, count-none, count-not, length-count}
 use Rattle.ballot.proofs.AnyPlan.{any-leader}
-use Rattle.ballot.proofs.Selection.{otherVote, selection-only, selection-finds}
+use Rattle.ballot.proofs.Selection.{otherVote, backed-three, selection-only, selection-finds}
 use Rattle.ballot.proofs.Slots.{Slots, EachFrom, FewLiars, liars-at-most-b, outside-core-at-most-E}
 
 -- the node takes v, or nothing
@@ -133,7 +133,8 @@ module _ (crew : Crew) (reach : crew .d + crew .b + crew .f ≤ crew .n) (slots 
         let many : crew .b < count mine ballots = omega (tests, count-not mine ballots) in
         let possibles = count-le mine (λ k. possible crew ballots k && votes v k) ballots λ k x.
         let d = and-T (votes v k) (leb t (k .stamp)) x in
-        T-and (possible crew ballots k) (votes v k) (core-possible (omega tests) k (omega tests) (omega tests)) (d .0) in
+        let its : T (possible crew ballots k) = core-possible (omega tests) k (omega tests) (omega tests) in
+        T-and (possible crew ballots k) (votes v k) its (d .0) in
         omega (
           tests,
           count-le mine (backed two crew ballots) ballots λ m x.
@@ -151,10 +152,9 @@ module _ (crew : Crew) (reach : crew .d + crew .b + crew .f ≤ crew .n) (slots 
 
     module _ (listed : EachFrom honest crew slots (λ m. (w x : ℕ) → T (lists w x m) → t < x → w ≡ v)) where
       rivals-three : count (otherVote (backed three crew ballots) v) ballots ≡ 0
-      unfolding backed
       rivals-three = count-none _ ballots λ m h.
           let d = and-T (backed three crew ballots m) (not (votes v m)) h in
-          let e = and-T (possible crew ballots m) (ltb (crew .b) (count (lists (m .vote) (m .stamp)) ballots)) (d .0) in
+          let e = backed-three crew ballots m (d .0) in
           omega (
             tests,
             liars-at-most-b crew slots (lists (m .vote) (m .stamp)) honest few λ q l y k o x.

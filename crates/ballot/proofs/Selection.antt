@@ -15,9 +15,9 @@ use Rattle.wire.proofs.Tests.{tests}
 use Rattle.crew.specs.declared.Crew.{Crew}
 use Rattle.crew.specs.Thresholds.{Class, one, two, three}
 use Rattle.ballot.specs.Count.{count}
-use Rattle.ballot.specs.Ballot.{Ballot, votes}
+use Rattle.ballot.specs.Ballot.{Ballot, votes, lists}
 use Rattle.ballot.specs.Least.{least}
-use Rattle.ballot.specs.Selection.{backed, Backing, nobody, sole, several, besides, backing}
+use Rattle.ballot.specs.Selection.{possible, backed, Backing, nobody, sole, several, besides, backing}
 use Rattle.ballot.specs.Selection.{Choice, plan, any, nothing, anyIf, enough, answer, selection}
 use Rattle.ballot.specs.Selection.{takenOn, taken}
 use Rattle.ballot.proofs.Tests.{and-T, T-and}
@@ -72,6 +72,17 @@ module _ (p : Ballot → Bool) (ballots : List Ballot) where
       go nobody (by-none z) = inl (refl, z)
       go (sole w) (by-one _ i z) = inr (ap sole (same w i))
       go several (by-more w i j) = absurd (omega (arith, ap (λ x. count (otherVote p x) ballots) (same w i)))
+
+-- class 3: what it is for a ballot's vote to be backed
+pub backed-three : (crew : Crew) (ballots : List Ballot) (m : Ballot) → T (backed three crew ballots m)
+    → T (possible crew ballots m) × (crew .b < count (lists (m .vote) (m .stamp)) ballots)
+unfolding backed
+backed-three crew ballots m h = let d = and-T (possible crew ballots m) _ h in (d .0, omega tests)
+
+pub back-three : (crew : Crew) (ballots : List Ballot) (m : Ballot) → T (possible crew ballots m)
+    → crew .b < count (lists (m .vote) (m .stamp)) ballots → T (backed three crew ballots m)
+unfolding backed
+back-three crew ballots m p l = T-and (possible crew ballots m) _ p (omega tests)
 
 -- The answer.
 

@@ -94,6 +94,6 @@ overlap crew honest few senders left right p r in-left in-right apart =
       arith,
       count-gather p left (crew .n),
       count-gather r right (crew .n),
-      tally-meet (λ q. holds p (left q)) (λ q. holds r (right q)) senders (λ q. not (honest q)) (crew .n) in-left in-right
-          λ q l s t. not-T (honest q) (λ h. apart q l h s t),
+      tally-meet (λ q. holds p (left q)) (λ q. holds r (right q)) senders (λ q. not (honest q)) (crew .n)
+          in-left in-right λ q l s t. not-T (honest q) (λ h. apart q l h s t),
     )

@@ -1,10 +1,9 @@
 -- Classes 2 and 3: what holds of every honest node when a round begins; that a phase validates one plan; and that every
 -- stamp is backed by the histories of those who let it be validated. Assumes nothing.
-use mathlib.Core.Path.{_≡_, refl, sym, ap, _∙_}
+use mathlib.Core.Path.{_≡_, refl, ap}
 use mathlib.Core.Bool.{Bool, not, _&&_}
 use mathlib.Core.Logic.{inl, inr, _≢_}
-use mathlib.Core.List.{[]}
-use mathlib.Core.Option.{Option, none, some}
+use mathlib.Core.Option.{some}
 use Prim.Native.Nat.{ℕ, suc, _+_, _*_, _≤_, _<_}
 use native.Mathlib.Omega.{arith}
 use lib.ListN.{length, getD, length-replicate}
@@ -24,7 +23,7 @@ use Rattle.ballot.proofs.Decision.{Stamps}
 use Rattle.model.specs.Node.{Node, Round, selecting, validating, deciding}
 use Rattle.model.specs.Node.{begin, ifPlan, selects, confirms, settles}
 use Rattle.model.specs.Run.{Each, State, Inboxes, turned, step, Faithful, spent, start}
-use Rattle.model.proofs.Node.{ifPlan-is, confirms-is, said, same-vote, not-none, begins-blank}
+use Rattle.model.proofs.Node.{ifPlan-is, confirms-is, said-plan, same-vote, begins-blank}
 use Rattle.model.proofs.Node.{kept-length, kept-other, kept-here}
 use Rattle.model.proofs.Run.{at, heard}
 
@@ -77,7 +76,7 @@ node-selects phase v d t o = record {
   voted = tt;
   blank = λ x l. omega (arith, kept-other (d .history) phase v x (omega arith), o .blank x (omega arith));
   long = omega (arith, kept-length (d .history) phase v, o .long);
-  recorded = λ plan. kept-here (d .history) phase v (omega (arith, o .long)) plan;
+  recorded = λ plan. omega (arith, kept-here (d .history) phase v (omega (arith, o .long)) plan);
 }
 
 node-confirms : (phase v : ℕ) (d : Node) → NodeOk phase validating d → NodeOk phase deciding (confirms phase v d)
@@ -150,11 +149,8 @@ module _ (class : Class) (crew : Crew) (honest : ℕ → Bool) (few : FewLiars c
         → i p q ≡ some m → (nodes q .select ≢ 0) × (nodes q .select ≡ m .vote)
     slot-selected p lp hp q lq hq m e =
         let h = heard class crew honest i (at phase validating nodes) f p lp hp q lq hq m e in
-        let its : Ballot = record { vote = nodes q .select; stamp = 0; entries = [] } in
-        elim (ifPlan-is {A = Option Ballot} (nodes q .select) (some its) none) [
-          | inl z ↦ absurd (not-none (sym (z .1) ∙ h))
-          | inr z ↦ (z .0, same-vote (said (sym (z .1) ∙ h)))
-        ]
+        let b = said-plan (nodes q .select) h in
+        (b .0, omega (arith, same-vote (b .1)))
 
     -- two honest nodes that validate a plan in this round validate the same one
     pub unique-validation : Each crew honest λ p. Each crew honest λ q.

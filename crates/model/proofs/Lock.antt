@@ -190,8 +190,8 @@ module _ (class : Class) (stamps : Stamps class) (crew : Crew) (honest : ℕ →
   }
 
   module _ (j : Invariant crew honest (at phase deciding nodes))
-      (f : Faithful class crew honest i (at phase deciding nodes)) (p : ℕ) (lp : p < crew .n) (hp : T (honest p)) (v : ℕ)
-      (d : T (decides class crew phase (inbox crew (i p)) v)) where
+      (f : Faithful class crew honest i (at phase deciding nodes)) (p : ℕ) (lp : p < crew .n) (hp : T (honest p))
+      (v : ℕ) (d : T (decides class crew phase (inbox crew (i p)) v)) where
     voter : Ballot → Bool
     voter m = fresh class phase m && votes v m
 

@@ -29,7 +29,7 @@ ifPlan-is v new old = go (eqb v 0) refl
     go true e = inl (eqb-true v 0 e, refl)
     go false e = inr (eqb-false v 0 e, refl)
 
--- What a slot says, it says.
+-- What a slot says, its node said.
 
 abbrev ballotOr : Option Ballot → Ballot
 ballotOr none = record { vote = 0; stamp = 0; entries = [] }
@@ -46,6 +46,13 @@ same-stamp e = ap (λ (m : Ballot). m .stamp) e
 
 pub not-none : {m : Ballot} → none ≡ some m → ⊥
 not-none e = let y : _≡_ {A = ℕ} 0 1 = cc in omega arith
+
+-- a node that says something only where v is a plan
+pub said-plan : {a m : Ballot} (v : ℕ) → ifPlan v (some a) none ≡ some m → (v ≢ 0) × (a ≡ m)
+said-plan {a} v e = elim (ifPlan-is v (some a) none) [
+  | inl z ↦ absurd (not-none (sym (z .1) ∙ e))
+  | inr z ↦ (z .0, said (sym (z .1) ∙ e))
+]
 
 -- What validation does to base and stamp together.
 pub confirms-is : (v phase base stamp : ℕ)

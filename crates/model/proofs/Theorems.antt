@@ -57,9 +57,10 @@ module _ (run : Run) (ok : Admissible run) where
   unfolding lock
   good-phase phase from early circle good =
       let facts = accepts (run .crew) (ok .crew-accepted) in
+      let above = quorum-above-liars facts in
       phase-decides run ok phase early circle good from λ a j t.
-      invariant (class run) a (run .crew) (run .honest) (ok .few) (facts .reach) (quorum-above-liars facts) (facts .high)
-      (state run j) (inv-at run lock (ok .faithful) j t)
+      invariant (class run) a (run .crew) (run .honest) (ok .few) (facts .reach) above (facts .high) (state run j)
+      (inv-at run lock (ok .faithful) j t)
 
   -- A standing result is the plan that the node decided, and 0 where it has decided none.
   pub result : Each (run .crew) (run .honest) λ p.
