@@ -243,6 +243,10 @@ module _ {A : Type 0} where
           let lower = count-le (λ k. ltb (g x) (g k)) (λ k. ltb (g a) (g k)) (y ∷ l) (λ k t. omega tests) in
           (x, (omega (arith, not-above g x x (omega arith), top .0), λ p t. omega (arith, bit-T (p x) t)))
 
+  -- The same elements, each as often, in whatever order: every count is the same.
+  abbrev pub Same : List A → List A → Type 0
+  Same l k = (p : A → Bool) → count p l ≡ count p k
+
   -- Slots: what is counted in the list of the slots is counted over their numbers.
 
   count-push : (p : A → Bool) (o : Option A) (l : List A) → count p (push o l) ≡ bit (holds p o) + count p l

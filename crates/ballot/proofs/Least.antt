@@ -14,7 +14,7 @@ use Rattle.ballot.specs.Count.{bit, count}
 use Rattle.ballot.specs.Ballot.{Ballot, votes}
 use Rattle.ballot.specs.Least.{lower, least, orZero, leastOf}
 use Rattle.ballot.proofs.Tests.{and-T, T-and, T-dec}
-use Rattle.ballot.proofs.Counting.{bit-T, bit-F, count-le, count-none}
+use Rattle.ballot.proofs.Counting.{bit-T, bit-F, count-le, count-none, Same}
 
 -- passes p and has the vote v; passes p and has a vote below v
 abbrev pub withVote : (Ballot → Bool) → ℕ → Ballot → Bool
@@ -75,10 +75,7 @@ pub withVote-passes : (p : Ballot → Bool) (v : ℕ) (ballots : List Ballot)
     → count (withVote p v) ballots ≤ count p ballots
 withVote-passes p v ballots = count-le (withVote p v) p ballots (λ m t. and-T (p m) (votes v m) t .0)
 
--- The least vote does not depend on the order: it is the same where every count is.
-
-abbrev pub Same : {A : Type 0} → List A → List A → Type 0
-Same {A} l k = (p : A → Bool) → count p l ≡ count p k
+-- The least vote does not depend on the order.
 
 pub least-same : (p : Ballot → Bool) (l k : List Ballot) → Same l k → least p l ≡ least p k
 least-same p l k s = go (least p l) (least p k) (least-is p l) (least-is p k)

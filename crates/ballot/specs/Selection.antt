@@ -59,11 +59,11 @@ anyIf false = nothing
 -- 01, classes 1 and 2: "Exactly one: that plan. Otherwise 'any' if .., else 'none'."
 -- 01, class 3: "Exactly one plan: that plan. More: 'any'. None: 'any' if .., else 'none'."
 abbrev pub answer : Class → Backing → Bool → Choice
-answer class (sole v) slots = plan v
-answer class nobody slots = anyIf slots
-answer one several slots = anyIf slots
-answer two several slots = anyIf slots
-answer three several slots = any
+answer class (sole v) many = plan v
+answer class nobody many = anyIf many
+answer one several many = anyIf many
+answer two several many = anyIf many
+answer three several many = any
 
 unfoldable pub selection : Class → Crew → List Ballot → Choice
 selection class crew ballots = answer class (backing (backed class crew ballots) ballots) (enough class crew ballots)
@@ -73,7 +73,7 @@ unfoldable pub leading : List Ballot → ℕ → Bool
 leading ballots v =
     eqb (count (λ k. ltb (count (votes v) ballots) (count (votes (k .vote)) ballots)) ballots) 0
 
--- "the vote of most slots, the least plan on a tie"
+-- the vote of most slots, the least plan on a tie
 unfoldable pub mostVoted : List Ballot → ℕ
 mostVoted ballots = leastOf (leading ballots) ballots
 

@@ -17,13 +17,13 @@ use Rattle.ballot.specs.Selection.{taken}
 use Rattle.ballot.specs.Validation.{validated}
 use Rattle.ballot.proofs.Tests.{and-T, T-and, holds-T}
 use Rattle.ballot.proofs.Counting.{count-gather, tally-le, tally-split}
-use Rattle.ballot.proofs.Slots.{FewLiars}
+use Rattle.ballot.proofs.Slots.{same-vote, FewLiars}
 use Rattle.ballot.proofs.Validation.{validated-slots, validated-unique}
 use Rattle.ballot.proofs.Decision.{Stamps}
 use Rattle.model.specs.Node.{Node, Round, selecting, validating, deciding}
 use Rattle.model.specs.Node.{begin, ifPlan, selects, confirms, settles}
 use Rattle.model.specs.Run.{Each, State, Inboxes, turned, step, Faithful, spent, start}
-use Rattle.model.proofs.Node.{ifPlan-is, confirms-is, said-plan, same-vote, begins-blank}
+use Rattle.model.proofs.Node.{ifPlan-is, confirms-is, said-plan, begins-blank}
 use Rattle.model.proofs.Node.{kept-length, kept-other, kept-here}
 use Rattle.model.proofs.Run.{at, heard}
 

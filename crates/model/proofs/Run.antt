@@ -15,7 +15,7 @@ use Rattle.ballot.specs.Ballot.{Ballot}
 use Rattle.model.specs.Node.{Node, Round}
 use Rattle.model.specs.Run.{Each, State, Inboxes, step, saying, Faithful, Decides, spent, start}
 use Rattle.model.specs.Run.{Run, class, state, Held, DecidesAt}
-use Rattle.model.proofs.Node.{not-none}
+use Rattle.ballot.proofs.Slots.{not-none}
 
 abbrev pub at : ℕ → Round → (ℕ → Node) → State
 at phase round nodes = record { phase = phase; round = round; node = nodes }

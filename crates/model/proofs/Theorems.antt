@@ -2,7 +2,7 @@
 -- phases, and what a standing result is. The byte layer builds on these. Assumes nothing.
 use mathlib.Core.Path.{_≡_, sym, _∙_}
 use mathlib.Core.Bool.{Bool}
-use mathlib.Core.Logic.{_⊎_, inl, inr, _↔_}
+use mathlib.Core.Logic.{_⊎_, inl, inr, _≢_, _↔_}
 use Prim.Native.Nat.{ℕ, _+_, _≤_, _<_}
 use native.Mathlib.Omega.{arith}
 use Rattle.crew.specs.declared.Crew.{Crew}
@@ -10,11 +10,12 @@ use Rattle.crew.specs.Thresholds.{Class, one, two, three}
 use Rattle.crew.proofs.Facts.{High, accepts, quorum-above-liars}
 use Rattle.ballot.proofs.Slots.{FewLiars}
 use Rattle.ballot.proofs.Decision.{Stamps}
-use Rattle.model.specs.Run.{Each, State, spent, Run, class, state, Admissible, Good}
-use Rattle.model.specs.Run.{DecidesAt, Decided, Undecided, PlanDecided, standing}
-use Rattle.model.proofs.Run.{Locking, inv-at, locked-agreement, locked-start}
+use Rattle.model.specs.Node.{Round, selecting, validating, deciding}
+use Rattle.model.specs.Run.{Each, State, Faithful, spent, Run, class, state, Admissible, Good}
+use Rattle.model.specs.Run.{Held, validatedAt, DecidesAt, Decided, Undecided, PlanDecided, standing}
+use Rattle.model.proofs.Run.{at, Locking, inv-at, locked-agreement, locked-start}
 use Rattle.model.proofs.ClassOne.{locking-one}
-use Rattle.model.proofs.Invariant.{Invariant}
+use Rattle.model.proofs.Invariant.{Invariant, unique-validation}
 use Rattle.model.proofs.Lock.{locking-later, later-invariant}
 use Rattle.model.proofs.Results.{decided-plan, result-is}
 use Rattle.model.proofs.GoodRun.{phase-decides}
@@ -40,6 +41,22 @@ module _ (run : Run) (ok : Admissible run) where
   lock =
       let facts = accepts (run .crew) (ok .crew-accepted) in
       locking (class run) (run .crew) (run .honest) (ok .few) (facts .reach) (quorum-above-liars facts) (facts .high)
+
+  -- Unique validation: honest nodes that validate a plan in a round validate the same one.
+  pub one-validation : (j : ℕ) → Held run j → state run j .round ≡ validating
+      → Each (run .crew) (run .honest) λ p. Each (run .crew) (run .honest) λ q.
+      validatedAt run j p ≢ 0 → validatedAt run j q ≢ 0 → validatedAt run j p ≡ validatedAt run j q
+  one-validation j held r p lp hp q lq hq = go (state run j .round) r (ok .faithful j held)
+    where
+      go : (round : Round) → round ≡ validating
+          → Faithful (class run) (run .crew) (run .honest) (run .rounds j)
+          (at (state run j .phase) round (state run j .node))
+          → validatedAt run j p ≢ 0 → validatedAt run j q ≢ 0 → validatedAt run j p ≡ validatedAt run j q
+      go selecting e f = absurd (let y : _≡_ {A = ℕ} 0 1 = cc in omega arith)
+      go validating e f =
+          unique-validation (class run) (run .crew) (run .honest) (ok .few) (run .rounds j) (state run j .phase)
+          (state run j .node) f p lp hp q lq hq
+      go deciding e f = absurd (let y : _≡_ {A = ℕ} 0 1 = cc in omega arith)
 
   -- Agreement: whatever honest nodes decide, in whatever rounds, is one plan.
   pub agreement : Each (run .crew) (run .honest) λ p. Each (run .crew) (run .honest) λ q.
