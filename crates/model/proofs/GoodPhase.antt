@@ -1,6 +1,6 @@
 -- A good phase: its circle selects one plan, validates it in classes 2 and 3, and decides it. Stated of one phase,
 -- whatever went before. Assumes nothing.
-use mathlib.Core.Path.{_≡_, sym, _∙_}
+use mathlib.Core.Path.{_≡_, sym, ap, _∙_}
 use mathlib.Core.Bool.{Bool, not, _&&_}
 use mathlib.Core.List.{[]}
 use mathlib.Core.Logic.{inl, inr, _≢_}
@@ -25,7 +25,7 @@ use Rattle.ballot.proofs.Validation.{valid-validated}
 use Rattle.ballot.proofs.Decision.{Stamps, stamp-fresh}
 use Rattle.ballot.proofs.Order.{taken-same}
 use Rattle.ballot.proofs.Circle.{circle-counts, answers-one, answers-two, answers-three}
-use Rattle.model.specs.Node.{Node, Round, selecting, validating, deciding, ifPlan, entriesBelow}
+use Rattle.model.specs.Node.{Node, Round, selecting, validating, deciding, number, ifPlan, entriesBelow}
 use Rattle.model.specs.Run.{Each, State, Inboxes, turned, step, saying}
 use Rattle.model.proofs.Node.{ifPlan-is, confirms-is, lists-below}
 use Rattle.model.proofs.Run.{at}
@@ -108,10 +108,8 @@ module _ (crew : Crew) (circle : ℕ → Bool) (wide : crew .n ≤ tally circle 
       → Hears class crew circle g (step class crew i s) → CircleDecides class crew circle phase g)
   two-rounds two a above i g phase round nodes r h alike h₂ = absurd a
   two-rounds three a above i g phase round nodes r h alike h₂ = absurd a
-  two-rounds one a above i g phase validating nodes r h alike h₂ =
-      absurd (let y : _≡_ {A = ℕ} 0 1 = cc in omega arith)
-  two-rounds one a above i g phase deciding nodes r h alike h₂ =
-      absurd (let y : _≡_ {A = ℕ} 0 1 = cc in omega arith)
+  two-rounds one a above i g phase validating nodes r h alike h₂ = absurd (omega (arith, ap number r))
+  two-rounds one a above i g phase deciding nodes r h alike h₂ = absurd (omega (arith, ap number r))
   two-rounds one a above i g phase selecting nodes r h alike h₂ =
       let v = one-plan one i phase nodes h alike λ p lp kp.
       answers-one crew (i p) circle wide (λ q lq kq. (_, h p lp kp q lq kq)) above in (
@@ -220,9 +218,9 @@ module _ (crew : Crew) (circle : ℕ → Bool) (wide : crew .n ≤ tally circle 
       → Hears class crew circle g (step class crew e (step class crew i s))
       → CircleDecides class crew circle phase g)
   good-rounds class a honest inside strong enough above i e g phase validating nodes r j h alike h₂ h₃ =
-      absurd (let y : _≡_ {A = ℕ} 0 1 = cc in omega arith)
+      absurd (omega (arith, ap number r))
   good-rounds class a honest inside strong enough above i e g phase deciding nodes r j h alike h₂ h₃ =
-      absurd (let y : _≡_ {A = ℕ} 0 1 = cc in omega arith)
+      absurd (omega (arith, ap number r))
   good-rounds one a honest inside strong enough above i e g phase selecting nodes r j h alike h₂ h₃ = absurd a
   good-rounds two a honest inside strong enough above i e g phase selecting nodes r j h alike h₂ h₃ =
       three-rounds two a enough i e g phase nodes h alike

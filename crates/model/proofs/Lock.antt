@@ -1,6 +1,6 @@
 -- Classes 2 and 3: a decision at a phase locks its plan, as the base of D − b honest nodes with a stamp from that phase
 -- on. Rounds keep the lock, and while it holds nothing else is decided. Assumes nothing.
-use mathlib.Core.Path.{_≡_}
+use mathlib.Core.Path.{_≡_, ap}
 use mathlib.Core.Bool.{Bool, not, _&&_}
 use mathlib.Core.Logic.{_⊎_, inl, inr}
 use mathlib.Core.Option.{some}
@@ -23,7 +23,7 @@ use Rattle.ballot.proofs.Slots.{same-ballot, same-vote, same-stamp, EachFrom, F
 use Rattle.ballot.proofs.Validation.{validated-slots}
 use Rattle.ballot.proofs.Decision.{Stamps, fresh-stamp}
 use Rattle.ballot.proofs.Locked.{Core, Takes, lock-taken-two, lock-taken-three}
-use Rattle.model.specs.Node.{Node, Round, selecting, validating, deciding, entriesSaid}
+use Rattle.model.specs.Node.{Node, Round, selecting, validating, deciding, number, entriesSaid}
 use Rattle.model.specs.Run.{Each, State, Inboxes, turned, step, Faithful, Decides, start}
 use Rattle.model.proofs.Node.{confirms-is, said-lists, kept-keeps, begins-blank}
 use Rattle.model.proofs.Run.{at, heard, Locking}
@@ -269,8 +269,8 @@ module _ (class : Class) (stamps : Stamps class) (crew : Crew) (honest : ℕ →
       → Invariant crew honest (at phase round nodes) → Faithful class crew honest i (at phase round nodes)
       → Each crew honest λ p. (v : ℕ) → Decides class crew i (at phase round nodes) p v
       → Lock crew honest v (at phase round nodes) × ((w : ℕ) → Lock crew honest w (at phase round nodes) → v ≡ w)
-  locks phase selecting nodes j f p lp hp v d = absurd (let y : _≡_ {A = ℕ} 0 1 = cc (d .0) in omega arith)
-  locks phase validating nodes j f p lp hp v d = absurd (let y : _≡_ {A = ℕ} 0 1 = cc (d .0) in omega arith)
+  locks phase selecting nodes j f p lp hp v d = absurd (omega (arith, ap number (d .0)))
+  locks phase validating nodes j f p lp hp v d = absurd (omega (arith, ap number (d .0)))
   locks phase deciding nodes j f p lp hp v d = (
     decision-locks class stamps crew honest few reach above i phase nodes j f p lp hp v (d .1),
     decision-locked class stamps crew honest few reach above i phase nodes j f p lp hp v (d .1),

@@ -12,7 +12,7 @@ use Rattle.ballot.specs.Ballot.{Ballot, inbox, votes}
 use Rattle.ballot.specs.Decision.{decision}
 use Rattle.ballot.proofs.Slots.{no-slot-counts}
 use Rattle.ballot.proofs.Decision.{decision-decides, decides-voted, decision-least, decision-plan}
-use Rattle.model.specs.Node.{Round, selecting, validating, deciding, ifPlan, turn}
+use Rattle.model.specs.Node.{Round, selecting, validating, deciding, number, ifPlan, turn}
 use Rattle.model.specs.Run.{Run, class, state, Held, DecidesAt, Undecided, PlanDecided, Admissible}
 use Rattle.model.proofs.Node.{ifPlan-is}
 use Rattle.model.proofs.Run.{moves}
@@ -67,8 +67,9 @@ module _ (run : Run) (ok : Admissible run) (p : ℕ) (lp : p < run .crew .n) (hp
   module _ (j : ℕ) (held : Held run j) (r : state run j .round ≡ deciding) where
     decision-result : Undecided run p j → Dec (decided j ≡ 0) → Result (suc j) (decided j)
     decision-result free (yes z) =
-        idle j (decided j) (λ u d.
-        decision-plan (class run) (run .crew) (state run j .phase) (ballots j) quorum u (d .1 .1) (no-zero-votes j held) z)
+        let no-zero = no-zero-votes j held in
+        idle j (decided j)
+        (λ u d. decision-plan (class run) (run .crew) (state run j .phase) (ballots j) quorum u (d .1 .1) no-zero z)
         (inr (free, z))
     decision-result free (no z) = inl (record {
       round = j;
@@ -87,9 +88,9 @@ module _ (run : Run) (ok : Admissible run) (p : ℕ) (lp : p < run .crew .n) (hp
       → Result (suc j)
       ((turn (class run) (run .crew) (state run j .phase) round (ballots j) (state run j .node p)) .result)
   takes-round j held selecting r s =
-      idle j _ (λ w d. absurd (let y : _≡_ {A = ℕ} 0 1 = cc (r, d .1 .0) in omega arith)) s
+      idle j _ (λ w d. omega (arith, ap number r, ap number (d .1 .0))) s
   takes-round j held validating r s =
-      idle j _ (λ w d. absurd (let y : _≡_ {A = ℕ} 0 1 = cc (r, d .1 .0) in omega arith)) s
+      idle j _ (λ w d. omega (arith, ap number r, ap number (d .1 .0))) s
   takes-round j held deciding r s =
       let v = state run j .node p .result in
       settles j held r v _

@@ -1,6 +1,6 @@
 -- What holds of every run that meets the premises of demand 3, whatever its crew's class: agreement, common start, good
 -- phases, and what a standing result is. The byte layer builds on these. Assumes nothing.
-use mathlib.Core.Path.{_≡_, sym, _∙_}
+use mathlib.Core.Path.{_≡_, sym, ap, _∙_}
 use mathlib.Core.Bool.{Bool}
 use mathlib.Core.Logic.{_⊎_, inl, inr, _≢_, _↔_}
 use Prim.Native.Nat.{ℕ, _+_, _≤_, _<_}
@@ -10,7 +10,7 @@ use Rattle.crew.specs.Thresholds.{Class, one, two, three}
 use Rattle.crew.proofs.Facts.{High, accepts, quorum-above-liars}
 use Rattle.ballot.proofs.Slots.{FewLiars}
 use Rattle.ballot.proofs.Decision.{Stamps}
-use Rattle.model.specs.Node.{Round, selecting, validating, deciding}
+use Rattle.model.specs.Node.{Round, selecting, validating, deciding, number}
 use Rattle.model.specs.Run.{Each, State, Faithful, spent, Run, class, state, Admissible, Good}
 use Rattle.model.specs.Run.{Held, validatedAt, DecidesAt, Decided, Undecided, PlanDecided, standing}
 use Rattle.model.proofs.Run.{at, Locking, inv-at, locked-agreement, locked-start}
@@ -52,11 +52,11 @@ module _ (run : Run) (ok : Admissible run) where
           → Faithful (class run) (run .crew) (run .honest) (run .rounds j)
           (at (state run j .phase) round (state run j .node))
           → validatedAt run j p ≢ 0 → validatedAt run j q ≢ 0 → validatedAt run j p ≡ validatedAt run j q
-      go selecting e f = absurd (let y : _≡_ {A = ℕ} 0 1 = cc in omega arith)
+      go selecting e f = absurd (omega (arith, ap number e))
       go validating e f =
           unique-validation (class run) (run .crew) (run .honest) (ok .few) (run .rounds j) (state run j .phase)
           (state run j .node) f p lp hp q lq hq
-      go deciding e f = absurd (let y : _≡_ {A = ℕ} 0 1 = cc in omega arith)
+      go deciding e f = absurd (omega (arith, ap number e))
 
   -- Agreement: whatever honest nodes decide, in whatever rounds, is one plan.
   pub agreement : Each (run .crew) (run .honest) λ p. Each (run .crew) (run .honest) λ q.
