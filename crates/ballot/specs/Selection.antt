@@ -1,5 +1,5 @@
 -- Selection, round 1 of a phase: document 01, 'The three rounds'; source document 000, Algorithms 5 to 7.
--- "Selection answers a plan, 'any' or 'none'."
+-- What is possible, what is backed, what is answered and, last, what a node takes.
 use mathlib.Core.Bool.{Bool, true, false, not, cond, _&&_, _||_}
 use mathlib.Core.List.{List}
 use mathlib.Core.Option.{Option, none, some}
@@ -37,9 +37,11 @@ abbrev pub besides : (Ballot → Bool) → List Ballot → Option ℕ → Backin
 besides p ballots none = nobody
 besides p ballots (some v) = cond (eqb (count (λ m. p m && not (votes v m)) ballots) 0) (sole v) several
 
+-- the votes of the ballots that pass a test
 unfoldable pub backing : (Ballot → Bool) → List Ballot → Backing
 backing p ballots = besides p ballots (least p ballots)
 
+-- 01: "Selection answers a plan, 'any' or 'none'."; Option has the name `none`
 pub data Choice : Type 0 where
   plan : ℕ → Choice
   any nothing : Choice
@@ -65,6 +67,7 @@ answer one several many = anyIf many
 answer two several many = anyIf many
 answer three several many = any
 
+-- the answer: by the plans that are backed, and by the slots that count
 unfoldable pub selection : Class → Crew → List Ballot → Choice
 selection class crew ballots = answer class (backing (backed class crew ballots) ballots) (enough class crew ballots)
 
@@ -88,5 +91,6 @@ takenOn crew ballots (plan v) = v
 takenOn crew ballots any = anyPlan crew ballots
 takenOn crew ballots nothing = 0
 
+-- the plan that a node takes from its inbox, 0 where it takes none
 unfoldable pub taken : Class → Crew → List Ballot → ℕ
 taken class crew ballots = takenOn crew ballots (selection class crew ballots)

@@ -20,7 +20,7 @@ use Rattle.ballot.proofs.Counting.{count-gather, tally-le, tally-split}
 use Rattle.ballot.proofs.Slots.{same-vote, FewLiars}
 use Rattle.ballot.proofs.Validation.{validated-slots, validated-unique}
 use Rattle.ballot.proofs.Decision.{Stamps}
-use Rattle.model.specs.Node.{Node, Round, selecting, validating, deciding}
+use Rattle.model.specs.Node.{Node, Round, selecting, validating, deciding, number}
 use Rattle.model.specs.Node.{begin, ifPlan, selects, confirms, settles}
 use Rattle.model.specs.Run.{Each, State, Inboxes, turned, step, Faithful, spent, start}
 use Rattle.model.proofs.Node.{ifPlan-is, confirms-is, said-plan, begins-blank}
@@ -153,7 +153,7 @@ module _ (class : Class) (crew : Crew) (honest : ℕ → Bool) (few : FewLiars c
         (b .0, omega (arith, same-vote (b .1)))
 
     -- two honest nodes that validate a plan in this round validate the same one
-    pub unique-validation : Each crew honest λ p. Each crew honest λ q.
+    unique-validation : Each crew honest λ p. Each crew honest λ q.
         validated crew (inbox crew (i p)) ≢ 0 → validated crew (inbox crew (i q)) ≢ 0
         → validated crew (inbox crew (i p)) ≡ validated crew (inbox crew (i q))
     unique-validation p lp hp q lq hq =
@@ -212,6 +212,18 @@ module _ (class : Class) (crew : Crew) (honest : ℕ → Bool) (few : FewLiars c
     unique = j .unique;
     backing = j .backing;
   }
+
+-- Any round.
+
+pub unique-in-round : (class : Class) (crew : Crew) (honest : ℕ → Bool) → FewLiars crew honest
+    → (i : Inboxes) (phase : ℕ) (round : Round) (nodes : ℕ → Node) → round ≡ validating
+    → Faithful class crew honest i (at phase round nodes) → Each crew honest λ p. Each crew honest λ q.
+    validated crew (inbox crew (i p)) ≢ 0 → validated crew (inbox crew (i q)) ≢ 0
+    → validated crew (inbox crew (i p)) ≡ validated crew (inbox crew (i q))
+unique-in-round class crew honest few i phase selecting nodes e f = absurd (omega (arith, ap number e))
+unique-in-round class crew honest few i phase validating nodes e f =
+    unique-validation class crew honest few i phase nodes f
+unique-in-round class crew honest few i phase deciding nodes e f = absurd (omega (arith, ap number e))
 
 pub invariant-step : (class : Class) → Stamps class → (crew : Crew) (honest : ℕ → Bool) → FewLiars crew honest
     → (i : Inboxes) (phase : ℕ) (round : Round) (nodes : ℕ → Node) → phase < spent
