@@ -9,3 +9,4 @@ pub mod Phases
 pub mod GoodPhase
 pub mod GoodRun
 pub mod Theorems
+pub mod Example
