@@ -1,7 +1,7 @@
 -- Selection answers, and does not say 'none', where the slots of a circle of n − b − f honest senders count.
 -- Stated of one inbox of n slots. Assumes nothing.
 use mathlib.Core.Path.{_≡_, ap}
-use mathlib.Core.Bool.{Bool, true, _||_}
+use mathlib.Core.Bool.{Bool, true}
 use mathlib.Core.List.{List}
 use mathlib.Core.Option.{Option, none, some}
 use Prim.Native.Nat.{ℕ, _+_, _-_, _≤_, _<_}
@@ -14,7 +14,7 @@ use Rattle.crew.specs.declared.Crew.{Crew}
 use Rattle.crew.specs.Thresholds.{one, two, three, anyAbove}
 use Rattle.ballot.specs.Count.{tally, count}
 use Rattle.ballot.specs.Ballot.{Ballot, inbox, votes, stamped, lists}
-use Rattle.ballot.specs.Selection.{possible, backed, enough, selection}
+use Rattle.ballot.specs.Selection.{supports, possible, backed, enough, selection}
 use Rattle.ballot.proofs.Tests.{T-or-l, T-or-r}
 use Rattle.ballot.proofs.Counting.{tally-peak, length-count}
 use Rattle.ballot.proofs.Selection.{Answers, back-three, enough-answers, backed-answers}
@@ -53,7 +53,7 @@ module _ (crew : Crew) (slots : Slots) (circle : ℕ → Bool) (wide : crew .n �
         → Answers (selection three crew ballots)
     unfolding enough possible
     highest q lq kq m e top (yes pos) =
-        let support = circle-passes crew slots (λ k. votes (m .vote) k || ltb (k .stamp) (m .stamp)) circle wide present
+        let support = circle-passes crew slots (supports m) circle wide present
         λ a la ka o i. elim (ℕ-discrete (o .stamp) (m .stamp)) [
           | yes z ↦ T-or-l (votes (m .vote) o) (ltb (o .stamp) (m .stamp))
               (omega (tests, unique a la ka o i q lq kq m e z (omega arith)))

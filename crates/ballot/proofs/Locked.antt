@@ -1,7 +1,7 @@
 -- Selection keeps a lock: a node that selects while v is locked takes v, or nothing (source document 000, theorems 5 to
 -- 7). Stated of one inbox of n slots. Assumes nothing.
 use mathlib.Core.Path.{_≡_, refl, ap}
-use mathlib.Core.Bool.{Bool, true, false, not, _&&_, _||_}
+use mathlib.Core.Bool.{Bool, true, false, not, _&&_}
 use mathlib.Core.List.{List}
 use mathlib.Core.Logic.{_⊎_, inl, inr, _≢_}
 use Prim.Native.Nat.{ℕ, _+_, _≤_, _<_}
@@ -14,7 +14,7 @@ use Rattle.crew.specs.declared.Crew.{Crew}
 use Rattle.crew.specs.Thresholds.{Class, one, two, three, E}
 use Rattle.ballot.specs.Count.{tally, count}
 use Rattle.ballot.specs.Ballot.{Ballot, inbox, votes, stamped, lists}
-use Rattle.ballot.specs.Selection.{possible, backed, enough, selection, anyPlan, takenOn, taken}
+use Rattle.ballot.specs.Selection.{supports, possible, backed, enough, selection, anyPlan, takenOn, taken}
 use Rattle.ballot.specs.Selection.{nobody, plan, nothing, answer}
 use Rattle.ballot.proofs.Tests.{and-T, T-and, or-T, T-or-l, T-or-r}
 use Rattle.ballot.proofs.Counting.{count-le, count-none, count-not, length-count}
@@ -77,9 +77,6 @@ module _ (crew : Crew) (reach : crew .d + crew .b + crew .f ≤ crew .n) (slots 
 
   module _ (honest : ℕ → Bool) (few : FewLiars crew honest)
       (rest : EachFrom honest crew slots (λ m. (m .vote ≡ v) ⊎ (m .stamp < t))) where
-    abbrev supports : Ballot → Ballot → Bool
-    supports m k = votes (m .vote) k || ltb (k .stamp) (m .stamp)
-
     -- a rival with a stamp up to t is not possible: nobody in the core supports it
     not-possible : (m : Ballot) → m .vote ≢ v → m .stamp ≤ t → T (possible crew ballots m) → ⊥
     unfolding possible

@@ -12,9 +12,13 @@ use Rattle.ballot.specs.Count.{count}
 use Rattle.ballot.specs.Ballot.{Ballot, votes, stamped, lists}
 use Rattle.ballot.specs.Least.{least, leastOf}
 
+-- slot k has the vote of m, or a stamp below its own
+abbrev pub supports : Ballot → Ballot → Bool
+supports m k = votes (m .vote) k || ltb (k .stamp) (m .stamp)
+
 -- 01: "a slot is possible if more than E slots have its vote or a stamp below its own"
 unfoldable pub possible : Crew → List Ballot → Ballot → Bool
-possible crew ballots m = ltb (E crew) (count (λ k. votes (m .vote) k || ltb (k .stamp) (m .stamp)) ballots)
+possible crew ballots m = ltb (E crew) (count (supports m) ballots)
 
 -- The ballot's vote is backed; in class 3 it is backed through this ballot's stamp.
 -- 01, class 1: "backed are the plans voted by more than E slots"

@@ -53,7 +53,7 @@ Recorded selecting phase d = Unit {0}
 Recorded validating phase d = d .select ≢ 0 → getD (d .history) phase 0 ≡ d .select
 Recorded deciding phase d = Unit {0}
 
--- what holds of an honest node when this round of this phase begins; each of the three rounds keeps it, whatever it hears
+-- what holds of an honest node when this round of this phase begins; each round keeps it, whatever the node hears
 pub record NodeOk (phase : ℕ) (round : Round) (d : Node) : Type 0 where
   pub stamped : StampOk round (d .stamp) phase
   pub voted : VoteOk round d
