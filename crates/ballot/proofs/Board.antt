@@ -88,6 +88,8 @@ board =
     ∷ (select crew2 (map bare (8 ∷ 7 ∷ 5 ∷ 5 ∷ [])) gives chosen any 5)
     -- class 3: E slots with stamp 0 are too few for 'any', however many count
     ∷ (select crew3 (at 5 0 ∷ at 6 0 ∷ at 7 1 ∷ at 8 1 ∷ []) gives chosen nothing 0)
+    -- an entry counts by phase and plan together
+    ∷ (select crew3 (phase2 (entry 0 5 ∷ entry 1 6 ∷ [])) gives chosen nothing 0)
     -- the newest stamp does not win: 5 is listed at phase 2 by b slots, 6 at phase 1 by more
     ∷ (select crew3
     (full 5 2 (entry 2 5 ∷ []) ∷ full 6 1 (entry 1 6 ∷ []) ∷ full 6 1 (entry 1 6 ∷ []) ∷ at 6 0 ∷ [])
