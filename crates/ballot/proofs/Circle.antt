@@ -8,16 +8,16 @@ use Prim.Native.Nat.{ℕ, _+_, _-_, _≤_, _<_}
 use native.Mathlib.Omega.{arith}
 use native.Mathlib.Decide.{ℕ-discrete, decLt}
 use lib.ListN.{length}
-use lib.Dec.{T, ltb}
+use lib.Dec.{T}
 use Rattle.wire.proofs.Tests.{tests}
 use Rattle.crew.specs.declared.Crew.{Crew}
 use Rattle.crew.specs.Thresholds.{one, two, three, anyAbove}
 use Rattle.ballot.specs.Count.{tally, count}
-use Rattle.ballot.specs.Ballot.{Ballot, inbox, votes, stamped, lists}
+use Rattle.ballot.specs.Ballot.{Ballot, inbox, stamped, lists}
 use Rattle.ballot.specs.Selection.{supports, possible, backed, enough, selection}
-use Rattle.ballot.proofs.Tests.{T-or-l, T-or-r}
 use Rattle.ballot.proofs.Counting.{tally-peak, length-count}
-use Rattle.ballot.proofs.Selection.{Answers, back-three, enough-answers, backed-answers}
+use Rattle.ballot.proofs.Selection.{Answers, supports-vote, supports-below, back-three}
+use Rattle.ballot.proofs.Selection.{enough-answers, backed-answers}
 use Rattle.ballot.proofs.Slots.{Slots, EachFrom, slot-counts, circle-passes}
 
 abbrev stampOr : Option Ballot → ℕ
@@ -55,9 +55,8 @@ module _ (crew : Crew) (slots : Slots) (circle : ℕ → Bool) (wide : crew .n �
     highest q lq kq m e top (yes pos) =
         let support = circle-passes crew slots (supports m) circle wide present
         λ a la ka o i. elim (ℕ-discrete (o .stamp) (m .stamp)) [
-          | yes z ↦ T-or-l (votes (m .vote) o) (ltb (o .stamp) (m .stamp))
-              (omega (tests, unique a la ka o i q lq kq m e z (omega arith)))
-          | no z ↦ T-or-r (votes (m .vote) o) (ltb (o .stamp) (m .stamp)) (omega (tests, top a la ka o i))
+          | yes z ↦ supports-vote m o (unique a la ka o i q lq kq m e z (omega arith))
+          | no z ↦ supports-below m o (omega (arith, top a la ka o i))
         ] in
         let its = back-three crew ballots m (omega tests) (listed q lq kq m e pos) in
         backed-answers crew ballots (slot-counts crew slots (backed three crew ballots) q lq m e its)

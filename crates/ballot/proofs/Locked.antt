@@ -8,7 +8,7 @@ use Prim.Native.Nat.{ℕ, _+_, _≤_, _<_}
 use native.Mathlib.Omega.{arith}
 use native.Mathlib.Decide.{ℕ-discrete, decLe}
 use lib.ListN.{length}
-use lib.Dec.{T, leb, ltb, eqb→eq, T-not}
+use lib.Dec.{T, leb, eqb→eq, T-not}
 use Rattle.wire.proofs.Tests.{tests}
 use Rattle.crew.specs.declared.Crew.{Crew}
 use Rattle.crew.specs.Thresholds.{Class, one, two, three, E}
@@ -16,10 +16,11 @@ use Rattle.ballot.specs.Count.{tally, count}
 use Rattle.ballot.specs.Ballot.{Ballot, inbox, votes, stamped, lists}
 use Rattle.ballot.specs.Selection.{supports, possible, backed, enough, selection, anyPlan, takenOn, taken}
 use Rattle.ballot.specs.Selection.{nobody, plan, nothing, answer}
-use Rattle.ballot.proofs.Tests.{and-T, T-and, or-T, T-or-l, T-or-r}
+use Rattle.ballot.proofs.Tests.{and-T, T-and}
 use Rattle.ballot.proofs.Counting.{count-le, count-none, count-not, length-count}
 use Rattle.ballot.proofs.AnyPlan.{any-leader}
-use Rattle.ballot.proofs.Selection.{otherVote, backed-three, selection-only, selection-finds}
+use Rattle.ballot.proofs.Selection.{otherVote, supports-is, supports-vote, supports-below}
+use Rattle.ballot.proofs.Selection.{backed-three, selection-only, selection-finds}
 use Rattle.ballot.proofs.Slots.{Slots, EachFrom, FewLiars, liars-at-most-b, outside-core-at-most-E}
 
 -- the node takes v, or nothing
@@ -84,10 +85,7 @@ module _ (crew : Crew) (reach : crew .d + crew .b + crew .f ≤ crew .n) (slots 
         omega (
           tests,
           outside-lock-at-most-E (supports m) λ k e x y.
-              elim (or-T (votes (m .vote) k) (ltb (k .stamp) (m .stamp)) y) [
-                | inl z ↦ omega tests
-                | inr z ↦ omega tests
-              ],
+              elim (supports-is m k y) [ inl z ↦ omega arith | inr z ↦ omega arith ],
         )
 
     -- Class 2: a rival backed by more than b possible slots would have an honest one, with a stamp below t.
@@ -116,8 +114,8 @@ module _ (crew : Crew) (reach : crew .d + crew .b + crew .f ≤ crew .n) (slots 
           count-not (supports m) ballots,
           liars-at-most-b crew slots (λ k. not (supports m k)) honest few λ q i y k o x.
               T-not (supports m k) x (elim (rest q i y k o) [
-                | inl w ↦ T-or-l (votes (m .vote) k) (ltb (k .stamp) (m .stamp)) (omega tests)
-                | inr w ↦ T-or-r (votes (m .vote) k) (ltb (k .stamp) (m .stamp)) (omega tests)
+                | inl w ↦ supports-vote m k (omega arith)
+                | inr w ↦ supports-below m k (omega arith)
               ]),
         )
 

@@ -17,10 +17,10 @@ use Rattle.crew.specs.Thresholds.{Class, one, two, three}
 use Rattle.ballot.specs.Count.{count}
 use Rattle.ballot.specs.Ballot.{Ballot, votes, lists}
 use Rattle.ballot.specs.Least.{least}
-use Rattle.ballot.specs.Selection.{possible, backed, Backing, nobody, sole, several, besides, backing}
+use Rattle.ballot.specs.Selection.{supports, possible, backed, Backing, nobody, sole, several, besides, backing}
 use Rattle.ballot.specs.Selection.{Choice, plan, any, nothing, anyIf, enough, answer, selection}
 use Rattle.ballot.specs.Selection.{takenOn, taken}
-use Rattle.ballot.proofs.Tests.{and-T, T-and}
+use Rattle.ballot.proofs.Tests.{and-T, T-and, or-T, T-or-l, T-or-r}
 use Rattle.ballot.proofs.Counting.{count-le}
 use Rattle.ballot.proofs.Least.{withVote, withVote-votes, Least, nowhere, found, least-is, Voted}
 use Rattle.ballot.proofs.AnyPlan.{any-voted, any-plan}
@@ -72,6 +72,18 @@ module _ (p : Ballot → Bool) (ballots : List Ballot) where
       go nobody (by-none z) = inl (refl, z)
       go (sole w) (by-one _ i z) = inr (ap sole (same w i))
       go several (by-more w i j) = absurd (omega (arith, ap (λ x. count (otherVote p x) ballots) (same w i)))
+
+-- Who supports a ballot.
+
+module _ (m k : Ballot) where
+  pub supports-is : T (supports m k) → (k .vote ≡ m .vote) ⊎ (k .stamp < m .stamp)
+  supports-is h = elim (or-T (votes (m .vote) k) _ h) [ inl t ↦ inl (omega tests) | inr t ↦ inr (omega tests) ]
+
+  pub supports-vote : k .vote ≡ m .vote → T (supports m k)
+  supports-vote e = T-or-l (votes (m .vote) k) _ (omega tests)
+
+  pub supports-below : k .stamp < m .stamp → T (supports m k)
+  supports-below l = T-or-r (votes (m .vote) k) _ (omega tests)
 
 -- class 3: what it is for a ballot's vote to be backed
 pub backed-three : (crew : Crew) (ballots : List Ballot) (m : Ballot) → T (backed three crew ballots m)

@@ -15,6 +15,7 @@ use Rattle.ballot.specs.Count.{tally, holds}
 use Rattle.ballot.specs.Ballot.{Ballot, inbox, votes}
 use Rattle.ballot.specs.Selection.{taken}
 use Rattle.ballot.specs.Validation.{validated}
+use Rattle.ballot.specs.Decision.{decision}
 use Rattle.ballot.proofs.Tests.{and-T, T-and, holds-T}
 use Rattle.ballot.proofs.Counting.{count-gather, tally-le, tally-split}
 use Rattle.ballot.proofs.Slots.{same-vote, FewLiars}
@@ -209,7 +210,8 @@ module _ (class : Class) (crew : Crew) (honest : ℕ → Bool) (few : FewLiars c
       → Invariant crew honest (at (suc phase) selecting (turned class crew i phase deciding nodes))
   invariant-settles j = record {
     begun = omega arith;
-    each = λ q lq hq. node-settles phase _ (nodes q) (j .each q lq hq);
+    each = λ q lq hq.
+        node-settles phase (decision class crew phase (inbox crew (i q))) (nodes q) (j .each q lq hq);
     unique = j .unique;
     backing = j .backing;
   }
