@@ -13,8 +13,8 @@ use Rattle.crew.specs.declared.Crew.{Crew}
 use Rattle.ballot.specs.Count.{count}
 use Rattle.ballot.specs.Ballot.{Ballot, votes}
 use Rattle.ballot.specs.Selection.{leading, mostVoted, anyPlan}
-use Rattle.ballot.proofs.Counting.{count-le, count-none, count-peak}
-use Rattle.ballot.proofs.Least.{Same, Voted, leastOf-same, leastOf-only, leastOf-voted, leastOf-some}
+use Rattle.ballot.proofs.Counting.{count-le, count-none, count-peak, Same}
+use Rattle.ballot.proofs.Least.{Voted, leastOf-same, leastOf-only, leastOf-voted, leastOf-some}
 
 -- it depends on how often each ballot is there, and on nothing else
 pub any-same : (crew : Crew) (l k : List Ballot) → Same l k → anyPlan crew l ≡ anyPlan crew k

@@ -9,7 +9,8 @@ use Rattle.crew.specs.Thresholds.{classOf}
 use Rattle.ballot.specs.Count.{count}
 use Rattle.ballot.specs.Ballot.{Ballot, lists}
 use Rattle.ballot.specs.Least.{least, leastOf}
-use Rattle.ballot.specs.Selection.{possible, backed, backing, enough, selection, leading, mostVoted, anyPlan, taken}
+use Rattle.ballot.specs.Selection.{possible, backed, backing, enough, selection}
+use Rattle.ballot.specs.Selection.{leading, mostVoted, anyPlan, taken}
 use Rattle.ballot.specs.Selection.{Choice, plan, any, nothing}
 use Rattle.ballot.specs.Validation.{valid, validated}
 use Rattle.ballot.specs.Decision.{decides, decision}
@@ -59,7 +60,7 @@ bare v = at v 0
 abbrev entry : ℕ → ℕ → Entry
 entry t v = record { phase = t; plan = v }
 
--- the ballots of 01's second example of class 3; the second node's history comes from the table
+-- 01's ballots of phase 2 in class 3, but for what the second one lists
 abbrev phase2 : List Entry → List Ballot
 phase2 entries = full 5 1 (entry 0 5 ∷ entry 1 5 ∷ []) ∷ full 6 0 entries ∷ full 6 0 (entry 0 6 ∷ []) ∷ []
 
@@ -84,9 +85,11 @@ board =
     ∷ (select crew2 (at 5 1 ∷ at 6 0 ∷ at 6 0 ∷ []) gives chosen nothing 0)
     -- E + b slots are too few for 'any', one more is enough
     ∷ (select crew2 (map bare (5 ∷ 6 ∷ 7 ∷ [])) gives chosen nothing 0)
-    ∷ (select crew2 (map bare (8 ∷ 7 ∷ 6 ∷ 5 ∷ [])) gives chosen any 5)
+    ∷ (select crew2 (map bare (8 ∷ 7 ∷ 5 ∷ 5 ∷ [])) gives chosen any 5)
     -- class 3: E slots with stamp 0 are too few for 'any', however many count
     ∷ (select crew3 (at 5 0 ∷ at 6 0 ∷ at 7 1 ∷ at 8 1 ∷ []) gives chosen nothing 0)
+    -- an entry counts by phase and plan together
+    ∷ (select crew3 (phase2 (entry 0 5 ∷ entry 1 6 ∷ [])) gives chosen nothing 0)
     -- the newest stamp does not win: 5 is listed at phase 2 by b slots, 6 at phase 1 by more
     ∷ (select crew3
     (full 5 2 (entry 2 5 ∷ []) ∷ full 6 1 (entry 1 6 ∷ []) ∷ full 6 1 (entry 1 6 ∷ []) ∷ at 6 0 ∷ [])

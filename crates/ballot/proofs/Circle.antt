@@ -1,23 +1,23 @@
 -- Selection answers, and does not say 'none', where the slots of a circle of n − b − f honest senders count.
 -- Stated of one inbox of n slots. Assumes nothing.
 use mathlib.Core.Path.{_≡_, ap}
-use mathlib.Core.Bool.{Bool, true, _||_}
+use mathlib.Core.Bool.{Bool, true}
 use mathlib.Core.List.{List}
 use mathlib.Core.Option.{Option, none, some}
 use Prim.Native.Nat.{ℕ, _+_, _-_, _≤_, _<_}
 use native.Mathlib.Omega.{arith}
 use native.Mathlib.Decide.{ℕ-discrete, decLt}
 use lib.ListN.{length}
-use lib.Dec.{T, ltb}
+use lib.Dec.{T}
 use Rattle.wire.proofs.Tests.{tests}
 use Rattle.crew.specs.declared.Crew.{Crew}
 use Rattle.crew.specs.Thresholds.{one, two, three, anyAbove}
 use Rattle.ballot.specs.Count.{tally, count}
-use Rattle.ballot.specs.Ballot.{Ballot, inbox, votes, stamped, lists}
-use Rattle.ballot.specs.Selection.{possible, backed, enough, selection}
-use Rattle.ballot.proofs.Tests.{T-and, T-or-l, T-or-r}
+use Rattle.ballot.specs.Ballot.{Ballot, inbox, stamped, lists}
+use Rattle.ballot.specs.Selection.{supports, possible, backed, enough, selection}
 use Rattle.ballot.proofs.Counting.{tally-peak, length-count}
-use Rattle.ballot.proofs.Selection.{Answers, enough-answers, backed-answers}
+use Rattle.ballot.proofs.Selection.{Answers, supports-vote, supports-below, back-three}
+use Rattle.ballot.proofs.Selection.{enough-answers, backed-answers}
 use Rattle.ballot.proofs.Slots.{Slots, EachFrom, slot-counts, circle-passes}
 
 abbrev stampOr : Option Ballot → ℕ
@@ -51,17 +51,14 @@ module _ (crew : Crew) (slots : Slots) (circle : ℕ → Bool) (wide : crew .n �
     highest : (q : ℕ) → q < crew .n → T (circle q) → (m : Ballot) → slots q ≡ some m
         → EachFrom circle crew slots (λ o. o .stamp ≤ m .stamp) → Dec (0 < m .stamp)
         → Answers (selection three crew ballots)
-    unfolding enough backed possible
+    unfolding enough possible
     highest q lq kq m e top (yes pos) =
-        let support = circle-passes crew slots (λ k. votes (m .vote) k || ltb (k .stamp) (m .stamp)) circle wide present
+        let support = circle-passes crew slots (supports m) circle wide present
         λ a la ka o i. elim (ℕ-discrete (o .stamp) (m .stamp)) [
-          | yes z ↦ T-or-l (votes (m .vote) o) (ltb (o .stamp) (m .stamp))
-              (omega (tests, unique a la ka o i q lq kq m e z (omega arith)))
-          | no z ↦ T-or-r (votes (m .vote) o) (ltb (o .stamp) (m .stamp)) (omega (tests, top a la ka o i))
+          | yes z ↦ supports-vote m o (unique a la ka o i q lq kq m e z (omega arith))
+          | no z ↦ supports-below m o (omega (arith, top a la ka o i))
         ] in
-        let its : T (backed three crew ballots m) =
-        T-and (possible crew ballots m) (ltb (crew .b) (count (lists (m .vote) (m .stamp)) ballots)) (omega tests)
-        (omega (tests, listed q lq kq m e pos)) in
+        let its = back-three crew ballots m (omega tests) (listed q lq kq m e pos) in
         backed-answers crew ballots (slot-counts crew slots (backed three crew ballots) q lq m e its)
     highest q lq kq m e top (no pos) =
         enough-answers three crew ballots (omega (

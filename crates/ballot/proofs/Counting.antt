@@ -52,11 +52,6 @@ unfolding tally
 tally-all zero = refl
 tally-all (suc n) = omega (arith, tally-all n)
 
-pub tally-bound : (p : ℕ → Bool) (n : ℕ) → tally p n ≤ n
-unfolding tally
-tally-bound p zero = omega arith
-tally-bound p (suc n) = omega (arith, bit-le (p n), tally-bound p n)
-
 pub tally-not : (p : ℕ → Bool) (n : ℕ) → tally p n + tally (λ q. not (p q)) n ≡ n
 unfolding tally
 tally-not p zero = refl
@@ -247,6 +242,10 @@ module _ {A : Type 0} where
       go a top (no h) =
           let lower = count-le (λ k. ltb (g x) (g k)) (λ k. ltb (g a) (g k)) (y ∷ l) (λ k t. omega tests) in
           (x, (omega (arith, not-above g x x (omega arith), top .0), λ p t. omega (arith, bit-T (p x) t)))
+
+  -- The same elements, each as often, in whatever order: every count is the same.
+  abbrev pub Same : List A → List A → Type 0
+  Same l k = (p : A → Bool) → count p l ≡ count p k
 
   -- Slots: what is counted in the list of the slots is counted over their numbers.
 

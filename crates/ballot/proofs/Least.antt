@@ -5,7 +5,7 @@ use mathlib.Core.Bool.{Bool, true, false, cond, _&&_}
 use mathlib.Core.List.{List, [], _∷_}
 use mathlib.Core.Logic.{_⊎_, inl, inr, _≢_}
 use mathlib.Core.Option.{Option, none, some}
-use Prim.Native.Nat.{ℕ, _≤_, _<_, min}
+use Prim.Native.Nat.{ℕ, _≤_, _<_}
 use native.Mathlib.Omega.{arith}
 use native.Mathlib.Decide.{decLe, decLt}
 use lib.Dec.{T, ltb, eqb→eq, eqb-refl}
@@ -14,7 +14,7 @@ use Rattle.ballot.specs.Count.{bit, count}
 use Rattle.ballot.specs.Ballot.{Ballot, votes}
 use Rattle.ballot.specs.Least.{lower, least, orZero, leastOf}
 use Rattle.ballot.proofs.Tests.{and-T, T-and, T-dec}
-use Rattle.ballot.proofs.Counting.{bit-T, bit-F, count-le, count-none}
+use Rattle.ballot.proofs.Counting.{bit-T, bit-F, count-le, count-none, Same}
 
 -- passes p and has the vote v; passes p and has a vote below v
 abbrev pub withVote : (Ballot → Bool) → ℕ → Ballot → Bool
@@ -49,12 +49,12 @@ least-is p (m ∷ ms) = go (p m) refl (least p ms) (least-is p ms)
     under v h = bit-F (belowVote p v m) λ t. let d = and-T (p m) (ltb (m .vote) v) t in omega tests
 
     lowest : (v : ℕ) → p m ≡ true → 0 < count (withVote p v) ms → count (belowVote p v) ms ≡ 0 → Dec (m .vote ≤ v)
-        → Least p (m ∷ ms) (some (min (m .vote) v))
+        → Least p (m ∷ ms) (lower (m .vote) (some v))
     lowest v e i z (yes l) =
-        let x : min (m .vote) v ≡ m .vote = omega arith in
+        let x : lower (m .vote) (some v) ≡ some (m .vote) = ap some (omega arith) in
         rw x (found (m .vote) (omega (arith, own e)) (omega (arith, under (m .vote) (omega arith), low v (m .vote) l)))
     lowest v e i z (no l) =
-        let x : min (m .vote) v ≡ v = omega arith in
+        let x : lower (m .vote) (some v) ≡ some v = ap some (omega arith) in
         rw x (found v (omega arith) (omega (arith, under v (omega arith))))
 
     go : (a : Bool) → p m ≡ a → (o : Option ℕ) → Least p ms o → Least p (m ∷ ms) (cond a (lower (m .vote) o) o)
@@ -75,10 +75,7 @@ pub withVote-passes : (p : Ballot → Bool) (v : ℕ) (ballots : List Ballot)
     → count (withVote p v) ballots ≤ count p ballots
 withVote-passes p v ballots = count-le (withVote p v) p ballots (λ m t. and-T (p m) (votes v m) t .0)
 
--- The least vote does not depend on the order: it is the same where every count is.
-
-abbrev pub Same : {A : Type 0} → List A → List A → Type 0
-Same {A} l k = (p : A → Bool) → count p l ≡ count p k
+-- The least vote does not depend on the order.
 
 pub least-same : (p : Ballot → Bool) (l k : List Ballot) → Same l k → least p l ≡ least p k
 least-same p l k s = go (least p l) (least p k) (least-is p l) (least-is p k)

@@ -1,4 +1,3 @@
-pub mod Board
 pub mod Tests
 pub mod Counting
 pub mod Least
@@ -10,3 +9,4 @@ pub mod Decision
 pub mod Order
 pub mod Locked
 pub mod Circle
+pub mod Board

@@ -1,25 +1,26 @@
 -- Selection keeps a lock: a node that selects while v is locked takes v, or nothing (source document 000, theorems 5 to
 -- 7). Stated of one inbox of n slots. Assumes nothing.
 use mathlib.Core.Path.{_≡_, refl, ap}
-use mathlib.Core.Bool.{Bool, true, false, not, _&&_, _||_}
+use mathlib.Core.Bool.{Bool, true, false, not, _&&_}
 use mathlib.Core.List.{List}
 use mathlib.Core.Logic.{_⊎_, inl, inr, _≢_}
 use Prim.Native.Nat.{ℕ, _+_, _≤_, _<_}
 use native.Mathlib.Omega.{arith}
 use native.Mathlib.Decide.{ℕ-discrete, decLe}
 use lib.ListN.{length}
-use lib.Dec.{T, leb, ltb, eqb→eq, T-not}
+use lib.Dec.{T, leb, eqb→eq, T-not}
 use Rattle.wire.proofs.Tests.{tests}
 use Rattle.crew.specs.declared.Crew.{Crew}
 use Rattle.crew.specs.Thresholds.{Class, one, two, three, E}
 use Rattle.ballot.specs.Count.{tally, count}
 use Rattle.ballot.specs.Ballot.{Ballot, inbox, votes, stamped, lists}
-use Rattle.ballot.specs.Selection.{possible, backed, enough, selection, anyPlan, takenOn, taken}
+use Rattle.ballot.specs.Selection.{supports, possible, backed, enough, selection, anyPlan, takenOn, taken}
 use Rattle.ballot.specs.Selection.{nobody, plan, nothing, answer}
-use Rattle.ballot.proofs.Tests.{and-T, T-and, or-T, T-or-l, T-or-r}
+use Rattle.ballot.proofs.Tests.{and-T, T-and}
 use Rattle.ballot.proofs.Counting.{count-le, count-none, count-not, length-count}
 use Rattle.ballot.proofs.AnyPlan.{any-leader}
-use Rattle.ballot.proofs.Selection.{otherVote, selection-only, selection-finds}
+use Rattle.ballot.proofs.Selection.{otherVote, supports-is, supports-vote, supports-below}
+use Rattle.ballot.proofs.Selection.{backed-three, selection-only, selection-finds}
 use Rattle.ballot.proofs.Slots.{Slots, EachFrom, FewLiars, liars-at-most-b, outside-core-at-most-E}
 
 -- the node takes v, or nothing
@@ -77,9 +78,6 @@ module _ (crew : Crew) (reach : crew .d + crew .b + crew .f ≤ crew .n) (slots 
 
   module _ (honest : ℕ → Bool) (few : FewLiars crew honest)
       (rest : EachFrom honest crew slots (λ m. (m .vote ≡ v) ⊎ (m .stamp < t))) where
-    abbrev supports : Ballot → Ballot → Bool
-    supports m k = votes (m .vote) k || ltb (k .stamp) (m .stamp)
-
     -- a rival with a stamp up to t is not possible: nobody in the core supports it
     not-possible : (m : Ballot) → m .vote ≢ v → m .stamp ≤ t → T (possible crew ballots m) → ⊥
     unfolding possible
@@ -87,10 +85,7 @@ module _ (crew : Crew) (reach : crew .d + crew .b + crew .f ≤ crew .n) (slots 
         omega (
           tests,
           outside-lock-at-most-E (supports m) λ k e x y.
-              elim (or-T (votes (m .vote) k) (ltb (k .stamp) (m .stamp)) y) [
-                | inl z ↦ omega tests
-                | inr z ↦ omega tests
-              ],
+              elim (supports-is m k y) [ inl z ↦ omega arith | inr z ↦ omega arith ],
         )
 
     -- Class 2: a rival backed by more than b possible slots would have an honest one, with a stamp below t.
@@ -119,8 +114,8 @@ module _ (crew : Crew) (reach : crew .d + crew .b + crew .f ≤ crew .n) (slots 
           count-not (supports m) ballots,
           liars-at-most-b crew slots (λ k. not (supports m k)) honest few λ q i y k o x.
               T-not (supports m k) x (elim (rest q i y k o) [
-                | inl w ↦ T-or-l (votes (m .vote) k) (ltb (k .stamp) (m .stamp)) (omega tests)
-                | inr w ↦ T-or-r (votes (m .vote) k) (ltb (k .stamp) (m .stamp)) (omega tests)
+                | inl w ↦ supports-vote m k (omega arith)
+                | inr w ↦ supports-below m k (omega arith)
               ]),
         )
 
@@ -133,7 +128,8 @@ module _ (crew : Crew) (reach : crew .d + crew .b + crew .f ≤ crew .n) (slots 
         let many : crew .b < count mine ballots = omega (tests, count-not mine ballots) in
         let possibles = count-le mine (λ k. possible crew ballots k && votes v k) ballots λ k x.
         let d = and-T (votes v k) (leb t (k .stamp)) x in
-        T-and (possible crew ballots k) (votes v k) (core-possible (omega tests) k (omega tests) (omega tests)) (d .0) in
+        let its : T (possible crew ballots k) = core-possible (omega tests) k (omega tests) (omega tests) in
+        T-and (possible crew ballots k) (votes v k) its (d .0) in
         omega (
           tests,
           count-le mine (backed two crew ballots) ballots λ m x.
@@ -151,10 +147,9 @@ module _ (crew : Crew) (reach : crew .d + crew .b + crew .f ≤ crew .n) (slots 
 
     module _ (listed : EachFrom honest crew slots (λ m. (w x : ℕ) → T (lists w x m) → t < x → w ≡ v)) where
       rivals-three : count (otherVote (backed three crew ballots) v) ballots ≡ 0
-      unfolding backed
       rivals-three = count-none _ ballots λ m h.
           let d = and-T (backed three crew ballots m) (not (votes v m)) h in
-          let e = and-T (possible crew ballots m) (ltb (crew .b) (count (lists (m .vote) (m .stamp)) ballots)) (d .0) in
+          let e = backed-three crew ballots m (d .0) in
           omega (
             tests,
             liars-at-most-b crew slots (lists (m .vote) (m .stamp)) honest few λ q l y k o x.

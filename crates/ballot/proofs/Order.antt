@@ -18,8 +18,8 @@ use Rattle.ballot.specs.Selection.{Choice, plan, any, nothing, takenOn, 
 use Rattle.ballot.specs.Validation.{valid, validated}
 use Rattle.ballot.specs.Decision.{decides, decision}
 use Rattle.ballot.proofs.Tests.{and-T, T-and}
-use Rattle.ballot.proofs.Counting.{bit-T, length-count}
-use Rattle.ballot.proofs.Least.{Same, least-same, leastOf-same}
+use Rattle.ballot.proofs.Counting.{bit-T, length-count, Same}
+use Rattle.ballot.proofs.Least.{least-same, leastOf-same}
 use Rattle.ballot.proofs.AnyPlan.{any-same}
 
 -- Lists that have each element as often have the same counts, whatever the test: take one element out of both, go on.

@@ -15,12 +15,12 @@ use Rattle.wire.proofs.Tests.{tests}
 use Rattle.crew.specs.declared.Crew.{Crew}
 use Rattle.crew.specs.Thresholds.{Class, one, two, three}
 use Rattle.ballot.specs.Count.{count}
-use Rattle.ballot.specs.Ballot.{Ballot, votes}
+use Rattle.ballot.specs.Ballot.{Ballot, votes, lists}
 use Rattle.ballot.specs.Least.{least}
-use Rattle.ballot.specs.Selection.{backed, Backing, nobody, sole, several, besides, backing}
+use Rattle.ballot.specs.Selection.{supports, possible, backed, Backing, nobody, sole, several, besides, backing}
 use Rattle.ballot.specs.Selection.{Choice, plan, any, nothing, anyIf, enough, answer, selection}
 use Rattle.ballot.specs.Selection.{takenOn, taken}
-use Rattle.ballot.proofs.Tests.{and-T, T-and}
+use Rattle.ballot.proofs.Tests.{and-T, T-and, or-T, T-or-l, T-or-r}
 use Rattle.ballot.proofs.Counting.{count-le}
 use Rattle.ballot.proofs.Least.{withVote, withVote-votes, Least, nowhere, found, least-is, Voted}
 use Rattle.ballot.proofs.AnyPlan.{any-voted, any-plan}
@@ -72,6 +72,29 @@ module _ (p : Ballot → Bool) (ballots : List Ballot) where
       go nobody (by-none z) = inl (refl, z)
       go (sole w) (by-one _ i z) = inr (ap sole (same w i))
       go several (by-more w i j) = absurd (omega (arith, ap (λ x. count (otherVote p x) ballots) (same w i)))
+
+-- Who supports a ballot.
+
+module _ (m k : Ballot) where
+  pub supports-is : T (supports m k) → (k .vote ≡ m .vote) ⊎ (k .stamp < m .stamp)
+  supports-is h = elim (or-T (votes (m .vote) k) _ h) [ inl t ↦ inl (omega tests) | inr t ↦ inr (omega tests) ]
+
+  pub supports-vote : k .vote ≡ m .vote → T (supports m k)
+  supports-vote e = T-or-l (votes (m .vote) k) _ (omega tests)
+
+  pub supports-below : k .stamp < m .stamp → T (supports m k)
+  supports-below l = T-or-r (votes (m .vote) k) _ (omega tests)
+
+-- class 3: what it is for a ballot's vote to be backed
+pub backed-three : (crew : Crew) (ballots : List Ballot) (m : Ballot) → T (backed three crew ballots m)
+    → T (possible crew ballots m) × (crew .b < count (lists (m .vote) (m .stamp)) ballots)
+unfolding backed
+backed-three crew ballots m h = let d = and-T (possible crew ballots m) _ h in (d .0, omega tests)
+
+pub back-three : (crew : Crew) (ballots : List Ballot) (m : Ballot) → T (possible crew ballots m)
+    → crew .b < count (lists (m .vote) (m .stamp)) ballots → T (backed three crew ballots m)
+unfolding backed
+back-three crew ballots m p l = T-and (possible crew ballots m) _ p (omega tests)
 
 -- The answer.
 
@@ -135,48 +158,48 @@ backed-answers crew ballots h =
 
 -- The plan taken.
 
-sole-voted : (p : Ballot → Bool) (ballots : List Ballot) (v : ℕ) → Backs p ballots (sole v)
-    → 0 < count (votes v) ballots
-sole-voted p ballots v (by-one _ i z) = omega (arith, withVote-votes p v ballots)
+-- a plan that is answered is some ballot's vote
+abbrev VotedChoice : List Ballot → Choice → Type 0
+VotedChoice ballots (plan v) = 0 < count (votes v) ballots
+VotedChoice ballots any = Unit {0}
+VotedChoice ballots nothing = Unit {0}
 
 module _ (class : Class) (crew : Crew) (ballots : List Ballot) where
-  -- what is taken is some ballot's vote, or 0
-  pub taken-voted : Voted (taken class crew ballots) ballots
-  unfolding selection taken
-  taken-voted = go class (backing test ballots) (backing-is test ballots) (enough class crew ballots)
+  selection-voted : VotedChoice ballots (selection class crew ballots)
+  unfolding selection
+  selection-voted = go class (backing test ballots) (enough class crew ballots) (backing-is test ballots)
     where
       test : Ballot → Bool
       test = backed class crew ballots
 
-      open-choice : (e : Bool) → Voted (takenOn crew ballots (anyIf e)) ballots
-      open-choice true = any-voted crew ballots
-      open-choice false = inl refl
+      open-choice : (e : Bool) → VotedChoice ballots (anyIf e)
+      open-choice true = tt
+      open-choice false = tt
 
-      go : (class : Class) (b : Backing) → Backs test ballots b → (e : Bool)
-          → Voted (takenOn crew ballots (answer class b e)) ballots
-      go class nobody d e = open-choice e
-      go class (sole v) d e = inr (sole-voted test ballots v d)
-      go one several d e = open-choice e
-      go two several d e = open-choice e
-      go three several d e = any-voted crew ballots
+      go : (class : Class) (b : Backing) (e : Bool) → Backs test ballots b → VotedChoice ballots (answer class b e)
+      go class nobody e d = open-choice e
+      go class (sole v) e (by-one _ i z) = omega (arith, withVote-votes test v ballots)
+      go one several e d = open-choice e
+      go two several e d = open-choice e
+      go three several e d = tt
+
+  -- what is taken is some ballot's vote, or 0
+  pub taken-voted : Voted (taken class crew ballots) ballots
+  unfolding taken
+  taken-voted = go (selection class crew ballots) selection-voted
+    where
+      go : (c : Choice) → VotedChoice ballots c → Voted (takenOn crew ballots c) ballots
+      go (plan v) h = inr h
+      go any h = any-voted crew ballots
+      go nothing h = inl refl
 
   -- where selection answers, slots count and none votes 0, a plan is taken
   pub taken-plan : 0 < length ballots → count (votes 0) ballots ≡ 0 → Answers (selection class crew ballots)
       → taken class crew ballots ≢ 0
-  unfolding selection taken
-  taken-plan h z a = go class (backing test ballots) (backing-is test ballots) (enough class crew ballots) a
+  unfolding taken
+  taken-plan some-slot no-zero = go (selection class crew ballots) selection-voted
     where
-      test : Ballot → Bool
-      test = backed class crew ballots
-
-      open-choice : (e : Bool) → Answers (anyIf e) → takenOn crew ballots (anyIf e) ≢ 0
-      open-choice true a = any-plan crew ballots h z
-      open-choice false a = absurd a
-
-      go : (class : Class) (b : Backing) → Backs test ballots b → (e : Bool) → Answers (answer class b e)
-          → takenOn crew ballots (answer class b e) ≢ 0
-      go class nobody d e a = open-choice e a
-      go class (sole v) d e a = λ x. omega (arith, sole-voted test ballots v d, ap (λ y. count (votes y) ballots) x)
-      go one several d e a = open-choice e a
-      go two several d e a = open-choice e a
-      go three several d e a = any-plan crew ballots h z
+      go : (c : Choice) → VotedChoice ballots c → Answers c → takenOn crew ballots c ≢ 0
+      go (plan v) h a = λ e. omega (arith, ap (λ w. count (votes w) ballots) e)
+      go any h a = any-plan crew ballots some-slot no-zero
+      go nothing h a = absurd a

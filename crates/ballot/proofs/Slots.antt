@@ -1,8 +1,9 @@
--- What a set of senders says, and how many slots of an inbox then pass a test: the four bounds by which every later
--- argument counts. Assumes nothing.
-use mathlib.Core.Path.{_≡_}
+-- What a set of senders says, and how many slots of an inbox then pass a test: the bounds by which every later argument
+-- counts. Assumes nothing.
+use mathlib.Core.Path.{_≡_, ap}
 use mathlib.Core.Bool.{Bool, not}
-use mathlib.Core.Option.{Option, some}
+use mathlib.Core.List.{[]}
+use mathlib.Core.Option.{Option, none, some}
 use Prim.Native.Nat.{ℕ, _+_, _≤_, _<_}
 use native.Mathlib.Omega.{arith}
 use lib.Dec.{T, not-T}
@@ -17,6 +18,26 @@ use Rattle.ballot.proofs.Counting.{count-gather}
 -- the slots of an inbox, by port
 abbrev pub Slots : Type 0
 Slots = ℕ → Option Ballot
+
+-- One slot.
+
+abbrev ballotOr : Option Ballot → Ballot
+ballotOr none = record { vote = 0; stamp = 0; entries = [] }
+ballotOr (some m) = m
+
+pub same-ballot : {a b : Ballot} → some a ≡ some b → a ≡ b
+same-ballot e = ap ballotOr e
+
+pub same-vote : {a b : Ballot} → a ≡ b → a .vote ≡ b .vote
+same-vote e = ap (λ (m : Ballot). m .vote) e
+
+pub same-stamp : {a b : Ballot} → a ≡ b → a .stamp ≡ b .stamp
+same-stamp e = ap (λ (m : Ballot). m .stamp) e
+
+pub not-none : {m : Ballot} → none ≡ some m → ⊥
+not-none e = let y : _≡_ {A = ℕ} 0 1 = cc in omega arith
+
+-- All slots.
 
 -- every ballot that comes from these senders
 abbrev pub EachFrom : (ℕ → Bool) → Crew → Slots → (Ballot → Type 0) → Type 0
@@ -94,6 +115,6 @@ overlap crew honest few senders left right p r in-left in-right apart =
       arith,
       count-gather p left (crew .n),
       count-gather r right (crew .n),
-      tally-meet (λ q. holds p (left q)) (λ q. holds r (right q)) senders (λ q. not (honest q)) (crew .n) in-left in-right
-          λ q l s t. not-T (honest q) (λ h. apart q l h s t),
+      tally-meet (λ q. holds p (left q)) (λ q. holds r (right q)) senders (λ q. not (honest q)) (crew .n)
+          in-left in-right λ q l s t. not-T (honest q) (λ h. apart q l h s t),
     )

@@ -1,10 +1,9 @@
 -- Validation by counts: one plan at most is validated in a phase, and only one that stands in slots.
 -- Builds on specs/Validation.antt. Assumes nothing.
-use mathlib.Core.Path.{_≡_, sym, ap, _∙_}
+use mathlib.Core.Path.{_≡_, sym, _∙_}
 use mathlib.Core.Bool.{Bool, not}
 use mathlib.Core.List.{List}
 use mathlib.Core.Logic.{_≢_}
-use mathlib.Core.Option.{Option, none, some}
 use Prim.Native.Nat.{ℕ, _+_, _*_, _≤_, _<_}
 use native.Mathlib.Omega.{arith}
 use native.Mathlib.Decide.{ℕ-discrete}
@@ -18,11 +17,7 @@ use Rattle.ballot.specs.Validation.{validates, valid, validated}
 use Rattle.ballot.proofs.Tests.{holds-T}
 use Rattle.ballot.proofs.Counting.{all-of, tally-none, tally-all}
 use Rattle.ballot.proofs.Least.{Voted, leastOf-passes, leastOf-voted, leastOf-only}
-use Rattle.ballot.proofs.Slots.{Slots, FewLiars, overlap}
-
-abbrev voteOr : Option Ballot → ℕ
-voteOr none = 0
-voteOr (some m) = m .vote
+use Rattle.ballot.proofs.Slots.{Slots, same-ballot, same-vote, FewLiars, overlap}
 
 module _ (crew : Crew) where
   pub validated-voted : (ballots : List Ballot) → Voted (validated crew ballots) ballots
@@ -86,5 +81,5 @@ module _ (crew : Crew) where
       rival w d = valid-apart all-of nobody-lies phase slots slots v w λ q lq hq s t.
           let m = holds-T (votes v) (slots q) s in
           let o = holds-T (votes w) (slots q) t in
-          let same = ap voteOr (sym (m .1) ∙ o .1) in
+          let same = same-vote (same-ballot (sym (m .1) ∙ o .1)) in
           d (omega tests)

@@ -5,10 +5,12 @@ use mathlib.Core.Option.{Option, none, some}
 use Prim.Native.Nat.{ℕ, min}
 use Rattle.ballot.specs.Ballot.{Ballot}
 
+-- the lower of a vote and the least so far
 abbrev pub lower : ℕ → Option ℕ → Option ℕ
 lower v none = some v
 lower v (some w) = some (min v w)
 
+-- the least vote of the ballots that pass, if any does
 unfoldable pub least : (Ballot → Bool) → List Ballot → Option ℕ
 least p [] = none
 least p (m ∷ ms) = cond (p m) (lower (m .vote) (least p ms)) (least p ms)

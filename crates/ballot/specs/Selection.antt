@@ -1,5 +1,5 @@
 -- Selection, round 1 of a phase: document 01, 'The three rounds'; source document 000, Algorithms 5 to 7.
--- "Selection answers a plan, 'any' or 'none'."
+-- What is possible, what is backed, what is answered and, last, what a node takes.
 use mathlib.Core.Bool.{Bool, true, false, not, cond, _&&_, _||_}
 use mathlib.Core.List.{List}
 use mathlib.Core.Option.{Option, none, some}
@@ -12,9 +12,13 @@ use Rattle.ballot.specs.Count.{count}
 use Rattle.ballot.specs.Ballot.{Ballot, votes, stamped, lists}
 use Rattle.ballot.specs.Least.{least, leastOf}
 
+-- slot k has the vote of m, or a stamp below its own
+abbrev pub supports : Ballot → Ballot → Bool
+supports m k = votes (m .vote) k || ltb (k .stamp) (m .stamp)
+
 -- 01: "a slot is possible if more than E slots have its vote or a stamp below its own"
 unfoldable pub possible : Crew → List Ballot → Ballot → Bool
-possible crew ballots m = ltb (E crew) (count (λ k. votes (m .vote) k || ltb (k .stamp) (m .stamp)) ballots)
+possible crew ballots m = ltb (E crew) (count (supports m) ballots)
 
 -- The ballot's vote is backed; in class 3 it is backed through this ballot's stamp.
 -- 01, class 1: "backed are the plans voted by more than E slots"
@@ -37,9 +41,11 @@ abbrev pub besides : (Ballot → Bool) → List Ballot → Option ℕ → Backin
 besides p ballots none = nobody
 besides p ballots (some v) = cond (eqb (count (λ m. p m && not (votes v m)) ballots) 0) (sole v) several
 
+-- the votes of the ballots that pass a test
 unfoldable pub backing : (Ballot → Bool) → List Ballot → Backing
 backing p ballots = besides p ballots (least p ballots)
 
+-- 01: "Selection answers a plan, 'any' or 'none'."; Option has the name `none`
 pub data Choice : Type 0 where
   plan : ℕ → Choice
   any nothing : Choice
@@ -59,12 +65,13 @@ anyIf false = nothing
 -- 01, classes 1 and 2: "Exactly one: that plan. Otherwise 'any' if .., else 'none'."
 -- 01, class 3: "Exactly one plan: that plan. More: 'any'. None: 'any' if .., else 'none'."
 abbrev pub answer : Class → Backing → Bool → Choice
-answer class (sole v) slots = plan v
-answer class nobody slots = anyIf slots
-answer one several slots = anyIf slots
-answer two several slots = anyIf slots
-answer three several slots = any
+answer class (sole v) many = plan v
+answer class nobody many = anyIf many
+answer one several many = anyIf many
+answer two several many = anyIf many
+answer three several many = any
 
+-- the answer: by the plans that are backed, and by the slots that count
 unfoldable pub selection : Class → Crew → List Ballot → Choice
 selection class crew ballots = answer class (backing (backed class crew ballots) ballots) (enough class crew ballots)
 
@@ -73,7 +80,7 @@ unfoldable pub leading : List Ballot → ℕ → Bool
 leading ballots v =
     eqb (count (λ k. ltb (count (votes v) ballots) (count (votes (k .vote)) ballots)) ballots) 0
 
--- "the vote of most slots, the least plan on a tie"
+-- the vote of most slots, the least plan on a tie
 unfoldable pub mostVoted : List Ballot → ℕ
 mostVoted ballots = leastOf (leading ballots) ballots
 
@@ -88,5 +95,6 @@ takenOn crew ballots (plan v) = v
 takenOn crew ballots any = anyPlan crew ballots
 takenOn crew ballots nothing = 0
 
+-- the plan that a node takes from its inbox, 0 where it takes none
 unfoldable pub taken : Class → Crew → List Ballot → ℕ
 taken class crew ballots = takenOn crew ballots (selection class crew ballots)

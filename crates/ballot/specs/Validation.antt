@@ -18,6 +18,6 @@ validates crew phase q = true
 unfoldable pub valid : Crew → List Ballot → ℕ → Bool
 valid crew ballots v = ltb (validAbove crew) (2 * count (votes v) ballots)
 
--- the plan that is validated, 0 where none is
+-- the plan that is validated, 0 where none is; in n slots no two plans are valid
 unfoldable pub validated : Crew → List Ballot → ℕ
 validated crew ballots = leastOf (valid crew ballots) ballots

@@ -4,7 +4,7 @@ use mathlib.Core.Bool.{Bool, not, _&&_}
 use mathlib.Core.List.{List}
 use mathlib.Core.Logic.{inl, inr}
 use mathlib.Core.Option.{some}
-use Prim.Native.Nat.{ℕ, _+_, _≤_, _<_}
+use Prim.Native.Nat.{ℕ, _+_, _≤_}
 use native.Mathlib.Omega.{arith}
 use native.Mathlib.Decide.{ℕ-discrete}
 use lib.Dec.{T, eqb→eq}
@@ -18,11 +18,11 @@ use Rattle.ballot.specs.Selection.{taken}
 use Rattle.ballot.specs.Decision.{decides}
 use Rattle.ballot.proofs.Tests.{and-T, holds-T}
 use Rattle.ballot.proofs.Counting.{count-gather, tally-split, tally-not}
-use Rattle.ballot.proofs.Slots.{FewLiars}
+use Rattle.ballot.proofs.Slots.{same-ballot, same-vote, FewLiars}
 use Rattle.ballot.proofs.Locked.{Core, Takes, outside-lock-at-most-E, lock-taken-one}
 use Rattle.model.specs.Node.{Node, Round, selecting, validating, deciding, ifPlan, say, turn}
 use Rattle.model.specs.Run.{Each, State, Inboxes, roundAfter, step, Faithful, Decides}
-use Rattle.model.proofs.Node.{ifPlan-is, said, same-vote}
+use Rattle.model.proofs.Node.{ifPlan-is}
 use Rattle.model.proofs.Run.{heard, Locking}
 
 -- the rounds that class 1 has
@@ -39,9 +39,9 @@ in-class-one-after deciding o = tt
 -- in both rounds a node says its vote
 says-vote : (crew : Crew) (r : Round) → InClassOne r → (phase q : ℕ) (d : Node) (m : Ballot)
     → say one crew phase r q d ≡ some m → d .vote ≡ m .vote
-says-vote crew selecting o phase q d m e = same-vote (said e)
+says-vote crew selecting o phase q d m e = same-vote (same-ballot e)
 says-vote crew validating o phase q d m e = absurd o
-says-vote crew deciding o phase q d m e = same-vote (said e)
+says-vote crew deciding o phase q d m e = same-vote (same-ballot e)
 
 -- a node that takes v or nothing keeps the vote v
 keeps-vote : (crew : Crew) (r : Round) → InClassOne r → (phase : ℕ) (ballots : List Ballot) (d : Node) (v : ℕ)

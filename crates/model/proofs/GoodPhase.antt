@@ -1,6 +1,6 @@
 -- A good phase: its circle selects one plan, validates it in classes 2 and 3, and decides it. Stated of one phase,
 -- whatever went before. Assumes nothing.
-use mathlib.Core.Path.{_≡_, sym, _∙_}
+use mathlib.Core.Path.{_≡_, sym, ap, _∙_}
 use mathlib.Core.Bool.{Bool, not, _&&_}
 use mathlib.Core.List.{[]}
 use mathlib.Core.Logic.{inl, inr, _≢_}
@@ -18,17 +18,16 @@ use Rattle.ballot.specs.Selection.{selection, taken}
 use Rattle.ballot.specs.Validation.{validated}
 use Rattle.ballot.specs.Decision.{fresh, decides}
 use Rattle.ballot.proofs.Tests.{and-T, T-and, T-holds}
-use Rattle.ballot.proofs.Counting.{count-gather, tally-le, tally-meet, tally-not, tally-some}
-use Rattle.ballot.proofs.Least.{Same}
+use Rattle.ballot.proofs.Counting.{count-gather, tally-le, tally-meet, tally-not, tally-some, Same}
 use Rattle.ballot.proofs.Selection.{Answers, taken-plan}
-use Rattle.ballot.proofs.Slots.{slot-counts, circle-passes}
+use Rattle.ballot.proofs.Slots.{same-ballot, same-vote, same-stamp, slot-counts, circle-passes}
 use Rattle.ballot.proofs.Validation.{valid-validated}
 use Rattle.ballot.proofs.Decision.{Stamps, stamp-fresh}
 use Rattle.ballot.proofs.Order.{taken-same}
 use Rattle.ballot.proofs.Circle.{circle-counts, answers-one, answers-two, answers-three}
-use Rattle.model.specs.Node.{Node, Round, selecting, validating, deciding, ifPlan, entriesBelow}
+use Rattle.model.specs.Node.{Node, Round, selecting, validating, deciding, number, ifPlan, entriesBelow}
 use Rattle.model.specs.Run.{Each, State, Inboxes, turned, step, saying}
-use Rattle.model.proofs.Node.{ifPlan-is, confirms-is, said, same-vote, same-stamp, lists-below}
+use Rattle.model.proofs.Node.{ifPlan-is, confirms-is, lists-below}
 use Rattle.model.proofs.Run.{at}
 use Rattle.model.proofs.Invariant.{Invariant, listers}
 use Rattle.model.proofs.Phases.{Unstamped}
@@ -74,7 +73,7 @@ module _ (crew : Crew) (circle : ℕ → Bool) (wide : crew .n ≤ tally circle 
       → Each crew circle (λ p. validated crew (inbox crew (i p)) ≡ v)
   all-validated class i phase nodes v enough plan hears select p lp kp =
       let many = circle-passes crew (i p) (votes v) circle wide (λ q lq kq. (_, says q lq kq)) λ q lq kq m e.
-      omega (tests, select q lq kq, same-vote (said (sym (says q lq kq) ∙ e))) in
+      omega (tests, select q lq kq, same-vote (same-ballot (sym (says q lq kq) ∙ e))) in
       valid-validated crew phase (i p) v (omega arith)
     where
       spoken : ℕ → Ballot
@@ -98,7 +97,7 @@ module _ (crew : Crew) (circle : ℕ → Bool) (wide : crew .n ≤ tally circle 
       let many = circle-passes crew (i p) test circle wide (λ q lq kq. (_, hears p lp kp q lq kq)) λ q lq kq m e.
       let y : Ballot = record { vote = nodes q .vote; stamp = nodes q .stamp; entries = [] } in
       let t = speak q lq kq in
-      let same : y ≡ m = said (sym (hears p lp kp q lq kq) ∙ e) in
+      let same : y ≡ m = same-ballot (sym (hears p lp kp q lq kq) ∙ e) in
       rw (← same) (T-and (fresh class phase y) (votes v y) (t .1) (omega tests)) in
       omega tests
 
@@ -109,10 +108,8 @@ module _ (crew : Crew) (circle : ℕ → Bool) (wide : crew .n ≤ tally circle 
       → Hears class crew circle g (step class crew i s) → CircleDecides class crew circle phase g)
   two-rounds two a above i g phase round nodes r h alike h₂ = absurd a
   two-rounds three a above i g phase round nodes r h alike h₂ = absurd a
-  two-rounds one a above i g phase validating nodes r h alike h₂ =
-      absurd (let y : _≡_ {A = ℕ} 0 1 = cc in omega arith)
-  two-rounds one a above i g phase deciding nodes r h alike h₂ =
-      absurd (let y : _≡_ {A = ℕ} 0 1 = cc in omega arith)
+  two-rounds one a above i g phase validating nodes r h alike h₂ = absurd (omega (arith, ap number r))
+  two-rounds one a above i g phase deciding nodes r h alike h₂ = absurd (omega (arith, ap number r))
   two-rounds one a above i g phase selecting nodes r h alike h₂ =
       let v = one-plan one i phase nodes h alike λ p lp kp.
       answers-one crew (i p) circle wide (λ q lq kq. (_, h p lp kp q lq kq)) above in (
@@ -200,15 +197,15 @@ module _ (crew : Crew) (circle : ℕ → Bool) (wide : crew .n ≤ tally circle 
     unfolding spoken
     highest-answers = answers-three crew (i p) circle wide (λ q lq kq. (spoken q, h p lp kp q lq kq)) above
         (λ x lx kx m e y ly ky o f same pos.
-        let u = said (sym (h p lp kp x lx kx) ∙ e) in
-        let w = said (sym (h p lp kp y ly ky) ∙ f) in
+        let u = same-ballot (sym (h p lp kp x lx kx) ∙ e) in
+        let w = same-ballot (sym (h p lp kp y ly ky) ∙ f) in
         let hx = inside x lx kx in
         let hy = inside y ly ky in
         let stamps : nodes x .stamp ≡ nodes y .stamp = omega (arith, same-stamp u, same-stamp w) in
         let one-base = j .unique x lx hx y ly hy stamps (omega (arith, same-stamp u)) in
         omega (arith, same-vote u, same-vote w, j .each x lx hx .voted, j .each y ly hy .voted))
         (λ x lx kx m e pos.
-        let u = said (sym (h p lp kp x lx kx) ∙ e) in
+        let u = same-ballot (sym (h p lp kp x lx kx) ∙ e) in
         rw (← (same-vote u), ← (same-stamp u)) (stamp-listed x lx kx (omega (arith, same-stamp u))))
 
   -- Classes 2 and 3: a good phase.
@@ -221,9 +218,9 @@ module _ (crew : Crew) (circle : ℕ → Bool) (wide : crew .n ≤ tally circle 
       → Hears class crew circle g (step class crew e (step class crew i s))
       → CircleDecides class crew circle phase g)
   good-rounds class a honest inside strong enough above i e g phase validating nodes r j h alike h₂ h₃ =
-      absurd (let y : _≡_ {A = ℕ} 0 1 = cc in omega arith)
+      absurd (omega (arith, ap number r))
   good-rounds class a honest inside strong enough above i e g phase deciding nodes r j h alike h₂ h₃ =
-      absurd (let y : _≡_ {A = ℕ} 0 1 = cc in omega arith)
+      absurd (omega (arith, ap number r))
   good-rounds one a honest inside strong enough above i e g phase selecting nodes r j h alike h₂ h₃ = absurd a
   good-rounds two a honest inside strong enough above i e g phase selecting nodes r j h alike h₂ h₃ =
       three-rounds two a enough i e g phase nodes h alike

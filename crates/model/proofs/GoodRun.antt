@@ -10,11 +10,11 @@ use Rattle.crew.proofs.Facts.{Accepts, accepts, quorum-positive, circle-decides
 use Rattle.crew.proofs.Facts.{circle-above-any, circle-validates}
 use Rattle.ballot.specs.Ballot.{Ballot, inbox}
 use Rattle.ballot.proofs.Decision.{Stamps}
+use Rattle.ballot.proofs.Slots.{not-none}
 use Rattle.ballot.proofs.Order.{same-inboxes}
 use Rattle.crew.specs.Thresholds.{validAbove}
 use Rattle.model.specs.Node.{selecting, deciding}
 use Rattle.model.specs.Run.{Each, step, saying, spent, Run, class, state, Held, DecidesAt, Admissible, Good}
-use Rattle.model.proofs.Node.{not-none}
 use Rattle.model.proofs.Invariant.{Invariant}
 use Rattle.model.proofs.Phases.{Unstamped, class-cases, Stands, next}
 use Rattle.model.proofs.Phases.{decision-next, validation-next, decision-then, phase-begins}

@@ -1,10 +1,9 @@
 -- Classes 2 and 3: what holds of every honest node when a round begins; that a phase validates one plan; and that every
 -- stamp is backed by the histories of those who let it be validated. Assumes nothing.
-use mathlib.Core.Path.{_≡_, refl, sym, ap, _∙_}
+use mathlib.Core.Path.{_≡_, refl, ap}
 use mathlib.Core.Bool.{Bool, not, _&&_}
 use mathlib.Core.Logic.{inl, inr, _≢_}
-use mathlib.Core.List.{[]}
-use mathlib.Core.Option.{Option, none, some}
+use mathlib.Core.Option.{some}
 use Prim.Native.Nat.{ℕ, suc, _+_, _*_, _≤_, _<_}
 use native.Mathlib.Omega.{arith}
 use lib.ListN.{length, getD, length-replicate}
@@ -16,15 +15,16 @@ use Rattle.ballot.specs.Count.{tally, holds}
 use Rattle.ballot.specs.Ballot.{Ballot, inbox, votes}
 use Rattle.ballot.specs.Selection.{taken}
 use Rattle.ballot.specs.Validation.{validated}
+use Rattle.ballot.specs.Decision.{decision}
 use Rattle.ballot.proofs.Tests.{and-T, T-and, holds-T}
 use Rattle.ballot.proofs.Counting.{count-gather, tally-le, tally-split}
-use Rattle.ballot.proofs.Slots.{FewLiars}
+use Rattle.ballot.proofs.Slots.{same-vote, FewLiars}
 use Rattle.ballot.proofs.Validation.{validated-slots, validated-unique}
 use Rattle.ballot.proofs.Decision.{Stamps}
-use Rattle.model.specs.Node.{Node, Round, selecting, validating, deciding}
+use Rattle.model.specs.Node.{Node, Round, selecting, validating, deciding, number}
 use Rattle.model.specs.Node.{begin, ifPlan, selects, confirms, settles}
 use Rattle.model.specs.Run.{Each, State, Inboxes, turned, step, Faithful, spent, start}
-use Rattle.model.proofs.Node.{ifPlan-is, confirms-is, said, same-vote, not-none, begins-blank}
+use Rattle.model.proofs.Node.{ifPlan-is, confirms-is, said-plan, begins-blank}
 use Rattle.model.proofs.Node.{kept-length, kept-other, kept-here}
 use Rattle.model.proofs.Run.{at, heard}
 
@@ -54,6 +54,7 @@ Recorded selecting phase d = Unit {0}
 Recorded validating phase d = d .select ≢ 0 → getD (d .history) phase 0 ≡ d .select
 Recorded deciding phase d = Unit {0}
 
+-- what holds of an honest node when this round of this phase begins; each round keeps it, whatever the node hears
 pub record NodeOk (phase : ℕ) (round : Round) (d : Node) : Type 0 where
   pub stamped : StampOk round (d .stamp) phase
   pub voted : VoteOk round d
@@ -77,7 +78,7 @@ node-selects phase v d t o = record {
   voted = tt;
   blank = λ x l. omega (arith, kept-other (d .history) phase v x (omega arith), o .blank x (omega arith));
   long = omega (arith, kept-length (d .history) phase v, o .long);
-  recorded = λ plan. kept-here (d .history) phase v (omega (arith, o .long)) plan;
+  recorded = λ plan. omega (arith, kept-here (d .history) phase v (omega (arith, o .long)) plan);
 }
 
 node-confirms : (phase v : ℕ) (d : Node) → NodeOk phase validating d → NodeOk phase deciding (confirms phase v d)
@@ -150,14 +151,11 @@ module _ (class : Class) (crew : Crew) (honest : ℕ → Bool) (few : FewLiars c
         → i p q ≡ some m → (nodes q .select ≢ 0) × (nodes q .select ≡ m .vote)
     slot-selected p lp hp q lq hq m e =
         let h = heard class crew honest i (at phase validating nodes) f p lp hp q lq hq m e in
-        let its : Ballot = record { vote = nodes q .select; stamp = 0; entries = [] } in
-        elim (ifPlan-is {A = Option Ballot} (nodes q .select) (some its) none) [
-          | inl z ↦ absurd (not-none (sym (z .1) ∙ h))
-          | inr z ↦ (z .0, same-vote (said (sym (z .1) ∙ h)))
-        ]
+        let b = said-plan (nodes q .select) h in
+        (b .0, omega (arith, same-vote (b .1)))
 
     -- two honest nodes that validate a plan in this round validate the same one
-    pub unique-validation : Each crew honest λ p. Each crew honest λ q.
+    unique-validation : Each crew honest λ p. Each crew honest λ q.
         validated crew (inbox crew (i p)) ≢ 0 → validated crew (inbox crew (i q)) ≢ 0
         → validated crew (inbox crew (i p)) ≡ validated crew (inbox crew (i q))
     unique-validation p lp hp q lq hq =
@@ -212,10 +210,23 @@ module _ (class : Class) (crew : Crew) (honest : ℕ → Bool) (few : FewLiars c
       → Invariant crew honest (at (suc phase) selecting (turned class crew i phase deciding nodes))
   invariant-settles j = record {
     begun = omega arith;
-    each = λ q lq hq. node-settles phase _ (nodes q) (j .each q lq hq);
+    each = λ q lq hq.
+        node-settles phase (decision class crew phase (inbox crew (i q))) (nodes q) (j .each q lq hq);
     unique = j .unique;
     backing = j .backing;
   }
+
+-- Any round.
+
+pub unique-in-round : (class : Class) (crew : Crew) (honest : ℕ → Bool) → FewLiars crew honest
+    → (i : Inboxes) (phase : ℕ) (round : Round) (nodes : ℕ → Node) → round ≡ validating
+    → Faithful class crew honest i (at phase round nodes) → Each crew honest λ p. Each crew honest λ q.
+    validated crew (inbox crew (i p)) ≢ 0 → validated crew (inbox crew (i q)) ≢ 0
+    → validated crew (inbox crew (i p)) ≡ validated crew (inbox crew (i q))
+unique-in-round class crew honest few i phase selecting nodes e f = absurd (omega (arith, ap number e))
+unique-in-round class crew honest few i phase validating nodes e f =
+    unique-validation class crew honest few i phase nodes f
+unique-in-round class crew honest few i phase deciding nodes e f = absurd (omega (arith, ap number e))
 
 pub invariant-step : (class : Class) → Stamps class → (crew : Crew) (honest : ℕ → Bool) → FewLiars crew honest
     → (i : Inboxes) (phase : ℕ) (round : Round) (nodes : ℕ → Node) → phase < spent

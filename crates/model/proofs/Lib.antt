@@ -3,8 +3,10 @@ pub mod Run
 pub mod ClassOne
 pub mod Invariant
 pub mod Lock
-pub mod Phases
+pub mod Classes
 pub mod Results
+pub mod Phases
 pub mod GoodPhase
 pub mod GoodRun
 pub mod Theorems
+pub mod Example

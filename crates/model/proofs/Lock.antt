@@ -1,6 +1,6 @@
 -- Classes 2 and 3: a decision at a phase locks its plan, as the base of D − b honest nodes with a stamp from that phase
 -- on. Rounds keep the lock, and while it holds nothing else is decided. Assumes nothing.
-use mathlib.Core.Path.{_≡_}
+use mathlib.Core.Path.{_≡_, ap}
 use mathlib.Core.Bool.{Bool, not, _&&_}
 use mathlib.Core.Logic.{_⊎_, inl, inr}
 use mathlib.Core.Option.{some}
@@ -19,13 +19,13 @@ use Rattle.ballot.specs.Validation.{validated}
 use Rattle.ballot.specs.Decision.{fresh, decides}
 use Rattle.ballot.proofs.Tests.{and-T, holds-T}
 use Rattle.ballot.proofs.Counting.{count-gather, tally-split, tally-not, tally-some}
-use Rattle.ballot.proofs.Slots.{EachFrom, FewLiars, liars-at-most-b}
+use Rattle.ballot.proofs.Slots.{same-ballot, same-vote, same-stamp, EachFrom, FewLiars, liars-at-most-b}
 use Rattle.ballot.proofs.Validation.{validated-slots}
 use Rattle.ballot.proofs.Decision.{Stamps, fresh-stamp}
 use Rattle.ballot.proofs.Locked.{Core, Takes, lock-taken-two, lock-taken-three}
-use Rattle.model.specs.Node.{Node, Round, selecting, validating, deciding, entriesSaid}
+use Rattle.model.specs.Node.{Node, Round, selecting, validating, deciding, number, entriesSaid}
 use Rattle.model.specs.Run.{Each, State, Inboxes, turned, step, Faithful, Decides, start}
-use Rattle.model.proofs.Node.{confirms-is, said, same-vote, same-stamp, said-lists, kept-keeps, begins-blank}
+use Rattle.model.proofs.Node.{confirms-is, said-lists, kept-keeps, begins-blank}
 use Rattle.model.proofs.Run.{at, heard, Locking}
 use Rattle.model.proofs.Invariant.{Invariant, invariant-begins, invariant-step, slot-selected}
 
@@ -84,7 +84,7 @@ module _ (class : Class) (stamps : Stamps class) (crew : Crew) (honest : ℕ →
         }
 
         from : (a : ℕ) → a < crew .n → T (honest a) → (m : Ballot) → i q a ≡ some m → spoken a ≡ m
-        from a la ha m e = said (heard class crew honest i (at phase selecting nodes) f q lq hq a la ha m e)
+        from a la ha m e = same-ballot (heard class crew honest i (at phase selecting nodes) f q lq hq a la ha m e)
 
         shown : Core crew (i q) v (l .since)
         shown = record {
@@ -190,8 +190,8 @@ module _ (class : Class) (stamps : Stamps class) (crew : Crew) (honest : ℕ →
   }
 
   module _ (j : Invariant crew honest (at phase deciding nodes))
-      (f : Faithful class crew honest i (at phase deciding nodes)) (p : ℕ) (lp : p < crew .n) (hp : T (honest p)) (v : ℕ)
-      (d : T (decides class crew phase (inbox crew (i p)) v)) where
+      (f : Faithful class crew honest i (at phase deciding nodes)) (p : ℕ) (lp : p < crew .n) (hp : T (honest p))
+      (v : ℕ) (d : T (decides class crew phase (inbox crew (i p)) v)) where
     voter : Ballot → Bool
     voter m = fresh class phase m && votes v m
 
@@ -211,7 +211,7 @@ module _ (class : Class) (stamps : Stamps class) (crew : Crew) (honest : ℕ →
         let x = and-T (honest q) (holds voter (i p q)) t in
         let h = holds-T voter (i p q) (x .1) in
         let y = and-T (fresh class phase (h .0)) (votes v (h .0)) (h .2) in
-        let b = said (heard class crew honest i (at phase deciding nodes) f p lp hp q lq (x .0) (h .0) (h .1)) in
+        let b = same-ballot (heard class crew honest i (at phase deciding nodes) f p lp hp q lq (x .0) (h .0) (h .1)) in
         let stamp = fresh-stamp class stamps phase (h .0) (y .0) in
         let base = j .each q lq (x .0) .voted in
         (x .0, omega (tests, same-vote b), omega (arith, same-stamp b))
@@ -269,8 +269,8 @@ module _ (class : Class) (stamps : Stamps class) (crew : Crew) (honest : ℕ →
       → Invariant crew honest (at phase round nodes) → Faithful class crew honest i (at phase round nodes)
       → Each crew honest λ p. (v : ℕ) → Decides class crew i (at phase round nodes) p v
       → Lock crew honest v (at phase round nodes) × ((w : ℕ) → Lock crew honest w (at phase round nodes) → v ≡ w)
-  locks phase selecting nodes j f p lp hp v d = absurd (let y : _≡_ {A = ℕ} 0 1 = cc (d .0) in omega arith)
-  locks phase validating nodes j f p lp hp v d = absurd (let y : _≡_ {A = ℕ} 0 1 = cc (d .0) in omega arith)
+  locks phase selecting nodes j f p lp hp v d = absurd (omega (arith, ap number (d .0)))
+  locks phase validating nodes j f p lp hp v d = absurd (omega (arith, ap number (d .0)))
   locks phase deciding nodes j f p lp hp v d = (
     decision-locks class stamps crew honest few reach above i phase nodes j f p lp hp v (d .1),
     decision-locked class stamps crew honest few reach above i phase nodes j f p lp hp v (d .1),

@@ -4,7 +4,7 @@ use mathlib.Core.Path.{_≡_, refl, sym, ap, _∙_}
 use mathlib.Core.Bool.{Bool, true, false, cond}
 use mathlib.Core.List.{List, [], _∷_, _++_}
 use mathlib.Core.Logic.{_⊎_, inl, inr, _≢_}
-use mathlib.Core.Option.{Option, none, some}
+use mathlib.Core.Option.{none, some}
 use Prim.Native.Nat.{ℕ, zero, suc, _+_, _<_}
 use native.Mathlib.Omega.{arith}
 use native.Mathlib.Decide.{ℕ-discrete, decLt}
@@ -19,6 +19,7 @@ use Rattle.ballot.specs.Count.{count}
 use Rattle.ballot.specs.Ballot.{Ballot, isEntry, lists}
 use Rattle.ballot.proofs.Tests.{and-T, T-and}
 use Rattle.ballot.proofs.Counting.{bit-T, bit-pos, count-append}
+use Rattle.ballot.proofs.Slots.{same-ballot, not-none}
 use Rattle.model.specs.Node.{ifPlan, entryOf, entriesBelow, entriesSaid}
 
 pub ifPlan-is : {A : Type 0} (v : ℕ) (new old : A)
@@ -29,23 +30,12 @@ ifPlan-is v new old = go (eqb v 0) refl
     go true e = inl (eqb-true v 0 e, refl)
     go false e = inr (eqb-false v 0 e, refl)
 
--- What a slot says, it says.
-
-abbrev ballotOr : Option Ballot → Ballot
-ballotOr none = record { vote = 0; stamp = 0; entries = [] }
-ballotOr (some m) = m
-
-pub said : {a b : Ballot} → some a ≡ some b → a ≡ b
-said e = ap ballotOr e
-
-pub same-vote : {a b : Ballot} → a ≡ b → a .vote ≡ b .vote
-same-vote e = ap (λ (m : Ballot). m .vote) e
-
-pub same-stamp : {a b : Ballot} → a ≡ b → a .stamp ≡ b .stamp
-same-stamp e = ap (λ (m : Ballot). m .stamp) e
-
-pub not-none : {m : Ballot} → none ≡ some m → ⊥
-not-none e = let y : _≡_ {A = ℕ} 0 1 = cc in omega arith
+-- a node that says something only where v is a plan
+pub said-plan : {a m : Ballot} (v : ℕ) → ifPlan v (some a) none ≡ some m → (v ≢ 0) × (a ≡ m)
+said-plan {a} v e = elim (ifPlan-is v (some a) none) [
+  | inl z ↦ absurd (not-none (sym (z .1) ∙ e))
+  | inr z ↦ (z .0, same-ballot (sym (z .1) ∙ e))
+]
 
 -- What validation does to base and stamp together.
 pub confirms-is : (v phase base stamp : ℕ)

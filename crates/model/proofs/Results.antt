@@ -12,7 +12,7 @@ use Rattle.ballot.specs.Ballot.{Ballot, inbox, votes}
 use Rattle.ballot.specs.Decision.{decision}
 use Rattle.ballot.proofs.Slots.{no-slot-counts}
 use Rattle.ballot.proofs.Decision.{decision-decides, decides-voted, decision-least, decision-plan}
-use Rattle.model.specs.Node.{Round, selecting, validating, deciding, ifPlan, turn}
+use Rattle.model.specs.Node.{Round, selecting, validating, deciding, number, ifPlan, turn}
 use Rattle.model.specs.Run.{Run, class, state, Held, DecidesAt, Undecided, PlanDecided, Admissible}
 use Rattle.model.proofs.Node.{ifPlan-is}
 use Rattle.model.proofs.Run.{moves}
@@ -59,16 +59,18 @@ module _ (run : Run) (ok : Admissible run) (p : ℕ) (lp : p < run .crew .n) (hp
     r .1,
   )
 
-  -- round 3: a result that stands is kept, and otherwise the decision becomes the result
-  module _ (j v : ℕ) (held : Held run j) (r : state run j .round ≡ deciding) where
-    abbrev new : ℕ
-    new = decision (class run) (run .crew) (state run j .phase) (ballots j)
+  -- Round 3: a result that stands is kept, and otherwise the decision becomes the result.
 
-    decision-result : Undecided run p j → Dec (new ≡ 0) → Result (suc j) new
+  abbrev decided : ℕ → ℕ
+  decided j = decision (class run) (run .crew) (state run j .phase) (ballots j)
+
+  module _ (j : ℕ) (held : Held run j) (r : state run j .round ≡ deciding) where
+    decision-result : Undecided run p j → Dec (decided j ≡ 0) → Result (suc j) (decided j)
     decision-result free (yes z) =
-        let quiet : (u : ℕ) → DecidesAt run j p u → ⊥ = λ u d.
-        decision-plan (class run) (run .crew) (state run j .phase) (ballots j) quorum u (d .1 .1) (no-zero-votes j held) z in
-        idle j new quiet (inr (free, z))
+        let no-zero = no-zero-votes j held in
+        idle j (decided j)
+        (λ u d. decision-plan (class run) (run .crew) (state run j .phase) (ballots j) quorum u (d .1 .1) no-zero z)
+        (inr (free, z))
     decision-result free (no z) = inl (record {
       round = j;
       before = omega arith;
@@ -77,25 +79,24 @@ module _ (run : Run) (ok : Admissible run) (p : ℕ) (lp : p < run .crew .n) (hp
       first = free;
     })
 
-    settles : Result j v → Result (suc j) (ifPlan v v new)
-    settles (inl s) = elim (ifPlan-is v v new) [
-      | inl z ↦ absurd (decided-plan (s .round) v (s .decides) (z .0))
-      | inr z ↦ rw (z .1) (longer j v s)
-    ]
-    settles (inr s) = elim (ifPlan-is v v new) [
-      | inl z ↦ rw (z .1) (decision-result (s .0) (ℕ-discrete new 0))
-      | inr z ↦ absurd (z .0 (s .1))
-    ]
+    settles : (v after : ℕ) → (v ≢ 0 → after ≡ v) → (v ≡ 0 → after ≡ decided j) → Result j v → Result (suc j) after
+    settles v after keeps takes (inl s) = rw (keeps (decided-plan (s .round) v (s .decides))) (longer j v s)
+    settles v after keeps takes (inr s) = rw (takes (s .1)) (decision-result (s .0) (ℕ-discrete (decided j) 0))
 
   takes-round : (j : ℕ) → Held run j → (round : Round) → state run j .round ≡ round
       → Result j (state run j .node p .result)
       → Result (suc j)
       ((turn (class run) (run .crew) (state run j .phase) round (ballots j) (state run j .node p)) .result)
   takes-round j held selecting r s =
-      idle j _ (λ w d. absurd (let y : _≡_ {A = ℕ} 0 1 = cc (r, d .1 .0) in omega arith)) s
+      idle j _ (λ w d. omega (arith, ap number r, ap number (d .1 .0))) s
   takes-round j held validating r s =
-      idle j _ (λ w d. absurd (let y : _≡_ {A = ℕ} 0 1 = cc (r, d .1 .0) in omega arith)) s
-  takes-round j held deciding r s = settles j _ held r s
+      idle j _ (λ w d. omega (arith, ap number r, ap number (d .1 .0))) s
+  takes-round j held deciding r s =
+      let v = state run j .node p .result in
+      settles j held r v _
+      (λ plan. elim (ifPlan-is v v (decided j)) [ inl z ↦ absurd (plan (z .0)) | inr z ↦ omega arith ])
+      (λ free. elim (ifPlan-is v v (decided j)) [ inl z ↦ omega arith | inr z ↦ absurd (z .0 free) ])
+      s
 
   pub result-is : (j : ℕ) → j ≤ run .total
       → PlanDecided run p j (state run j .node p .result) ⊎ (Undecided run p j × (state run j .node p .result ≡ 0))

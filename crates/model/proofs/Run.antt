@@ -15,7 +15,7 @@ use Rattle.ballot.specs.Ballot.{Ballot}
 use Rattle.model.specs.Node.{Node, Round}
 use Rattle.model.specs.Run.{Each, State, Inboxes, step, saying, Faithful, Decides, spent, start}
 use Rattle.model.specs.Run.{Run, class, state, Held, DecidesAt}
-use Rattle.model.proofs.Node.{not-none}
+use Rattle.ballot.proofs.Slots.{not-none}
 
 abbrev pub at : ℕ → Round → (ℕ → Node) → State
 at phase round nodes = record { phase = phase; round = round; node = nodes }
@@ -29,8 +29,8 @@ heard class crew honest i s f p lp hp q lq hq m e = elim (f p lp hp q lq hq) [
   | inr z ↦ sym z ∙ e
 ]
 
--- An invariant, and a lock on a plan. A start has the invariant, and the lock where all begin with one plan; a round keeps
--- both; what is decided is locked; and under a lock nothing else is decided.
+-- An invariant, and a lock on a plan. A start has the invariant, and the lock where all begin with one plan; a round
+-- keeps both; what is decided is locked; and under a lock nothing else is decided.
 pub record Locking (class : Class) (crew : Crew) (honest : ℕ → Bool) : Type 1 where
   pub Inv : State → Type 0
   pub Lock : ℕ → State → Type 0

@@ -2,64 +2,41 @@
 -- phases, and what a standing result is. The byte layer builds on these. Assumes nothing.
 use mathlib.Core.Path.{_≡_, sym, _∙_}
 use mathlib.Core.Bool.{Bool}
-use mathlib.Core.Logic.{_⊎_, inl, inr, _↔_}
-use Prim.Native.Nat.{ℕ, _+_, _≤_, _<_}
+use mathlib.Core.Logic.{_⊎_, inl, inr, _≢_, _↔_}
+use Prim.Native.Nat.{ℕ, _≤_, _<_}
 use native.Mathlib.Omega.{arith}
-use Rattle.crew.specs.declared.Crew.{Crew}
-use Rattle.crew.specs.Thresholds.{Class, one, two, three}
-use Rattle.crew.proofs.Facts.{High, accepts, quorum-above-liars}
-use Rattle.ballot.proofs.Slots.{FewLiars}
-use Rattle.ballot.proofs.Decision.{Stamps}
-use Rattle.model.specs.Run.{Each, State, spent, Run, class, state, Admissible, Good}
-use Rattle.model.specs.Run.{DecidesAt, Decided, Undecided, PlanDecided, standing}
-use Rattle.model.proofs.Run.{Locking, inv-at, locked-agreement, locked-start}
-use Rattle.model.proofs.ClassOne.{locking-one}
-use Rattle.model.proofs.Invariant.{Invariant}
-use Rattle.model.proofs.Lock.{locking-later, later-invariant}
+use Rattle.model.specs.Node.{validating}
+use Rattle.model.specs.Run.{Each, spent, Run, class, state, Held, Admissible, Good}
+use Rattle.model.specs.Run.{validatedAt, DecidesAt, Decided, Undecided, PlanDecided, standing}
+use Rattle.model.proofs.Run.{locked-agreement, locked-start}
+use Rattle.model.proofs.Invariant.{unique-in-round}
+use Rattle.model.proofs.Classes.{lock, run-invariant}
 use Rattle.model.proofs.Results.{decided-plan, result-is}
 use Rattle.model.proofs.GoodRun.{phase-decides}
 
--- The lock of each class.
-
-locking : (class : Class) (crew : Crew) (honest : ℕ → Bool) → FewLiars crew honest
-    → crew .d + crew .b + crew .f ≤ crew .n → crew .b < crew .d → High class crew → Locking class crew honest
-locking one crew honest few reach above high = locking-one crew honest few reach high
-locking two crew honest few reach above high = locking-later two tt crew honest few reach above
-locking three crew honest few reach above high = locking-later three tt crew honest few reach above
-
-invariant : (class : Class) → Stamps class → (crew : Crew) (honest : ℕ → Bool) (few : FewLiars crew honest)
-    (reach : crew .d + crew .b + crew .f ≤ crew .n) (above : crew .b < crew .d) (high : High class crew) (s : State)
-    → locking class crew honest few reach above high .Inv s → Invariant crew honest s
-unfolding locking
-invariant one a crew honest few reach above high s j = absurd a
-invariant two a crew honest few reach above high s j = later-invariant two tt crew honest few reach above s j
-invariant three a crew honest few reach above high s j = later-invariant three tt crew honest few reach above s j
-
 module _ (run : Run) (ok : Admissible run) where
-  lock : Locking (class run) (run .crew) (run .honest)
-  lock =
-      let facts = accepts (run .crew) (ok .crew-accepted) in
-      locking (class run) (run .crew) (run .honest) (ok .few) (facts .reach) (quorum-above-liars facts) (facts .high)
+  -- Unique validation: honest nodes that validate a plan in a round validate the same one.
+  pub one-validation : (j : ℕ) → Held run j → state run j .round ≡ validating
+      → Each (run .crew) (run .honest) λ p. Each (run .crew) (run .honest) λ q.
+      validatedAt run j p ≢ 0 → validatedAt run j q ≢ 0 → validatedAt run j p ≡ validatedAt run j q
+  one-validation j held r =
+      unique-in-round (class run) (run .crew) (run .honest) (ok .few) (run .rounds j) (state run j .phase)
+      (state run j .round) (state run j .node) r (ok .faithful j held)
 
   -- Agreement: whatever honest nodes decide, in whatever rounds, is one plan.
   pub agreement : Each (run .crew) (run .honest) λ p. Each (run .crew) (run .honest) λ q.
       (i j v w : ℕ) → DecidesAt run i p v → DecidesAt run j q w → v ≡ w
-  agreement = locked-agreement run lock (ok .faithful)
+  agreement = locked-agreement run (lock run ok) (ok .faithful)
 
   -- Common start: where all honest nodes begin with v, nothing else is decided.
   pub common-start : (v : ℕ) → Each (run .crew) (run .honest) (λ q. run .plans q ≡ v)
       → Each (run .crew) (run .honest) λ p. (j w : ℕ) → DecidesAt run j p w → w ≡ v
-  common-start = locked-start run lock (ok .faithful)
+  common-start = locked-start run (lock run ok) (ok .faithful)
 
   -- Good phase: it decides its whole circle, whatever went before.
   pub good-phase : (phase : ℕ) → 1 ≤ phase → phase < spent → (circle : ℕ → Bool) → Good run phase circle
       → Each (run .crew) circle λ p. (j : ℕ) × (v : ℕ) × (state run j .phase ≡ phase) × DecidesAt run j p v
-  unfolding lock
-  good-phase phase from early circle good =
-      let facts = accepts (run .crew) (ok .crew-accepted) in
-      phase-decides run ok phase early circle good from λ a j t.
-      invariant (class run) a (run .crew) (run .honest) (ok .few) (facts .reach) (quorum-above-liars facts) (facts .high)
-      (state run j) (inv-at run lock (ok .faithful) j t)
+  good-phase phase from early circle good = phase-decides run ok phase early circle good from (run-invariant run ok)
 
   -- A standing result is the plan that the node decided, and 0 where it has decided none.
   pub result : Each (run .crew) (run .honest) λ p.

@@ -27,6 +27,11 @@ pub record Node : Type 0 where
 pub data Round : Type 0 where
   selecting validating deciding : Round
 
+abbrev pub number : Round → ℕ
+number selecting = 1
+number validating = 2
+number deciding = 3
+
 -- 01: "Start: vote, base and history entry 0 are the initial plan; stamp, select, result and all other entries 0"
 abbrev pub begin : ℕ → Node
 begin v = record { vote = v; base = v; stamp = 0; select = 0; result = 0; history = v ∷ replicate 63 0 }

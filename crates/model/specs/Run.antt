@@ -12,6 +12,7 @@ use Rattle.crew.specs.Acceptance.{acceptOf}
 use Rattle.crew.specs.Thresholds.{Class, one, two, three, classOf}
 use Rattle.ballot.specs.Count.{tally, count}
 use Rattle.ballot.specs.Ballot.{Ballot, inbox, sameBallot}
+use Rattle.ballot.specs.Validation.{validated}
 use Rattle.ballot.specs.Decision.{decides}
 use Rattle.model.specs.Node.{Node, Round, selecting, validating, deciding, begin, say, turn}
 
@@ -99,6 +100,10 @@ state run (suc j) =
 -- round j is in the list, and comes before the records are spent
 abbrev pub Held : Run → ℕ → Type 0
 Held run j = (j < run .total) × (state run j .phase < spent)
+
+-- the plan that node p validates in round j, 0 where it validates none
+abbrev pub validatedAt : Run → ℕ → ℕ → ℕ
+validatedAt run j p = validated (run .crew) (inbox (run .crew) (run .rounds j p))
 
 -- in round j of the list node p decides v
 abbrev pub DecidesAt : Run → ℕ → ℕ → ℕ → Type 0

@@ -1,0 +1,78 @@
+-- The drill's example of document 01 as a run of the abstract engine: it computes to 5 5 5, it meets the premises, and
+-- its nodes decide, so the theorems are not about nothing. Assumes nothing.
+use mathlib.Core.Path.{_≡_, refl, sym, ap, _∙_}
+use mathlib.Core.Bool.{Bool, true, false, cond}
+use mathlib.Core.List.{List, [], _∷_, map}
+use mathlib.Core.Logic.{inr, _≢_}
+use mathlib.Core.Option.{none, some}
+use Prim.Native.Nat.{ℕ, zero, suc, _<_}
+use native.Mathlib.Omega.{arith}
+use lib.Dec.{T, ltb}
+use Rattle.crew.specs.Acceptance.{acceptOf}
+use Rattle.ballot.specs.Count.{tally, count, gather}
+use Rattle.ballot.specs.Ballot.{Ballot, lists}
+use Rattle.ballot.specs.Least.{least, leastOf}
+use Rattle.ballot.specs.Selection.{possible, backed, backing, enough, selection}
+use Rattle.ballot.specs.Selection.{leading, mostVoted, anyPlan, taken}
+use Rattle.ballot.specs.Validation.{valid, validated}
+use Rattle.ballot.specs.Decision.{decides, decision}
+use Rattle.ballot.proofs.Slots.{same-ballot, same-vote, not-none}
+use Rattle.model.specs.Node.{entriesBelow}
+use Rattle.model.specs.Run.{Run, class, state, saying, DecidesAt, Admissible}
+
+-- what each honest node says in the three rounds of phase 1
+abbrev speech : ℕ → Ballot
+speech zero = record { vote = 5; stamp = 0; entries = record { phase = 0; plan = 5 } ∷ [] }
+speech (suc zero) = record { vote = 5; stamp = 0; entries = [] }
+speech (suc (suc j)) = record { vote = 5; stamp = 1; entries = [] }
+
+-- input "3 4 1 0 3", "5 5 5 0", three "go": everybody hears the three honest nodes, and the fourth says nothing
+abbrev drill : Run
+drill = record {
+  crew = record { class = 3; n = 4; b = 1; f = 0; d = 3 };
+  honest = λ q. ltb q 3;
+  plans = λ q. 5;
+  rounds = λ j p q. cond (ltb q 3) (some (speech j)) none;
+  total = 3;
+}
+
+abbrev resultsAfter : ℕ → List ℕ
+resultsAfter j = map (λ q. state drill j .node q .result) (0 ∷ 1 ∷ 2 ∷ [])
+
+drill-results : map resultsAfter (1 ∷ 2 ∷ 3 ∷ []) ≡ (0 ∷ 0 ∷ 0 ∷ []) ∷ (0 ∷ 0 ∷ 0 ∷ []) ∷ (5 ∷ 5 ∷ 5 ∷ []) ∷ []
+unfolding state count gather lists least leastOf possible backed backing enough selection leading mostVoted anyPlan
+    taken valid validated decides decision entriesBelow
+drill-results = refl
+
+says-speech : (j q : ℕ) → j < 3 → saying (class drill) (drill .crew) (state drill j) q ≡ some (speech j)
+unfolding state count gather lists least leastOf possible backed backing enough selection leading mostVoted anyPlan
+    taken valid validated entriesBelow
+says-speech zero q l = refl
+says-speech (suc zero) q l = refl
+says-speech (suc (suc zero)) q l = refl
+says-speech (suc (suc (suc j))) q l = absurd (omega arith)
+
+heard-speech : (b : Bool) (m : Ballot) → T b → cond b (some m) none ≡ some m
+heard-speech true m t = refl
+heard-speech false m t = absurd t
+
+speech-plan : (b : Bool) (j : ℕ) (m : Ballot) → cond b (some (speech j)) none ≡ some m → m .vote ≢ 0
+speech-plan false j m e z = not-none e
+speech-plan true zero m e z = omega (arith, same-vote (same-ballot e))
+speech-plan true (suc zero) m e z = omega (arith, same-vote (same-ballot e))
+speech-plan true (suc (suc j)) m e z = omega (arith, same-vote (same-ballot e))
+
+drill-admissible : Admissible drill
+unfolding acceptOf tally
+drill-admissible = record {
+  crew-accepted = refl;
+  few = omega arith;
+  faithful = λ j held p lp hp q lq hq.
+      inr (heard-speech (ltb q 3) (speech j) hq ∙ sym (says-speech j q (held .0)));
+  plans = λ j held p lp hp q lq m e. speech-plan (ltb q 3) j m e;
+}
+
+drill-decides : DecidesAt drill 2 0 5
+unfolding state count gather lists least leastOf possible backed backing enough selection leading mostVoted anyPlan
+    taken valid validated decides
+drill-decides = ((omega arith, omega arith), (refl, tt))
