@@ -21,8 +21,8 @@ abbrev pub listedPhases : Node → ℕ
 listedPhases d = cond (eqb (d .crew .class) 3) (d .phase) 0
 
 -- The message of the coming round; none is silence.
--- 01: "A node writes: round 1 vote, stamp and, in class 3 only, its non-empty entries of earlier phases; round 2 select, or
--- silence (length 0, nothing written) if select is 0; round 3 vote and stamp."
+-- 01: "A node writes: round 1 vote, stamp and, in class 3 only, its non-empty entries of earlier phases; round 2
+-- select, or silence (length 0, nothing written) if select is 0; round 3 vote and stamp."
 unfoldable pub comingOf : Node → Option Message
 comingOf d =
     cond (eqb (d .round) 1)

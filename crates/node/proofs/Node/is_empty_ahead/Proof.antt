@@ -1,5 +1,5 @@
--- The loop finds whether all entries from the first unselected phase on are 0. Its invariant: the entries from `phase` on give the
--- answer that all of them give. The measure is what is left of the 64 entries.
+-- The loop finds whether all entries from the first unselected phase on are 0. Its invariant: the entries from `phase`
+-- on give the answer that all of them give. The measure is what is left of the 64 entries.
 -- Assumes nothing.
 use mathlib.Core.Path.{_≡_, refl, sym, ap, _∙_}
 use Prim.Native.Nat.{_-_}
@@ -39,17 +39,19 @@ loop-again c = sym (empty-more _ _ (c .before .loop-test .taken) (c .if1 .taken)
 
 returns : tie.Need-returns Inv-loop μ-loop
 returns c =
-    let start = c .before .before .before .before .before in
+    let first = c .before .before .before in
+    let history = first .before .before .args .self .history in
     sym (empty-stop _ _ (c .before .loop-test .taken) (c .if1 .left))
     ∙ c .before .before .loop .inv
-    ∙ ap (λ first. emptyFrom (start .args .self .history) first (64 - first)) (c .before .before .before .first-unselected .ensures)
+    ∙ ap (λ phase. emptyFrom history phase (64 - phase)) (first .first-unselected .ensures)
 
 returns-2 : tie.Need-returns-2 Inv-loop μ-loop
 returns-2 c =
-    let start = c .before .before .before .before in
+    let first = c .before .before in
+    let history = first .before .before .args .self .history in
     sym (empty-end _ _ (c .loop-test .left))
     ∙ c .before .loop .inv
-    ∙ ap (λ first. emptyFrom (start .args .self .history) first (64 - first)) (c .before .before .first-unselected .ensures)
+    ∙ ap (λ phase. emptyFrom history phase (64 - phase)) (first .first-unselected .ensures)
 
 pub is-empty-ahead-spec : {M : Type 1} → statement M
 is-empty-ahead-spec =

@@ -28,7 +28,8 @@ returns c =
     let crew = c .before .before .before .before in
     let args = crew .before .before .before .args in
     let ok = sym (crew .before .before .accept .ensures) ∙ ap answered (crew .enum-told .given .1) in
-    let e = start-begins (args .crew) (args .own) (args .run) (args .plan) ok (c .before .before .if1 .taken) (c .before .if2 .taken) in
+    let own = c .before .before .if1 .taken in
+    let e = start-begins (args .crew) (args .own) (args .run) (args .plan) ok own (c .before .if2 .taken) in
     (simp e, simp (e, c .begin .ensures))
 
 refuse-start-requires-2 : tie.Need-refuse-start-requires-2
@@ -39,7 +40,8 @@ returns-2 c =
     let crew = c .before .before .before .before in
     let args = crew .before .before .before .args in
     let ok = sym (crew .before .before .accept .ensures) ∙ ap answered (crew .enum-told .given .1) in
-    let e = start-without-plan (args .crew) (args .own) (args .run) (args .plan) ok (c .before .before .if1 .taken) (omega arith) in
+    let own = c .before .before .if1 .taken in
+    let e = start-without-plan (args .crew) (args .own) (args .run) (args .plan) ok own (omega arith) in
     (simp (e, c .refuse-start2 .ensures .0), simp (e, c .refuse-start2 .ensures .1))
 
 refuse-start-requires-3 : tie.Need-refuse-start-requires-3
@@ -48,7 +50,8 @@ refuse-start-requires-3 c κs = search needs
 returns-3 : tie.Need-returns-3
 returns-3 c =
     let args = c .before .before .before .before .before .args in
-    let turned-down = sym (c .before .before .before .before .accept .ensures) ∙ ap answered (c .before .before .why .given .1) in
+    let crew = c .before .before in
+    let turned-down = sym (crew .before .before .accept .ensures) ∙ ap answered (crew .why .given .1) in
     let e = start-without-crew (args .crew) (args .own) (args .run) (args .plan) _ turned-down in
     (simp (e, c .refuse-start .ensures .0), simp (e, c .refuse-start .ensures .1))
 

@@ -12,7 +12,8 @@ is-sound-requires c κs = search needs
 
 write-coming-requires : tie.Need-write-coming-requires
 write-coming-requires c κs =
-    (sym (c .before .before .before .before .is-sound .ensures) ∙ c .before .before .before .if1 .taken, c .before .if2 .taken)
+    let tested = c .before .before .before in
+    (sym (tested .before .is-sound .ensures) ∙ tested .if1 .taken, c .before .if2 .taken)
 
 to-sending-requires : tie.Need-to-sending-requires
 to-sending-requires c κs = λ e.

@@ -54,7 +54,8 @@ returns-4 : tie.Need-returns-4
 returns-4 c =
     let last = c .before .before .before .before in
     let start = last .before .before .before .before .before in
-    let three = last-round (sound-facts (start .args .self) (start .pre .0)) (last .before .before .if1 .left) (last .if2 .left) in
+    let s = sound-facts (start .args .self) (start .pre .0) in
+    let three = last-round s (last .before .before .if1 .left) (last .if2 .left) in
     message-written (start .args .self) (now (start .args .buf)) (start .pre .0) (start .pre .1)
     (decides three) (c .before .before .write-decision .ensures)
 
