@@ -1,5 +1,5 @@
--- The entries that a node lists, as pairs: exactly the earlier phases of its history that have a plan, each with its plan.
--- Assumes nothing.
+-- The entries that a node lists, as pairs: exactly the earlier phases of its history that have a plan, each with that
+-- plan. Assumes nothing.
 use mathlib.Core.Path.{_≡_, refl, ap, sym, _∙_}
 use mathlib.Core.Bool.{Bool, true, false, cond}
 use mathlib.Core.Logic.{_↔_, inl, inr}
@@ -40,9 +40,15 @@ listed-entry history from (suc count) e m =
     go (leb 1 (getD history from 0)) refl m (listed-entry history (from + 1) count e)
   where
     wider : EntryOf history (from + 1) count e → EntryOf history from (suc count) e
-    wider r = record { above = omega (arith, r .above); below = omega (arith, r .below); plan-is = r .plan-is; full = r .full }
+    wider r = record {
+      above = omega (arith, r .above);
+      below = omega (arith, r .below);
+      plan-is = r .plan-is;
+      full = r .full;
+    }
 
-    first : 1 ≤ getD history from 0 → e ≡ record { phase = from; plan = getD history from 0 } → EntryOf history from (suc count) e
+    first : 1 ≤ getD history from 0 → e ≡ record { phase = from; plan = getD history from 0 }
+        → EntryOf history from (suc count) e
     first full same =
         let at : e .phase ≡ from = ap (λ (k : Entry). k .phase) same in
         let plan : e .plan ≡ getD history from 0 = ap (λ (k : Entry). k .plan) same in
@@ -64,7 +70,8 @@ listed-entry history from (suc count) e m =
     ]
     go false h m later = wider (later m)
 
-entry-listed : (history : List ℕ) (from count phase : ℕ) → from ≤ phase → phase < from + count → 1 ≤ getD history phase 0
+entry-listed : (history : List ℕ) (from count phase : ℕ) → from ≤ phase → phase < from + count
+    → 1 ≤ getD history phase 0
     → List·Memᴰ (record { phase = phase; plan = getD history phase 0 }) (listed history from count)
 unfolding listed
 entry-listed history from zero phase a b full = absurd (omega arith)

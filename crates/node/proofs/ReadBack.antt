@@ -12,7 +12,7 @@ use Rattle.message.specs.Reading.{readOf}
 use Rattle.codec.proofs.Written.{read-of-encode}
 use Rattle.node.specs.declared.Node.{Node}
 use Rattle.node.specs.Soundness.{sound}
-use Rattle.node.specs.Sending.{bytesOf, comingOf, comingBytes}
+use Rattle.node.specs.Sending.{comingOf, encoded, comingBytes}
 use Rattle.node.proofs.Facts.{Typed, sound-facts}
 use Rattle.node.proofs.Coming.{Says, coming-says, says-within, says-fits}
 
@@ -24,5 +24,5 @@ pub read-back : (d : Node) → Typed d → sound d ≡ true → d .phase < 64 �
 read-back d typed ok left m e =
     let says = coming-says (sound-facts d ok) m e in
     let bounds = says-within (sound-facts d ok) left says in
-    let bytes = ap bytesOf e in
+    let bytes = ap encoded e in
     (says, bounds, λ tail. rw bytes (read-of-encode m tail bounds (says-fits typed says)))

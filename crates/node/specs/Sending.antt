@@ -31,13 +31,13 @@ comingOf d =
     (cond (leb 1 (d .select)) (some (validationOf (d .run) (d .phase) (d .select))) none)
     (some (decisionOf (d .run) (d .phase) (d .vote) (d .stamp))))
 
--- the bytes of a message, of silence no bytes
-abbrev pub bytesOf : Option Message → List ℕ
-bytesOf none = []
-bytesOf (some m) = encode m
+-- a message's bytes; silence has none
+abbrev pub encoded : Option Message → List ℕ
+encoded none = []
+encoded (some m) = encode m
 
 abbrev pub comingBytes : Node → List ℕ
-comingBytes d = bytesOf (comingOf d)
+comingBytes d = encoded (comingOf d)
 
 -- The length of what is written, or the number of the refusal.
 -- 01: "Writing the coming message: 7 record not sound; 8 spent; 9 buffer shorter than the message."

@@ -32,9 +32,9 @@ pub struct Node {
     pub phase: u8,
     pub round: u8,
     pub vote: u16,
-    // The plan that was validated last, at first the initial plan.
+    // The plan that was validated last, and the initial plan before that.
     pub base: u16,
-    // The phase in which the vote was validated, 0 where none was.
+    // The phase in which base was validated, 0 while it is the initial plan.
     pub stamp: u8,
     // What the phase's selection gave, 0 for 'none'.
     pub select: u16,
@@ -149,8 +149,8 @@ fn is_accepted(crew: Crew) -> bool
     }
 }
 
-// A writer's answer as the node's. What a sound record says is within a message's bounds, so a writer can only find the
-// buffer too short.
+// A writer's answer as the node's. A writer refuses with 13 where a field breaks a bound; the fields of a sound record
+// break none, so what is left is a buffer that is too short.
 fn to_sending(writing: Writing) -> Sending
     requires { ⌜ (writtenAs writing ≡ refused 13 → ⊥) ⌝ }
     ensures { λ r. ⌜ sentAs r ≡ writtenAs writing ⌝ }
@@ -172,7 +172,7 @@ impl Node {
     pub const PHASES: usize = 64;
     // Plans are 1 to 65,535, so that 0 can mean none.
     pub const NO_PLAN: u16 = 0;
-    // The stamp of a vote that no phase has validated.
+    // The stamp of a plan that no phase has validated.
     pub const UNSTAMPED: u8 = 0;
     // Round 1: a plan is chosen among those voted for.
     pub const SELECTION: u8 = 1;
@@ -227,7 +227,7 @@ impl Node {
             & (Node::NO_PLAN < self.history[0])
     }
 
-    // The vote's stamp is of an earlier phase, or of this one once it is validated.
+    // The stamp is an earlier phase, or this one once its validation is done.
     fn is_stamped(self) -> bool
         ensures { λ r. ⌜ r ≡ stampKnown self ⌝ }
     {
@@ -262,7 +262,7 @@ impl Node {
         true
     }
 
-    // Whether the record is one that a node can work with, be it reached from a start or not.
+    // Whether the record is one that a node can have, be it reached from a start or not.
     pub fn is_sound(self) -> bool
         ensures { λ r. ⌜ r ≡ sound self ⌝ }
     {

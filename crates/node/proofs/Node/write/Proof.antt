@@ -1,6 +1,7 @@
 -- The answer, the record and the whole buffer are as defined: refusals 7, 8 and 9 in order, the record as it came.
 -- Assumes nothing.
 use mathlib.Core.Path.{refl, sym, _∙_}
+use native.Mathlib.Omega.{arith}
 use borrow.Author.Needs.{needs}
 use denote.Ref.{now}
 use Rattle.node.proofs.SendLaws.{unsound-refused, spent-refused, never-out-of-bounds}
@@ -13,7 +14,7 @@ is-sound-requires c κs = search needs
 write-coming-requires : tie.Need-write-coming-requires
 write-coming-requires c κs =
     let tested = c .before .before .before in
-    (sym (tested .before .is-sound .ensures) ∙ tested .if1 .taken, c .before .if2 .taken)
+    (sym (tested .before .is-sound .ensures) ∙ tested .if1 .taken, omega arith)
 
 to-sending-requires : tie.Need-to-sending-requires
 to-sending-requires c κs = λ e.
