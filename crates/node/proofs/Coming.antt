@@ -17,7 +17,7 @@ use Rattle.node.specs.declared.Node.{Node}
 use Rattle.node.specs.Sending.{listedPhases, comingOf}
 use Rattle.node.proofs.Facts.{Sound, Typed, last-round}
 
--- The message that a record writes, by its round: its run and phase are the record's, and so are the fields of its body.
+-- The message that a record writes, by its round: its run and phase are the record's, and so are its body's fields.
 pub data Says (d : Node) : Message → Type 0 where
   selects : d .round ≡ 1
       → Says d (selectionOf (d .run) (d .phase) (d .vote) (d .stamp) (d .history) (listedPhases d))
@@ -29,13 +29,15 @@ unfolding comingOf
 says-coming (selects one) = simp (eq-eqb _ _ one)
 says-coming {d} (validates two plan) =
     simp (ne-eqb (d .round) 1 (λ e. omega arith), eq-eqb (d .round) 2 two, le-leb _ _ plan)
-says-coming {d} (decides three) = simp (ne-eqb (d .round) 1 (λ e. omega arith), ne-eqb (d .round) 2 (λ e. omega arith))
+says-coming {d} (decides three) =
+    simp (ne-eqb (d .round) 1 (λ e. omega arith), ne-eqb (d .round) 2 (λ e. omega arith))
 
 pub coming-says : {d : Node} → Sound d → (m : Message) → comingOf d ≡ some m → Says d m
 unfolding comingOf
 coming-says {d} s m e = go (eqb (d .round) 1) (eqb (d .round) 2) (leb 1 (d .select)) refl refl refl e
   where
-    go : (first second chosen : Bool) → eqb (d .round) 1 ≡ first → eqb (d .round) 2 ≡ second → leb 1 (d .select) ≡ chosen
+    go : (first second chosen : Bool)
+        → eqb (d .round) 1 ≡ first → eqb (d .round) 2 ≡ second → leb 1 (d .select) ≡ chosen
         → cond first (some (selectionOf (d .run) (d .phase) (d .vote) (d .stamp) (d .history) (listedPhases d)))
         (cond second (cond chosen (some (validationOf (d .run) (d .phase) (d .select))) none)
         (some (decisionOf (d .run) (d .phase) (d .vote) (d .stamp)))) ≡ some m
@@ -94,7 +96,8 @@ plans-fit history small from zero = tt
 plans-fit history small from (suc count) = go (leb 1 (getD history from 0)) (plans-fit history small (from + 1) count)
   where
     go : (full : Bool) → PlansFit (listed history (from + 1) count)
-        → PlansFit (cond full (record { phase = from; plan = getD history from 0 } ∷ []) [] ++ listed history (from + 1) count)
+        → PlansFit
+        (cond full (record { phase = from; plan = getD history from 0 } ∷ []) [] ++ listed history (from + 1) count)
     go true rest = (small from, rest)
     go false rest = rest
 

@@ -1,5 +1,5 @@
--- Soundness as facts, both ways, and what the types of a record's fields say: what later crates take a record apart with.
--- Assumes nothing.
+-- Soundness as facts, both ways, and what the types of a record's fields say: with these, later crates take a record
+-- apart. Assumes nothing.
 use mathlib.Core.Path.{_≡_, refl, ap}
 use mathlib.Core.Bool.{Bool, true, false, not, _&&_, _||_, or-true}
 use mathlib.Core.Logic.{_⊎_, inl, inr, _≢_}
@@ -81,7 +81,8 @@ no-validation class round e one two =
 pub sound-facts : (d : Node) → sound d ≡ true → Sound d
 unfolding sound
 sound-facts d e =
-    let s = all-six (crewAccepted (d .crew)) (ownKnown d) (placeKnown d) (plansKnown d) (stampKnown d) (restEmpty d) e in
+    let s =
+    all-six (crewAccepted (d .crew)) (ownKnown d) (placeKnown d) (plansKnown d) (stampKnown d) (restEmpty d) e in
     let place = all-six (leb 1 (d .phase)) (leb (d .phase) 64) (leb 1 (d .round)) (leb (d .round) 3) _ _ (s .2) in
     let plans = both-true (leb 1 (d .vote) && leb 1 (d .base)) _ (s .3) in
     let votes = both-true (leb 1 (d .vote)) (leb 1 (d .base)) (plans .0) in
@@ -113,7 +114,8 @@ sound-facts d e =
         | inl other ↦ absurd (eqb-false _ _ (not-true _ other) one)
         | inr zero ↦ eqb-true _ _ zero
       ];
-      empty = λ phase a b. is-empty (d .history) (firstUnselected d) (64 - firstUnselected d) (s .5) phase a (omega arith);
+      empty = λ phase from to.
+          is-empty (d .history) (firstUnselected d) (64 - firstUnselected d) (s .5) phase from (omega arith);
     }
 
 all-true : (a b c d e f : Bool) → a ≡ true → b ≡ true → c ≡ true → d ≡ true → e ≡ true → f ≡ true
@@ -151,16 +153,22 @@ stamp-class class stamp h = elim (ℕ-discrete class 1) [
 pub facts-sound : (d : Node) → Sound d → sound d ≡ true
 unfolding sound
 facts-sound d s =
-    let place = all-true _ _ _ _ _ _ (le-leb _ _ (s .phase-from)) (le-leb _ _ (s .phase-to)) (le-leb _ _ (s .round-from))
-    (le-leb _ _ (s .round-to)) (validation-allowed (d .crew .class) (d .round) (s .unvalidated))
-    (round-left (d .round) (d .phase) (s .round-from) (s .unspent)) in
+    let phase-from = le-leb _ _ (s .phase-from) in
+    let phase-to = le-leb _ _ (s .phase-to) in
+    let round-from = le-leb _ _ (s .round-from) in
+    let round-to = le-leb _ _ (s .round-to) in
+    let rounds = validation-allowed (d .crew .class) (d .round) (s .unvalidated) in
+    let last = round-left (d .round) (d .phase) (s .round-from) (s .unspent) in
+    let place = all-true _ _ _ _ _ _ phase-from phase-to round-from round-to rounds last in
     let vote = le-leb _ _ (s .vote) in
     let base = le-leb _ _ (s .base) in
     let initial = le-leb _ _ (s .initial) in
     let stamp = stamp-place (d .stamp) (d .phase) (d .round) (s .round-to) (s .stamp) (s .stamp-before) in
     let class = stamp-class (d .crew .class) (d .stamp) (s .unstamped) in
-    let rest = empty-is (d .history) (firstUnselected d) (64 - firstUnselected d) (λ phase a b. s .empty phase a (omega arith)) in
-    all-true _ _ _ _ _ _ (ap isAccepted (s .crew)) (lt-ltb _ _ (s .own)) place (rw (vote, base, initial)) (rw (stamp, class)) rest
+    let rest = empty-is (d .history) (firstUnselected d) (64 - firstUnselected d)
+    (λ phase from to. s .empty phase from (omega arith)) in
+    all-true _ _ _ _ _ _ (ap isAccepted (s .crew)) (lt-ltb _ _ (s .own)) place (rw (vote, base, initial))
+    (rw (stamp, class)) rest
 
 -- a sound record's round is 1, 2 or 3
 pub last-round : {d : Node} → Sound d → d .round ≢ 1 → d .round ≢ 2 → d .round ≡ 3

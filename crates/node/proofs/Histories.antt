@@ -15,9 +15,12 @@ use Rattle.node.specs.Soundness.{emptyFrom}
 
 -- one entry, and those after it
 empty-turn : (history : List ℕ) (phase : ℕ) → phase < 64
-    → emptyFrom history phase (64 - phase) ≡ (eqb (getD history phase 0) 0 && emptyFrom history (phase + 1) (64 - (phase + 1)))
+    → emptyFrom history phase (64 - phase)
+    ≡ (eqb (getD history phase 0) 0 && emptyFrom history (phase + 1) (64 - (phase + 1)))
 unfolding emptyFrom
-empty-turn history phase h = let left : 64 - phase ≡ suc (64 - (phase + 1)) = omega arith in ap (emptyFrom history phase) left
+empty-turn history phase h =
+    let left : 64 - phase ≡ suc (64 - (phase + 1)) = omega arith in
+    ap (emptyFrom history phase) left
 
 -- after an empty entry the answer is that of those after it
 pub empty-more : (history : List ℕ) (phase : ℕ) → phase < 64 → getD history phase 0 ≡ 0
@@ -36,7 +39,8 @@ empty-end history phase h = let left : 64 - phase ≡ 0 = omega arith in ap (emp
 
 -- entries that are 0 pass the test
 pub empty-is : (history : List ℕ) (from count : ℕ)
-    → ((phase : ℕ) → from ≤ phase → phase < from + count → getD history phase 0 ≡ 0) → emptyFrom history from count ≡ true
+    → ((phase : ℕ) → from ≤ phase → phase < from + count → getD history phase 0 ≡ 0)
+    → emptyFrom history from count ≡ true
 unfolding emptyFrom
 empty-is history from zero f = refl
 empty-is history from (suc count) f =

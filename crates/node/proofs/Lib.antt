@@ -3,4 +3,5 @@ pub mod Facts
 pub mod StartLaws
 pub mod Coming
 pub mod SendLaws
+pub mod Listed
 pub mod ReadBack

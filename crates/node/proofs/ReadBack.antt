@@ -12,17 +12,17 @@ use Rattle.message.specs.Reading.{readOf}
 use Rattle.codec.proofs.Written.{read-of-encode}
 use Rattle.node.specs.declared.Node.{Node}
 use Rattle.node.specs.Soundness.{sound}
-use Rattle.node.specs.Sending.{bytesOf, comingOf, comingBytes}
+use Rattle.node.specs.Sending.{comingOf, encoded, comingBytes}
 use Rattle.node.proofs.Facts.{Typed, sound-facts}
 use Rattle.node.proofs.Coming.{Says, coming-says, says-within, says-fits}
 
--- What a sound, unspent record writes is within a message's bounds, and whatever follows it in the slice, reading gives the
--- message that `Says` spells out in the record's own fields: run, phase, and by its round vote and stamp with the history's
--- entries, select, or vote and stamp.
+-- What a sound, unspent record writes is within a message's bounds, and whatever follows it in the slice, reading gives
+-- the message that `Says` spells out in the record's own fields: run and phase; in round 1 vote, stamp and entries, in
+-- round 2 select, in round 3 vote and stamp.
 pub read-back : (d : Node) → Typed d → sound d ≡ true → d .phase < 64 → (m : Message) → comingOf d ≡ some m
     → Says d m × (within m ≡ true) × ((tail : List ℕ) → readOf (comingBytes d ++ tail) ≡ accepted m)
 read-back d typed ok left m e =
     let says = coming-says (sound-facts d ok) m e in
     let bounds = says-within (sound-facts d ok) left says in
-    let bytes = ap bytesOf e in
+    let bytes = ap encoded e in
     (says, bounds, λ tail. rw bytes (read-of-encode m tail bounds (says-fits typed says)))

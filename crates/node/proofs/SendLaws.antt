@@ -1,5 +1,5 @@
--- Writing the coming message, case by case: what a message's writer answers and leaves in the buffer is the node's answer and
--- buffer. Assumes nothing.
+-- Writing the coming message, case by case: what a message's writer answers and leaves in the buffer is what the node
+-- is to answer and leave. Assumes nothing.
 use mathlib.Core.Path.{_≡_, refl, sym, ap, ap₂, _∙_}
 use mathlib.Core.Bool.{Bool, true, false}
 use mathlib.Core.List.{List}
@@ -19,7 +19,7 @@ use Rattle.message.specs.declared.Writing.the-variants.{Refused}
 use Rattle.message.proofs.WriteLaws.{encode-length}
 use Rattle.node.specs.declared.Node.{Node}
 use Rattle.node.specs.Soundness.{sound}
-use Rattle.node.specs.Sending.{listedPhases, bytesOf, comingBytes, writeOf, bufferAfter, bufferOf}
+use Rattle.node.specs.Sending.{listedPhases, encoded, comingBytes, writeOf, bufferAfter, bufferOf}
 use Rattle.node.proofs.Facts.{sound-facts}
 use Rattle.node.proofs.Coming.{Says, selects, says-coming, coming-silent, selection-allowed, says-within}
 
@@ -37,8 +37,9 @@ module _ (d : Node) (buffer : List ℕ) (ok : sound d ≡ true) (left : d .phase
       let bounds = says-within (sound-facts d ok) left says in
       let said = says-coming says in
       let long = encode-length m in
-      let wrote : message.writeOf m buffer ≡ writeOf d buffer = simp (ok, lt-ltb (d .phase) 64 left, bounds, said, long) in
-      let same = ap₂ (λ outcome bytes. bufferAfter bytes buffer outcome) wrote (sym (ap bytesOf said)) in
+      let wrote : message.writeOf m buffer ≡ writeOf d buffer
+      = simp (ok, lt-ltb (d .phase) 64 left, bounds, said, long) in
+      let same = ap₂ (λ outcome bytes. bufferAfter bytes buffer outcome) wrote (sym (ap encoded said)) in
       (wrote, same-after m buffer (message.writeOf m buffer) ∙ same)
 
   pub message-written : {m : Message} {outcome : Outcome ℕ} {after : List ℕ} → Says d m

@@ -25,7 +25,8 @@ module _ (crew : Crew) (own run plan : ℕ) where
   unfolding startOf
   start-begins ok small some = simp (ok, lt-ltb _ _ small, le-leb _ _ some)
 
-  pub start-without-plan : acceptOf crew ≡ accepted tt → own < crew .n → plan ≡ 0 → startOf crew own run plan ≡ refused 6
+  pub start-without-plan : acceptOf crew ≡ accepted tt → own < crew .n → plan ≡ 0
+      → startOf crew own run plan ≡ refused 6
   unfolding startOf
   start-without-plan ok small none = simp (ok, lt-ltb _ _ small, none)
 

@@ -4,7 +4,8 @@ use lib.ListN.{set, replicate}
 use Rattle.crew.specs.declared.Crew.{Crew}
 use Rattle.node.specs.declared.Node.{Node}
 
--- 01: "Start: vote, base and history entry 0 are the initial plan; stamp, select, result and all other entries 0; phase 1, round 1."
+-- 01: "Start: vote, base and history entry 0 are the initial plan; stamp, select, result and all other entries 0;
+-- phase 1, round 1."
 unfoldable pub begun : Crew → ℕ → ℕ → ℕ → Node
 begun crew own run plan = record {
   crew = crew;

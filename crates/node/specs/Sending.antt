@@ -21,8 +21,8 @@ abbrev pub listedPhases : Node → ℕ
 listedPhases d = cond (eqb (d .crew .class) 3) (d .phase) 0
 
 -- The message of the coming round; none is silence.
--- 01: "A node writes: round 1 vote, stamp and, in class 3 only, its non-empty entries of earlier phases; round 2 select, or
--- silence (length 0, nothing written) if select is 0; round 3 vote and stamp."
+-- 01: "A node writes: round 1 vote, stamp and, in class 3 only, its non-empty entries of earlier phases; round 2
+-- select, or silence (length 0, nothing written) if select is 0; round 3 vote and stamp."
 unfoldable pub comingOf : Node → Option Message
 comingOf d =
     cond (eqb (d .round) 1)
@@ -31,13 +31,13 @@ comingOf d =
     (cond (leb 1 (d .select)) (some (validationOf (d .run) (d .phase) (d .select))) none)
     (some (decisionOf (d .run) (d .phase) (d .vote) (d .stamp))))
 
--- the bytes of a message, of silence no bytes
-abbrev pub bytesOf : Option Message → List ℕ
-bytesOf none = []
-bytesOf (some m) = encode m
+-- a message's bytes; silence has none
+abbrev pub encoded : Option Message → List ℕ
+encoded none = []
+encoded (some m) = encode m
 
 abbrev pub comingBytes : Node → List ℕ
-comingBytes d = bytesOf (comingOf d)
+comingBytes d = encoded (comingOf d)
 
 -- The length of what is written, or the number of the refusal.
 -- 01: "Writing the coming message: 7 record not sound; 8 spent; 9 buffer shorter than the message."

@@ -1,4 +1,4 @@
--- When a record is sound: document 01, 'Crew and node'. Every sound record is due an answer, reachable from a start or not.
+-- When a record is sound: document 01, 'Crew and node'. Every sound record is due an answer, reached by a start or not.
 use Prim.Native.Nat.{ℕ, zero, suc, _+_, _-_}
 use mathlib.Core.Bool.{Bool, true, false, not, cond, _&&_, _||_}
 use mathlib.Core.List.{List}
@@ -42,7 +42,7 @@ stampKnown d =
     (ltb (d .stamp) (d .phase) || (eqb (d .stamp) (d .phase) && eqb (d .round) 3))
     && (not (eqb (d .crew .class) 1) || eqb (d .stamp) 0)
 
--- The first phase that is not yet selected: before its selection, in round 1, the node's own phase; after it the next one.
+-- The first phase that is not yet selected: in round 1, before its selection, the record's own; after that the next.
 abbrev pub firstUnselected : Node → ℕ
 firstUnselected d = cond (eqb (d .round) 1) (d .phase) (d .phase + 1)
 
@@ -55,8 +55,8 @@ emptyFrom history phase (suc count) = eqb (getD history phase 0) 0 && emptyFrom 
 abbrev pub restEmpty : Node → Bool
 restEmpty d = emptyFrom (d .history) (firstUnselected d) (64 - firstUnselected d)
 
--- 01: "A record is sound when: crew accepted; own number below n; phase 1 to 64, round 1 to 3, no round 2 in class 1, only
--- round 1 at phase 64; vote, base and entry 0 not 0; stamp below phase, or equal to it in round 3; stamp 0 in class 1; entries
--- of phases not yet selected are 0."
+-- 01: "A record is sound when: crew accepted; own number below n; phase 1 to 64, round 1 to 3, no round 2 in class 1,
+-- only round 1 at phase 64; vote, base and entry 0 not 0; stamp below phase, or equal to it in round 3; stamp 0 in
+-- class 1; entries of phases not yet selected are 0."
 unfoldable pub sound : Node → Bool
 sound d = crewAccepted (d .crew) && ownKnown d && placeKnown d && plansKnown d && stampKnown d && restEmpty d

@@ -1,4 +1,4 @@
-// A node: its whole state as one value, how a node starts, whether a record is sound, and the message of its coming round.
+// A node: its whole state as one value, how it starts, whether a record is sound, and the message of its coming round.
 // Each operation is what a definition says: specs/Starting.antt, specs/Soundness.antt and specs/Sending.antt.
 use crew::Acceptance;
 use crew::Crew;
@@ -32,9 +32,9 @@ pub struct Node {
     pub phase: u8,
     pub round: u8,
     pub vote: u16,
-    // The plan that was validated last, at first the initial plan.
+    // The plan that was validated last, and the initial plan before that.
     pub base: u16,
-    // The phase in which the vote was validated, 0 where none was.
+    // The phase in which base was validated, 0 while it is the initial plan.
     pub stamp: u8,
     // What the phase's selection gave, 0 for 'none'.
     pub select: u16,
@@ -58,8 +58,8 @@ pub enum Starting {
     Refused(StartRefusal),
 }
 
-// What a start answers. An enum holds no array, so the record stands beside the answer: where the start is refused it is
-// blank, all 0, and not sound.
+// What a start answers. An enum cannot hold the history, so the record stands beside the answer; where the start is
+// refused it is blank: all 0, and not sound.
 pub struct Started {
     pub answer: Starting,
     pub node: Node,
@@ -149,8 +149,8 @@ fn is_accepted(crew: Crew) -> bool
     }
 }
 
-// A writer's answer as the node's. What a sound record says is within a message's bounds, so a writer can only find the
-// buffer too short.
+// A writer's answer as the node's. A writer refuses with 13 where a field breaks a bound; the fields of a sound record
+// break none, so what is left is a buffer that is too short.
 fn to_sending(writing: Writing) -> Sending
     requires { ⌜ (writtenAs writing ≡ refused 13 → ⊥) ⌝ }
     ensures { λ r. ⌜ sentAs r ≡ writtenAs writing ⌝ }
@@ -162,28 +162,28 @@ fn to_sending(writing: Writing) -> Sending
 }
 
 impl Node {
-    // Phases are counted from 1; 0 stands for the time before the start, in stamps and histories.
+    // Phases are counted from 1: in stamps and histories 0 stands for the time before the first.
     pub const FIRST_PHASE: u8 = 1;
-    // The last phase that has rounds.
+    // The last phase with rounds: no message has a later one.
     pub const LAST_PHASE: u8 = 63;
-    // A record in this phase has no rounds left.
+    // A record that has passed its last phase stands here: it has no rounds left.
     pub const SPENT: u8 = 64;
-    // The entries of a history: one for each phase from 0 to the last.
+    // A history has an entry for each phase from 0 to the last.
     pub const PHASES: usize = 64;
-    // The plan that means none.
+    // Plans are 1 to 65,535, so that 0 can mean none.
     pub const NO_PLAN: u16 = 0;
-    // The stamp of a vote that no phase validated.
+    // The stamp of a plan that no phase has validated.
     pub const UNSTAMPED: u8 = 0;
-    // The rounds of a phase.
+    // Round 1: a plan is chosen among those voted for.
     pub const SELECTION: u8 = 1;
-
+    // Round 2: the plan gets the phase's stamp where enough nodes chose it.
     pub const VALIDATION: u8 = 2;
-
+    // Round 3: a plan with D votes is decided.
     pub const DECISION: u8 = 3;
-    // The class whose nodes skip validation, and the class whose nodes list their histories.
-    pub const UNVALIDATED: u8 = 1;
-
-    pub const LISTING: u8 = 3;
+    // Class 1 has no validation, so its stamps stay 0.
+    pub const UNVALIDATED_CLASS: u8 = 1;
+    // Only class 3 selects by what nodes list of their histories.
+    pub const LISTING_CLASS: u8 = 3;
 
     // Starts a node with its initial plan, or says why not.
     pub fn start(crew: Crew, own: u8, run: u32, plan: u16) -> Started
@@ -215,7 +215,7 @@ impl Node {
             & (self.phase <= Node::SPENT)
             & (Node::SELECTION <= self.round)
             & (self.round <= Node::DECISION)
-            & !((self.crew.class == Node::UNVALIDATED) & (self.round == Node::VALIDATION))
+            & !((self.crew.class == Node::UNVALIDATED_CLASS) & (self.round == Node::VALIDATION))
             & ((self.round == Node::SELECTION) | (self.phase <= Node::LAST_PHASE))
     }
 
@@ -227,12 +227,12 @@ impl Node {
             & (Node::NO_PLAN < self.history[0])
     }
 
-    // The vote's stamp is of an earlier phase, or of this one once it is validated.
+    // The stamp is an earlier phase, or this one once its validation is done.
     fn is_stamped(self) -> bool
         ensures { λ r. ⌜ r ≡ stampKnown self ⌝ }
     {
         ((self.stamp < self.phase) | ((self.stamp == self.phase) & (self.round == Node::DECISION)))
-            & (!(self.crew.class == Node::UNVALIDATED) | (self.stamp == Node::UNSTAMPED))
+            & (!(self.crew.class == Node::UNVALIDATED_CLASS) | (self.stamp == Node::UNSTAMPED))
     }
 
     // The first phase that has no selection yet. A phase may be any byte here, so the sum is taken wide.
@@ -262,7 +262,7 @@ impl Node {
         true
     }
 
-    // Whether the record is one that a node can work with, be it reached from a start or not.
+    // Whether the record is one that a node can have, be it reached from a start or not.
     pub fn is_sound(self) -> bool
         ensures { λ r. ⌜ r ≡ sound self ⌝ }
     {
@@ -278,7 +278,7 @@ impl Node {
     fn listed_phases(self) -> u8
         ensures { λ r. ⌜ r ≡ listedPhases self ⌝ }
     {
-        if self.crew.class == Node::LISTING {
+        if self.crew.class == Node::LISTING_CLASS {
             return self.phase;
         }
         0

@@ -1,16 +1,14 @@
-use Rattle.node.specs.Record.{begun}
+-- The record that a node begins with is the one that `begun` defines.
+-- Assumes nothing.
 use mathlib.Core.Path.{refl}
 use borrow.Author.Needs.{needs}
+use Rattle.node.specs.Record.{begun}
 use Rattle.node.proofs.begin.Statement.{statement}
 use Rattle.node.proofs.begin.Tie as tie
-use Rattle.node.proofs.begin.Reads as reads
-use Rattle.node.proofs.begin.Lts as lts
 
--- src/lib.rt:94:5
 array-write-history : tie.Need-array-write-history
 array-write-history c = search needs
 
--- src/lib.rt:90:1
 returns : tie.Need-returns
 unfolding begun
 returns c = refl

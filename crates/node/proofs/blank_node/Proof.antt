@@ -1,11 +1,10 @@
-use Rattle.node.specs.Record.{blank}
+-- The record of a refused start is all 0.
+-- Assumes nothing.
 use mathlib.Core.Path.{refl}
+use Rattle.node.specs.Record.{blank}
 use Rattle.node.proofs.blank_node.Statement.{statement}
 use Rattle.node.proofs.blank_node.Tie as tie
-use Rattle.node.proofs.blank_node.Reads as reads
-use Rattle.node.proofs.blank_node.Lts as lts
 
--- src/lib.rt:65:1
 returns : tie.Need-returns
 unfolding blank
 returns c = refl

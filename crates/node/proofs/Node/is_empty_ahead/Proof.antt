@@ -1,13 +1,13 @@
-use Rattle.node.proofs.Histories.{empty-more, empty-stop, empty-end}
+-- The loop finds whether all entries from the first unselected phase on are 0. Its invariant: the entries from `phase`
+-- on give the answer that all of them give. The measure is what is left of the 64 entries.
+-- Assumes nothing.
 use mathlib.Core.Path.{_≡_, refl, sym, ap, _∙_}
-use Rattle.node.specs.Soundness.{emptyFrom}
 use Prim.Native.Nat.{_-_}
 use borrow.Author.Needs.{needs}
+use Rattle.node.specs.Soundness.{emptyFrom}
+use Rattle.node.proofs.Histories.{empty-more, empty-stop, empty-end}
 use Rattle.node.proofs.Node.is_empty_ahead.Statement.{statement}
 use Rattle.node.proofs.Node.is_empty_ahead.Tie as tie
-use Rattle.node.proofs.Node.is_empty_ahead.Reads as reads
-use Rattle.node.proofs.Node.is_empty_ahead.Lts as lts
-use Rattle.node.proofs.Node.first_unselected.Reads as first-unselected-reads
 
 abbrev Inv-loop : tie.InvT-loop
 Inv-loop history phase₀ phase =
@@ -16,41 +16,42 @@ Inv-loop history phase₀ phase =
 abbrev μ-loop : tie.MeasureT-loop
 μ-loop history phase₀ phase = 64 - phase
 
--- src/lib.rt:213:13
 first-unselected-requires : tie.Need-first-unselected-requires Inv-loop μ-loop
 first-unselected-requires c κs = search needs
 
--- src/lib.rt:214:9
 loop-holds : tie.Need-loop-holds Inv-loop μ-loop
 loop-holds c = refl
 
--- src/lib.rt:215:16
 mul-if1 : tie.Need-mul-if1 Inv-loop μ-loop
 mul-if1 c = search needs
 
--- src/lib.rt:215:16
 array-read-if1 : tie.Need-array-read-if1 Inv-loop μ-loop
 array-read-if1 c = search needs
 
--- src/lib.rt:216:25
 add-phase : tie.Need-add-phase Inv-loop μ-loop
 add-phase c = search needs
 
--- src/lib.rt:214:9
 loop-less : tie.Need-loop-less Inv-loop μ-loop
 loop-less c = search needs
 
--- src/lib.rt:214:9
 loop-again : tie.Need-loop-again Inv-loop μ-loop
 loop-again c = sym (empty-more _ _ (c .before .loop-test .taken) (c .if1 .taken)) ∙ c .before .before .loop .inv
 
--- src/lib.rt:218:17
 returns : tie.Need-returns Inv-loop μ-loop
-returns c = sym (empty-stop _ _ (c .before .loop-test .taken) (c .if1 .left)) ∙ c .before .before .loop .inv ∙ ap (λ first. emptyFrom (c .before .before .before .before .before .args .self .history) first (64 - first)) (c .before .before .before .first-unselected .ensures)
+returns c =
+    let first = c .before .before .before in
+    let history = first .before .before .args .self .history in
+    sym (empty-stop _ _ (c .before .loop-test .taken) (c .if1 .left))
+    ∙ c .before .before .loop .inv
+    ∙ ap (λ phase. emptyFrom history phase (64 - phase)) (first .first-unselected .ensures)
 
--- src/lib.rt:209:5
 returns-2 : tie.Need-returns-2 Inv-loop μ-loop
-returns-2 c = sym (empty-end _ _ (c .loop-test .left)) ∙ c .before .loop .inv ∙ ap (λ first. emptyFrom (c .before .before .before .before .args .self .history) first (64 - first)) (c .before .before .first-unselected .ensures)
+returns-2 c =
+    let first = c .before .before in
+    let history = first .before .before .args .self .history in
+    sym (empty-end _ _ (c .loop-test .left))
+    ∙ c .before .loop .inv
+    ∙ ap (λ phase. emptyFrom history phase (64 - phase)) (first .first-unselected .ensures)
 
 pub is-empty-ahead-spec : {M : Type 1} → statement M
 is-empty-ahead-spec =
