@@ -3,3 +3,4 @@ pub mod Heard
 pub mod Filling
 pub mod Rows
 pub mod Meaning
+pub mod Tallies

@@ -2,3 +2,4 @@ pub mod Inbox
 pub mod Taking
 pub mod Asking
 pub mod Columns
+pub mod Marks

@@ -3,13 +3,29 @@
 // read once, into columns (specs/Columns.antt); the rules run over those.
 use message::Reading;
 ghost use mathlib.Core.Path.{_≡_};
-ghost use mathlib.Core.Bool.{true, false};
+ghost use mathlib.Core.Bool.{true, false, _&&_};
+ghost use lib.Dec.{ltb, eqb};
 ghost use mathlib.Core.Option.{Option, none, some};
 ghost use Prim.Native.Nat.{_+_, _*_, _<_, _≤_};
 ghost use lib.ListN.{length, set, drop};
 ghost use Rattle.message.specs.Reading.{readOf, entriesIn};
 ghost use Rattle.message.specs.Bounds.{entriesOk};
 ghost use Rattle.rounds.specs.Inbox.{slotAt, counted};
+ghost use lib.ListN.{getD};
+ghost use Rattle.ballot.specs.Count.{bit, tally};
+ghost use Rattle.ballot.specs.Least.{orZero};
+ghost use Rattle.rounds.specs.Marks.{
+  Marks,
+  marked,
+  supporting,
+  belowOf,
+  above,
+  stampedWith,
+  listing,
+  listedAbove,
+  leastMarked,
+  highest,
+};
 ghost use Rattle.rounds.specs.Columns.{columns, empty, PhasesBelow, laid, put, filled, saidAs};
 
 // Why a round is not taken, or a selection not told; `number` in specs/Taking.antt has 01's numbers.
@@ -172,4 +188,72 @@ fn read_slots(
         read_slot(&inbox[start..end], q, run, phase, round, present, votes, stamps, histories);
         q = q + 1;
     }
+}
+
+fn one_if(test: bool) -> usize
+    ensures { λ r. ⌜ (r ≡ bit test) × (r ≤ 1) ⌝ }
+{
+    if test { 1 } else { 0 }
+}
+
+// How many marked slots have the vote, or a stamp below the bound.
+fn count_supporting(
+    marks: &[bool; 32],
+    votes: &[u16; 32],
+    stamps: &[u8; 32],
+    n: usize,
+    vote: u16,
+    below: u8,
+) -> usize
+    requires { ⌜ n ≤ 32 ⌝ }
+    ensures { λ r. ⌜ (r ≡ tally (supporting (now (marks .entry)) (now (votes .entry)) (now (stamps .entry)) vote below) n)
+        × (r ≤ n) ⌝ }
+{
+    let mut count = 0;
+    let mut q = 0;
+    while q < n {
+        count = count + one_if(marks[q] & ((votes[q] == vote) | (stamps[q] < below)));
+        q = q + 1;
+    }
+    count
+}
+
+// How many slots are marked.
+fn count_marks(marks: &[bool; 32], n: usize) -> usize
+    requires { ⌜ n ≤ 32 ⌝ }
+    ensures { λ r. ⌜ (r ≡ tally (marked (now (marks .entry))) n) × (r ≤ n) ⌝ }
+{
+    let mut count = 0;
+    let mut q = 0;
+    while q < n {
+        count = count + one_if(marks[q]);
+        q = q + 1;
+    }
+    count
+}
+
+// Whether the slot lists the plan at a phase.
+fn lists(histories: &[u16; 2048], q: usize, phase: u8, plan: u16) -> bool
+    requires { ⌜ q < 32 ⌝ }
+    ensures { λ r. ⌜ r ≡ (ltb phase 64 && eqb (getD (now (histories .entry)) (64 * q + phase) 0) plan) ⌝ }
+{
+    if phase < 64 {
+        histories[PHASES * q + phase as usize] == plan
+    } else {
+        false
+    }
+}
+
+// How many slots list the plan at a phase.
+fn count_listing(present: &[bool; 32], histories: &[u16; 2048], n: usize, plan: u16, phase: u8) -> usize
+    requires { ⌜ n ≤ 32 ⌝ }
+    ensures { λ r. ⌜ (r ≡ tally (listing (now (present .entry)) (now (histories .entry)) plan phase) n) × (r ≤ n) ⌝ }
+{
+    let mut count = 0;
+    let mut q = 0;
+    while q < n {
+        count = count + one_if(present[q] & lists(histories, q, phase, plan));
+        q = q + 1;
+    }
+    count
 }

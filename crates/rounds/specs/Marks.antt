@@ -1,0 +1,57 @@
+-- Counts over the columns: marks single out slots, and the rules count marked slots. The functions that run over the columns
+-- promise these numbers; proofs/ joins them to the rules of crate ballot.
+use Prim.Native.Nat.{ℕ, zero, suc, _+_, _*_, _<_, max}
+use mathlib.Core.Path.{_≡_}
+use mathlib.Core.Bool.{Bool, true, false, cond, _&&_, _||_}
+use mathlib.Core.List.{List}
+use mathlib.Core.Option.{Option, none, some}
+use lib.ListN.{getD}
+use lib.Dec.{ltb, eqb}
+use Rattle.ballot.specs.Count.{tally}
+use Rattle.ballot.specs.Least.{lower}
+
+abbrev pub marked : List Bool → ℕ → Bool
+marked marks q = getD marks q false
+
+-- these marks single out the slots below n that pass a test
+abbrev pub Marks : List Bool → ℕ → (ℕ → Bool) → Type 0
+Marks marks n test = (q : ℕ) → q < n → marked marks q ≡ test q
+
+-- a marked slot has the vote, or a stamp below the bound
+abbrev pub supporting : List Bool → List ℕ → List ℕ → ℕ → ℕ → ℕ → Bool
+supporting marks votes stamps vote below q =
+    marked marks q && (eqb (getD votes q 0) vote || ltb (getD stamps q 0) below)
+
+-- the stamp's part in the support of slot q, where stamps play a part
+abbrev pub belowOf : Bool → ℕ → ℕ
+belowOf stamped stamp = cond stamped stamp 0
+
+-- more than `threshold` marked slots support what slot q says
+abbrev pub above : List Bool → List Bool → List ℕ → List ℕ → ℕ → ℕ → Bool → ℕ → Bool
+above present marks votes stamps n threshold stamped q =
+    marked present q
+    && ltb threshold (tally (supporting marks votes stamps (getD votes q 0) (belowOf stamped (getD stamps q 0))) n)
+
+-- a slot that is present has this stamp
+abbrev pub stampedWith : List Bool → List ℕ → ℕ → ℕ → Bool
+stampedWith present stamps stamp q = marked present q && eqb (getD stamps q 0) stamp
+
+-- a slot that is present lists the plan at a phase; a history has no place past phase 63
+abbrev pub listing : List Bool → List ℕ → ℕ → ℕ → ℕ → Bool
+listing present histories plan phase q =
+    marked present q && (ltb phase 64 && eqb (getD histories (64 * q + phase) 0) plan)
+
+-- a marked slot whose vote more than `threshold` slots list at its stamp
+abbrev pub listedAbove : List Bool → List Bool → List ℕ → List ℕ → List ℕ → ℕ → ℕ → ℕ → Bool
+listedAbove marks present votes stamps histories n threshold q =
+    marked marks q && ltb threshold (tally (listing present histories (getD votes q 0) (getD stamps q 0)) n)
+
+-- the least of the votes of the marked slots below n
+unfoldable pub leastMarked : (ℕ → Bool) → (ℕ → ℕ) → ℕ → Option ℕ
+leastMarked test vote zero = none
+leastMarked test vote (suc n) = cond (test n) (lower (vote n) (leastMarked test vote n)) (leastMarked test vote n)
+
+-- the highest of the numbers of the marked slots below n, 0 where there is none
+unfoldable pub highest : (ℕ → Bool) → (ℕ → ℕ) → ℕ → ℕ
+highest test number zero = 0
+highest test number (suc n) = cond (test n) (max (number n) (highest test number n)) (highest test number n)
