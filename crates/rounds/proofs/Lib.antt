@@ -4,3 +4,4 @@ pub mod Filling
 pub mod Rows
 pub mod Meaning
 pub mod Tallies
+pub mod Marking

@@ -3,7 +3,7 @@
 // read once, into columns (specs/Columns.antt); the rules run over those.
 use message::Reading;
 ghost use mathlib.Core.Path.{_≡_};
-ghost use mathlib.Core.Bool.{true, false, _&&_};
+ghost use mathlib.Core.Bool.{true, false, cond, _&&_};
 ghost use lib.Dec.{ltb, eqb};
 ghost use mathlib.Core.Option.{Option, none, some};
 ghost use Prim.Native.Nat.{_+_, _*_, _<_, _≤_};
@@ -256,4 +256,130 @@ fn count_listing(present: &[bool; 32], histories: &[u16; 2048], n: usize, plan: 
         q = q + 1;
     }
     count
+}
+
+// The bound on stamps where they play a part; no stamp is below 0.
+fn below_of(stamped: bool, stamp: u8) -> u8
+    ensures { λ r. ⌜ r ≡ belowOf stamped stamp ⌝ }
+{
+    if stamped { stamp } else { 0 }
+}
+
+// Marks each slot whose vote, or vote and stamp, more than `threshold` of the marked slots support.
+fn mark_above(
+    present: &[bool; 32],
+    marks: &[bool; 32],
+    votes: &[u16; 32],
+    stamps: &[u8; 32],
+    n: usize,
+    threshold: usize,
+    stamped: bool,
+) -> [bool; 32]
+    requires { ⌜ n ≤ 32 ⌝ }
+    ensures { λ r. ⌜ Marks r n
+        (above (now (present .entry)) (now (marks .entry)) (now (votes .entry)) (now (stamps .entry)) n threshold stamped) ⌝ }
+{
+    let mut out = [false; 32];
+    let mut q = 0;
+    while q < n {
+        let below = below_of(stamped, stamps[q]);
+        let supporters = count_supporting(marks, votes, stamps, n, votes[q], below);
+        out[q] = present[q] & (threshold < supporters);
+        q = q + 1;
+    }
+    out
+}
+
+// Marks each slot with this stamp.
+fn mark_stamped(present: &[bool; 32], stamps: &[u8; 32], n: usize, stamp: u8) -> [bool; 32]
+    requires { ⌜ n ≤ 32 ⌝ }
+    ensures { λ r. ⌜ Marks r n (stampedWith (now (present .entry)) (now (stamps .entry)) stamp) ⌝ }
+{
+    let mut out = [false; 32];
+    let mut q = 0;
+    while q < n {
+        out[q] = present[q] & (stamps[q] == stamp);
+        q = q + 1;
+    }
+    out
+}
+
+// Marks, of the marked slots, each whose vote more than `threshold` slots list at its stamp.
+fn mark_listed(
+    marks: &[bool; 32],
+    present: &[bool; 32],
+    votes: &[u16; 32],
+    stamps: &[u8; 32],
+    histories: &[u16; 2048],
+    n: usize,
+    threshold: usize,
+) -> [bool; 32]
+    requires { ⌜ n ≤ 32 ⌝ }
+    ensures { λ r. ⌜ Marks r n
+        (listedAbove (now (marks .entry)) (now (present .entry)) (now (votes .entry)) (now (stamps .entry))
+        (now (histories .entry)) n threshold) ⌝ }
+{
+    let mut out = [false; 32];
+    let mut q = 0;
+    while q < n {
+        let listers = count_listing(present, histories, n, votes[q], stamps[q]);
+        out[q] = marks[q] & (threshold < listers);
+        q = q + 1;
+    }
+    out
+}
+
+fn wide(x: u16) -> u32
+    ensures { λ r. ⌜ (r ≡ x) × (r < 65536) ⌝ }
+{
+    x as u32
+}
+
+// The lower of two votes, where the slot is marked.
+fn lower_of(mark: bool, vote: u16, least: u32) -> u32
+    ensures { λ r. ⌜ (r ≡ cond (mark && ltb vote least) vote least) × (vote < 65536) ⌝ }
+{
+    let lowers = mark & (wide(vote) < least);
+    if lowers { wide(vote) } else { least }
+}
+
+// The least vote of the marked slots, 0 where there is none.
+fn least_marked(marks: &[bool; 32], votes: &[u16; 32], n: usize) -> u16
+    requires { ⌜ n ≤ 32 ⌝ }
+    ensures { λ r. ⌜ r ≡ orZero (leastMarked (marked (now (marks .entry))) (λ q. getD (now (votes .entry)) q 0) n) ⌝ }
+{
+    // One past every vote: no slot has been marked so far.
+    let mut least: u32 = 65536;
+    let mut q = 0;
+    while q < n {
+        least = lower_of(marks[q], votes[q], least);
+        q = q + 1;
+    }
+    if least < 65536 { least as u16 } else { 0 }
+}
+
+// The higher of two counts, where the slot is marked.
+fn higher_of(mark: bool, count: usize, best: usize) -> usize
+    requires { ⌜ (count ≤ 32) × (best ≤ 32) ⌝ }
+    ensures { λ r. ⌜ (r ≡ cond (mark && ltb best count) count best) × (r ≤ 32) ⌝ }
+{
+    let rises = mark & (best < count);
+    if rises { count } else { best }
+}
+
+// How many votes the plan of most votes has.
+fn most_votes(present: &[bool; 32], votes: &[u16; 32], stamps: &[u8; 32], n: usize) -> usize
+    requires { ⌜ n ≤ 32 ⌝ }
+    ensures { λ r. ⌜ (r ≡ highest (marked (now (present .entry)))
+        (λ q. tally (supporting (now (present .entry)) (now (votes .entry)) (now (stamps .entry))
+        (getD (now (votes .entry)) q 0) 0) n) n) × (r ≤ 32) ⌝ }
+{
+    let mut best = 0;
+    let mut q = 0;
+    while q < n {
+        let supporters = count_supporting(present, votes, stamps, n, votes[q], 0);
+        best = higher_of(present[q], supporters, best);
+        q = q + 1;
+    }
+    best
 }
