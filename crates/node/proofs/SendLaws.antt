@@ -2,14 +2,16 @@
 -- is to answer and leave. Assumes nothing.
 use mathlib.Core.Path.{_≡_, refl, sym, ap, ap₂, _∙_}
 use mathlib.Core.Bool.{Bool, true, false}
-use mathlib.Core.List.{List}
+use mathlib.Core.List.{List, _++_}
 use mathlib.Core.Logic.{_≢_}
 use Prim.Native.Nat.{ℕ, _≤_, _<_}
 use native.Mathlib.Omega.{arith}
-use lib.ListN.{length}
+use lib.ListN.{length, take, drop}
+use lib.Seq.{take-at}
 use lib.Dec.{leb, ltb}
-use borrow.Author.Tests.{lt-ltb, le-ltb, le-leb}
+use borrow.Author.Tests.{ltb-true, lt-ltb, le-ltb, le-leb}
 use Rattle.wire.specs.Outcome.{Outcome, accepted, refused, require}
+use Rattle.wire.proofs.Outcomes.{passed}
 use Rattle.message.specs.Fields.{Message}
 use Rattle.message.specs.Encoding.{encode}
 use Rattle.message.specs.Writing as message
@@ -73,6 +75,22 @@ pub spent-refused : (d : Node) (buffer : List ℕ) → sound d ≡ true → 64 �
     → (refused 8 ≡ writeOf d buffer) × (buffer ≡ bufferOf d buffer)
 unfolding writeOf
 spent-refused d buffer ok spent = (simp (ok, le-ltb (d .phase) 64 spent), simp (ok, le-ltb (d .phase) 64 spent))
+
+-- An accepted write is of a sound, unspent record; its length is the coming message's, which stands at the buffer's
+-- front.
+pub write-accepted : (d : Node) (buffer : List ℕ) (size : ℕ) → writeOf d buffer ≡ accepted size
+    → (sound d ≡ true)
+    × (d .phase < 64)
+    × (length (comingBytes d) ≡ size)
+    × (take size (bufferOf d buffer) ≡ comingBytes d)
+unfolding writeOf
+write-accepted d buffer size e =
+    let ok = passed (sound d) 7 _ e in
+    let left = passed (ltb (d .phase) 64) 8 _ (ok .1) in
+    let room = passed (leb (length (comingBytes d)) (length buffer)) 9 _ (left .1) in
+    let long : length (comingBytes d) ≡ size = cc (room .1) in
+    let after : bufferOf d buffer ≡ comingBytes d ++ drop size buffer = ap (bufferAfter (comingBytes d) buffer) e in
+    (ok .0, ltb-true _ _ (left .0), long, ap (take size) after ∙ take-at (comingBytes d) (drop size buffer) size long)
 
 -- a node is never told that its message breaks a bound
 pub never-out-of-bounds : (d : Node) (buffer : List ℕ) → writeOf d buffer ≢ refused 13
