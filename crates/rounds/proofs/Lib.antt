@@ -5,3 +5,4 @@ pub mod Rows
 pub mod Meaning
 pub mod Tallies
 pub mod Marking
+pub mod Polling

@@ -8,6 +8,7 @@ use lib.ListN.{getD, set, replicate, drop}
 use Rattle.wire.specs.Entry.{Entry}
 use Rattle.message.specs.Writing.{listed}
 use Rattle.message.specs.Reading.{entriesIn}
+use Rattle.ballot.specs.Count.{gather}
 use Rattle.ballot.specs.Ballot.{Ballot}
 use Rattle.rounds.specs.declared.Said.{Said}
 use Rattle.rounds.specs.declared.Said.the-variants.{Ballot as Says, Nothing}
@@ -56,17 +57,21 @@ unfoldable pub filled : (ℕ → Option Ballot) → ℕ → Columns
 filled slots zero = empty
 filled slots (suc n) = put (filled slots n) n (slots n)
 
+-- what the columns have in the places of slot q
+abbrev pub rowOf : Columns → ℕ → Ballot
+rowOf read q = record {
+  vote = getD (read .votes) q 0;
+  stamp = getD (read .stamps) q 0;
+  entries = listed (drop (64 * q) (read .histories)) 0 64;
+}
+
 -- what the columns say of slot q
 abbrev pub slotOf : Columns → ℕ → Option Ballot
-slotOf read q =
-    cond (getD (read .present) q false)
-    (some
-    (record {
-      vote = getD (read .votes) q 0;
-      stamp = getD (read .stamps) q 0;
-      entries = listed (drop (64 * q) (read .histories)) 0 64;
-    }))
-    none
+slotOf read q = cond (getD (read .present) q false) (some (rowOf read q)) none
+
+-- the ballots of the first n slots, as the columns have them
+abbrev pub polled : Columns → ℕ → List Ballot
+polled read n = gather (slotOf read) n
 
 -- what an answer of `hear` says of the slot; the entries themselves stand in the slot
 abbrev pub saidAs : Said → List ℕ → Option Ballot

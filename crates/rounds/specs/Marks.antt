@@ -2,13 +2,14 @@
 -- promise these numbers; proofs/ joins them to the rules of crate ballot.
 use Prim.Native.Nat.{ℕ, zero, suc, _+_, _*_, _<_, max}
 use mathlib.Core.Path.{_≡_}
-use mathlib.Core.Bool.{Bool, true, false, cond, _&&_, _||_}
+use mathlib.Core.Bool.{Bool, true, false, not, cond, _&&_, _||_}
 use mathlib.Core.List.{List}
 use mathlib.Core.Option.{Option, none, some}
 use lib.ListN.{getD}
-use lib.Dec.{ltb, eqb}
+use lib.Dec.{leb, ltb, eqb}
 use Rattle.ballot.specs.Count.{tally}
 use Rattle.ballot.specs.Least.{lower}
+use Rattle.ballot.specs.Selection.{Backing, nobody, sole, several}
 
 abbrev pub marked : List Bool → ℕ → Bool
 marked marks q = getD marks q false
@@ -36,10 +37,10 @@ above present marks votes stamps n threshold stamped q =
 abbrev pub stampedWith : List Bool → List ℕ → ℕ → ℕ → Bool
 stampedWith present stamps stamp q = marked present q && eqb (getD stamps q 0) stamp
 
--- a slot that is present lists the plan at a phase; a history has no place past phase 63
+-- a slot that is present lists the plan at a phase; a history has no place past phase 63, and 0 there is no plan
 abbrev pub listing : List Bool → List ℕ → ℕ → ℕ → ℕ → Bool
 listing present histories plan phase q =
-    marked present q && (ltb phase 64 && eqb (getD histories (64 * q + phase) 0) plan)
+    marked present q && (ltb phase 64 && (leb 1 plan && eqb (getD histories (64 * q + phase) 0) plan))
 
 -- a marked slot whose vote more than `threshold` slots list at its stamp
 abbrev pub listedAbove : List Bool → List Bool → List ℕ → List ℕ → List ℕ → ℕ → ℕ → ℕ → Bool
@@ -50,6 +51,14 @@ listedAbove marks present votes stamps histories n threshold q =
 unfoldable pub leastMarked : (ℕ → Bool) → (ℕ → ℕ) → ℕ → Option ℕ
 leastMarked test vote zero = none
 leastMarked test vote (suc n) = cond (test n) (lower (vote n) (leastMarked test vote n)) (leastMarked test vote n)
+
+-- the votes of the marked slots: none, exactly one, or more
+abbrev pub besidesMarked : (ℕ → Bool) → (ℕ → ℕ) → ℕ → Option ℕ → Backing
+besidesMarked test vote n none = nobody
+besidesMarked test vote n (some v) = cond (eqb (tally (λ q. test q && not (eqb (vote q) v)) n) 0) (sole v) several
+
+abbrev pub backingMarked : (ℕ → Bool) → (ℕ → ℕ) → ℕ → Backing
+backingMarked test vote n = besidesMarked test vote n (leastMarked test vote n)
 
 -- the highest of the numbers of the marked slots below n, 0 where there is none
 unfoldable pub highest : (ℕ → Bool) → (ℕ → ℕ) → ℕ → ℕ

@@ -4,7 +4,7 @@
 use message::Reading;
 ghost use mathlib.Core.Path.{_≡_};
 ghost use mathlib.Core.Bool.{true, false, cond, _&&_};
-ghost use lib.Dec.{ltb, eqb};
+ghost use lib.Dec.{leb, ltb, eqb};
 ghost use mathlib.Core.Option.{Option, none, some};
 ghost use Prim.Native.Nat.{_+_, _*_, _<_, _≤_};
 ghost use lib.ListN.{length, set, drop};
@@ -235,10 +235,10 @@ fn count_marks(marks: &[bool; 32], n: usize) -> usize
 // Whether the slot lists the plan at a phase.
 fn lists(histories: &[u16; 2048], q: usize, phase: u8, plan: u16) -> bool
     requires { ⌜ q < 32 ⌝ }
-    ensures { λ r. ⌜ r ≡ (ltb phase 64 && eqb (getD (now (histories .entry)) (64 * q + phase) 0) plan) ⌝ }
+    ensures { λ r. ⌜ r ≡ (ltb phase 64 && (leb 1 plan && eqb (getD (now (histories .entry)) (64 * q + phase) 0) plan)) ⌝ }
 {
     if phase < 64 {
-        histories[PHASES * q + phase as usize] == plan
+        (1 <= plan) & (histories[PHASES * q + phase as usize] == plan)
     } else {
         false
     }
