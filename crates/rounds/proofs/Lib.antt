@@ -6,3 +6,7 @@ pub mod Meaning
 pub mod Tallies
 pub mod Marking
 pub mod Polling
+pub mod Listing
+pub mod Ruling
+pub mod BackingLaws
+pub mod Choosing

@@ -9,7 +9,11 @@ use lib.ListN.{getD}
 use lib.Dec.{leb, ltb, eqb}
 use Rattle.ballot.specs.Count.{tally}
 use Rattle.ballot.specs.Least.{lower}
-use Rattle.ballot.specs.Selection.{Backing, nobody, sole, several}
+use Rattle.ballot.specs.Selection.{Backing, nobody, sole, several, Choice, plan, any, nothing}
+use Rattle.rounds.specs.declared.Backing.{Backing as DeclaredBacking}
+use Rattle.rounds.specs.declared.Backing.the-variants.{Nobody, Sole, Several}
+use Rattle.rounds.specs.declared.Choice.{Choice as DeclaredChoice}
+use Rattle.rounds.specs.declared.Choice.the-variants.{Plan, Any, Nothing}
 
 abbrev pub marked : List Bool → ℕ → Bool
 marked marks q = getD marks q false
@@ -39,8 +43,8 @@ stampedWith present stamps stamp q = marked present q && eqb (getD stamps q 0) s
 
 -- a slot that is present lists the plan at a phase; a history has no place past phase 63, and 0 there is no plan
 abbrev pub listing : List Bool → List ℕ → ℕ → ℕ → ℕ → Bool
-listing present histories plan phase q =
-    marked present q && (ltb phase 64 && (leb 1 plan && eqb (getD histories (64 * q + phase) 0) plan))
+listing present histories v phase q =
+    marked present q && (ltb phase 64 && (leb 1 v && eqb (getD histories (64 * q + phase) 0) v))
 
 -- a marked slot whose vote more than `threshold` slots list at its stamp
 abbrev pub listedAbove : List Bool → List Bool → List ℕ → List ℕ → List ℕ → ℕ → ℕ → ℕ → Bool
@@ -64,3 +68,14 @@ backingMarked test vote n = besidesMarked test vote n (leastMarked test vote n)
 unfoldable pub highest : (ℕ → Bool) → (ℕ → ℕ) → ℕ → ℕ
 highest test number zero = 0
 highest test number (suc n) = cond (test n) (max (number n) (highest test number n)) (highest test number n)
+
+-- what the code's answers stand for in crate ballot
+abbrev pub backingAs : DeclaredBacking → Backing
+backingAs Nobody = nobody
+backingAs (Sole v) = sole v
+backingAs Several = several
+
+abbrev pub choiceAs : DeclaredChoice → Choice
+choiceAs (Plan v) = plan v
+choiceAs Any = any
+choiceAs Nothing = nothing

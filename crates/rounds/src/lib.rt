@@ -1,6 +1,7 @@
 // Asking for the coming selection, and taking a round: from an inbox's bytes to the next record.
 // What each answers stands in specs/Asking.antt and specs/Taking.antt, what a slot says in specs/Inbox.antt. The slots are
 // read once, into columns (specs/Columns.antt); the rules run over those.
+use crew::Crew;
 use message::Reading;
 ghost use mathlib.Core.Path.{_≡_};
 ghost use mathlib.Core.Bool.{true, false, cond, _&&_};
@@ -14,6 +15,8 @@ ghost use Rattle.rounds.specs.Inbox.{slotAt, counted};
 ghost use lib.ListN.{getD};
 ghost use Rattle.ballot.specs.Count.{bit, tally};
 ghost use Rattle.ballot.specs.Least.{orZero};
+ghost use Rattle.ballot.specs.Selection.{anyIf, answer, selection};
+ghost use Rattle.crew.specs.Thresholds.{one, two, three, E};
 ghost use Rattle.rounds.specs.Marks.{
   Marks,
   marked,
@@ -24,9 +27,21 @@ ghost use Rattle.rounds.specs.Marks.{
   listing,
   listedAbove,
   leastMarked,
+  backingMarked,
+  backingAs,
+  choiceAs,
   highest,
 };
-ghost use Rattle.rounds.specs.Columns.{columns, empty, PhasesBelow, laid, put, filled, saidAs};
+ghost use Rattle.rounds.specs.Columns.{
+  columns,
+  empty,
+  PhasesBelow,
+  laid,
+  put,
+  filled,
+  polled,
+  saidAs,
+};
 
 // Why a round is not taken, or a selection not told; `number` in specs/Taking.antt has 01's numbers.
 pub enum Refusal {
@@ -382,4 +397,132 @@ fn most_votes(present: &[bool; 32], votes: &[u16; 32], stamps: &[u8; 32], n: usi
         q = q + 1;
     }
     best
+}
+
+// Which votes the marked slots have.
+enum Backing {
+    Nobody,
+    Sole(u16),
+    Several,
+}
+
+// What selection answers.
+enum Choice {
+    Plan(u16),
+    Any,
+    Nothing,
+}
+
+// Exactly one vote is backed where all marked slots have the least one.
+fn backing_of(marks: &[bool; 32], votes: &[u16; 32], stamps: &[u8; 32], n: usize) -> Backing
+    requires { ⌜ n ≤ 32 ⌝ }
+    ensures { λ r. ⌜ backingAs r ≡ backingMarked (marked (now (marks .entry))) (λ q. getD (now (votes .entry)) q 0) n ⌝ }
+{
+    let all = count_marks(marks, n);
+    if all == 0 {
+        return Backing::Nobody;
+    }
+    let least = least_marked(marks, votes, n);
+    if count_supporting(marks, votes, stamps, n, least, 0) == all {
+        return Backing::Sole(least);
+    }
+    Backing::Several
+}
+
+fn any_if(enough: bool) -> Choice
+    ensures { λ r. ⌜ choiceAs r ≡ anyIf enough ⌝ }
+{
+    if enough { Choice::Any } else { Choice::Nothing }
+}
+
+// 01, classes 1 and 2: "Exactly one: that plan. Otherwise 'any' if .., else 'none'."
+fn answer_below_three(backing: Backing, enough: bool) -> Choice
+    ensures { λ r. ⌜ (choiceAs r ≡ answer one (backingAs backing) enough) × (choiceAs r ≡ answer two (backingAs backing) enough) ⌝ }
+{
+    match backing {
+        Backing::Sole(plan) => Choice::Plan(plan),
+        Backing::Nobody => any_if(enough),
+        Backing::Several => any_if(enough),
+    }
+}
+
+// 01, class 3: "Exactly one plan: that plan. More: 'any'. None: 'any' if .., else 'none'."
+fn answer_three(backing: Backing, enough: bool) -> Choice
+    ensures { λ r. ⌜ choiceAs r ≡ answer three (backingAs backing) enough ⌝ }
+{
+    match backing {
+        Backing::Sole(plan) => Choice::Plan(plan),
+        Backing::Nobody => any_if(enough),
+        Backing::Several => Choice::Any,
+    }
+}
+
+// 01's E = n − D + b.
+fn bound(crew: Crew) -> usize
+    requires { ⌜ crew .d ≤ crew .n ⌝ }
+    ensures { λ r. ⌜ (r ≡ E crew) × (r ≤ 510) ⌝ }
+{
+    (crew.n - crew.d) as usize + crew.b as usize
+}
+
+// Selection in class 1.
+fn choose_one(
+    crew: Crew,
+    present: &[bool; 32],
+    votes: &[u16; 32],
+    stamps: &[u8; 32],
+    histories: &[u16; 2048],
+) -> Choice
+    requires { ⌜ (crew .n ≤ 32) × (crew .d ≤ crew .n) ⌝ }
+    ensures { λ r. ⌜ choiceAs r ≡ selection one crew
+        (polled (columns (now (present .entry)) (now (votes .entry)) (now (stamps .entry)) (now (histories .entry))) (crew .n)) ⌝ }
+{
+    let n = crew.n as usize;
+    let e = bound(crew);
+    let backed = mark_above(present, present, votes, stamps, n, e, false);
+    let backing = backing_of(&backed, votes, stamps, n);
+    answer_below_three(backing, 2 * e < count_marks(present, n))
+}
+
+// Selection in class 2.
+fn choose_two(
+    crew: Crew,
+    present: &[bool; 32],
+    votes: &[u16; 32],
+    stamps: &[u8; 32],
+    histories: &[u16; 2048],
+) -> Choice
+    requires { ⌜ (crew .n ≤ 32) × (crew .d ≤ crew .n) ⌝ }
+    ensures { λ r. ⌜ choiceAs r ≡ selection two crew
+        (polled (columns (now (present .entry)) (now (votes .entry)) (now (stamps .entry)) (now (histories .entry))) (crew .n)) ⌝ }
+{
+    let n = crew.n as usize;
+    let b = crew.b as usize;
+    let e = bound(crew);
+    let possible = mark_above(present, present, votes, stamps, n, e, true);
+    let backed = mark_above(present, &possible, votes, stamps, n, b, false);
+    let backing = backing_of(&backed, votes, stamps, n);
+    answer_below_three(backing, e + b < count_marks(present, n))
+}
+
+// Selection in class 3.
+fn choose_three(
+    crew: Crew,
+    present: &[bool; 32],
+    votes: &[u16; 32],
+    stamps: &[u8; 32],
+    histories: &[u16; 2048],
+) -> Choice
+    requires { ⌜ (crew .n ≤ 32) × (crew .d ≤ crew .n) ⌝ }
+    ensures { λ r. ⌜ choiceAs r ≡ selection three crew
+        (polled (columns (now (present .entry)) (now (votes .entry)) (now (stamps .entry)) (now (histories .entry))) (crew .n)) ⌝ }
+{
+    let n = crew.n as usize;
+    let b = crew.b as usize;
+    let e = bound(crew);
+    let possible = mark_above(present, present, votes, stamps, n, e, true);
+    let backed = mark_listed(&possible, present, votes, stamps, histories, n, b);
+    let backing = backing_of(&backed, votes, stamps, n);
+    let unstamped = mark_stamped(present, stamps, n, 0);
+    answer_three(backing, e < count_marks(&unstamped, n))
 }
