@@ -1,7 +1,7 @@
 -- Selection from marks: marks for the backed slots, and how many slots 'any' counts, make selection's answer.
 -- Assumes nothing.
 use mathlib.Core.Path.{_≡_, refl, sym, ap, ap₂, _∙_}
-use mathlib.Core.Bool.{Bool}
+use mathlib.Core.Bool.{Bool, true, false, cond}
 use mathlib.Core.List.{List}
 use Prim.Native.Nat.{ℕ}
 use lib.Dec.{ltb}
@@ -10,7 +10,7 @@ use Rattle.crew.specs.Thresholds.{Class, one, two, three, anyAbove}
 use Rattle.ballot.specs.Count.{tally}
 use Rattle.ballot.specs.Selection.{Backing, Choice, backed, enough, answer, selection}
 use Rattle.rounds.specs.Columns.{Columns, polled}
-use Rattle.rounds.specs.Marks.{Marks, marked, stampedWith, backingMarked}
+use Rattle.rounds.specs.Marks.{Marks, marked, stampedWith, freshSlot, backingMarked}
 use Rattle.rounds.proofs.Tallies.{tally-same}
 use Rattle.rounds.proofs.Polling.{voteAt, onSlot, backing-polled, backing-same}
 use Rattle.rounds.proofs.Ruling.{counting, unstamped}
@@ -47,3 +47,9 @@ module _ (crew : Crew) (read : Columns) (n : ℕ) where
   unfolding enough
   enough-three count marks is are =
       ap (ltb (anyAbove three crew)) (is ∙ tally-same (marked marks) _ n are ∙ sym (unstamped crew read n))
+
+-- classes 2 and 3 count the same slots in a decision
+pub fresh-later : (second : Bool) (present : List Bool) (stamps : List ℕ) (phase q : ℕ)
+    → stampedWith present stamps phase q ≡ freshSlot (cond second two three) present stamps phase q
+fresh-later true present stamps phase q = refl
+fresh-later false present stamps phase q = refl

@@ -36,6 +36,7 @@ use Rattle.rounds.specs.Marks.{
   supporting,
   above,
   stampedWith,
+  freshSlot,
   listing,
   listedAbove,
   leastMarked,
@@ -200,18 +201,15 @@ module _ (crew : Crew) (read : Columns) (n : ℕ) where
       ∙ ap (ltb (crew .d - 1)) (marked-polled read n (voteAt read q) (fresh class phase) marks are))
 
   -- in class 1 every slot's vote counts; in the others those with the phase's stamp
-  pub fresh-one : (phase q : ℕ) → onSlot read (fresh one phase) q ≡ marked (read .present) q
-  fresh-one phase q = on-slot read (fresh one phase) q ∙ both (marked (read .present) q)
+  pub fresh-slot : (class : Class) (phase q : ℕ)
+      → onSlot read (fresh class phase) q ≡ freshSlot class (read .present) (read .stamps) phase q
+  fresh-slot one phase q = on-slot read (fresh one phase) q ∙ both (marked (read .present) q)
     where
       both : (b : Bool) → (b && true) ≡ b
       both true = refl
       both false = refl
-
-  pub fresh-two : (phase q : ℕ) → onSlot read (fresh two phase) q ≡ stampedWith (read .present) (read .stamps) phase q
-  fresh-two phase q = on-slot read (fresh two phase) q
-
-  pub fresh-three : (phase q : ℕ) → onSlot read (fresh three phase) q ≡ stampedWith (read .present) (read .stamps) phase q
-  fresh-three phase q = on-slot read (fresh three phase) q
+  fresh-slot two phase q = on-slot read (fresh two phase) q
+  fresh-slot three phase q = on-slot read (fresh three phase) q
 
   -- how many slots vote for a plan, and how many for the plan of most votes
   abbrev pub votesFor : ℕ → ℕ

@@ -7,6 +7,7 @@ use mathlib.Core.List.{List}
 use mathlib.Core.Option.{Option, none, some}
 use lib.ListN.{getD}
 use lib.Dec.{leb, ltb, eqb}
+use Rattle.crew.specs.Thresholds.{Class, one, two, three}
 use Rattle.ballot.specs.Count.{tally}
 use Rattle.ballot.specs.Least.{lower}
 use Rattle.ballot.specs.Selection.{Backing, nobody, sole, several, Choice, plan, any, nothing}
@@ -40,6 +41,12 @@ above present marks votes stamps n threshold stamped q =
 -- a slot that is present has this stamp
 abbrev pub stampedWith : List Bool → List ℕ → ℕ → ℕ → Bool
 stampedWith present stamps stamp q = marked present q && eqb (getD stamps q 0) stamp
+
+-- a slot whose vote counts in a decision
+abbrev pub freshSlot : Class → List Bool → List ℕ → ℕ → ℕ → Bool
+freshSlot one present stamps phase q = marked present q
+freshSlot two present stamps phase q = stampedWith present stamps phase q
+freshSlot three present stamps phase q = stampedWith present stamps phase q
 
 -- a slot that is present lists the plan at a phase; a history has no place past phase 63, and 0 there is no plan
 abbrev pub listing : List Bool → List ℕ → ℕ → ℕ → ℕ → Bool

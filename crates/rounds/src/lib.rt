@@ -3,6 +3,7 @@
 // read once, into columns (specs/Columns.antt); the rules run over those.
 use crew::Crew;
 use message::Reading;
+use node::Node;
 ghost use mathlib.Core.Path.{_≡_};
 ghost use mathlib.Core.Bool.{true, false, cond, _&&_};
 ghost use lib.Dec.{leb, ltb, eqb};
@@ -12,11 +13,14 @@ ghost use lib.ListN.{length, set, drop};
 ghost use Rattle.message.specs.Reading.{readOf, entriesIn};
 ghost use Rattle.message.specs.Bounds.{entriesOk};
 ghost use Rattle.rounds.specs.Inbox.{slotAt, counted};
+ghost use Rattle.rounds.specs.Taking.{afterSelection, afterValidation, afterDecision};
 ghost use lib.ListN.{getD};
 ghost use Rattle.ballot.specs.Count.{bit, tally};
 ghost use Rattle.ballot.specs.Least.{orZero};
-ghost use Rattle.ballot.specs.Selection.{anyIf, answer, selection};
-ghost use Rattle.crew.specs.Thresholds.{one, two, three, E};
+ghost use Rattle.ballot.specs.Selection.{anyIf, answer, selection, anyPlan, taken};
+ghost use Rattle.ballot.specs.Validation.{validated};
+ghost use Rattle.ballot.specs.Decision.{decision};
+ghost use Rattle.crew.specs.Thresholds.{one, two, three, classOf, E};
 ghost use Rattle.rounds.specs.Marks.{
   Marks,
   marked,
@@ -24,6 +28,7 @@ ghost use Rattle.rounds.specs.Marks.{
   belowOf,
   above,
   stampedWith,
+  freshSlot,
   listing,
   listedAbove,
   leastMarked,
@@ -56,12 +61,25 @@ pub enum Taking {
     Refused(Refusal),
 }
 
+// What taking a round answers. An enum holds no array, so the record stands beside the answer: the next one, or, where the
+// round is not taken, the one that was handed in.
+pub struct Taken {
+    pub answer: Taking,
+    pub node: Node,
+}
+
 // What asking for the coming selection answers.
 pub enum Asking {
     Plan(u16),
     Any,
     Nothing,
     Refused(Refusal),
+}
+
+// The record comes back as it was handed in.
+pub struct Asked {
+    pub answer: Asking,
+    pub node: Node,
 }
 
 // 01: "An inbox is n slots of 202 bytes": a selection with all 63 entries fits.
@@ -525,4 +543,161 @@ fn choose_three(
     let backing = backing_of(&backed, votes, stamps, n);
     let unstamped = mark_stamped(present, stamps, n, 0);
     answer_three(backing, e < count_marks(&unstamped, n))
+}
+
+// 01: "answers a plan, 'any' or 'none'"
+fn choose(crew: Crew, present: &[bool; 32], votes: &[u16; 32], stamps: &[u8; 32], histories: &[u16; 2048]) -> Choice
+    requires { ⌜ (crew .n ≤ 32) × (crew .d ≤ crew .n) ⌝ }
+    ensures { λ r. ⌜ choiceAs r ≡ selection (classOf crew) crew
+        (polled (columns (now (present .entry)) (now (votes .entry)) (now (stamps .entry)) (now (histories .entry))) (crew .n)) ⌝ }
+{
+    if crew.class == 1 {
+        return choose_one(crew, present, votes, stamps, histories);
+    }
+    if crew.class == 2 {
+        return choose_two(crew, present, votes, stamps, histories);
+    }
+    choose_three(crew, present, votes, stamps, histories)
+}
+
+// 01: "For 'any' the node takes the vote of most slots, the least plan on a tie"
+fn any_plan(
+    crew: Crew,
+    present: &[bool; 32],
+    votes: &[u16; 32],
+    stamps: &[u8; 32],
+    histories: &[u16; 2048],
+) -> u16
+    requires { ⌜ crew .n ≤ 32 ⌝ }
+    ensures { λ r. ⌜ r ≡ anyPlan crew
+        (polled (columns (now (present .entry)) (now (votes .entry)) (now (stamps .entry)) (now (histories .entry))) (crew .n)) ⌝ }
+{
+    let n = crew.n as usize;
+    let most = most_votes(present, votes, stamps, n);
+    if most == 0 {
+        return 0;
+    }
+    let leaders = mark_above(present, present, votes, stamps, n, most - 1, false);
+    least_marked(&leaders, votes, n)
+}
+
+// What a node takes: the plan, or 0 for 'none'.
+fn select(crew: Crew, present: &[bool; 32], votes: &[u16; 32], stamps: &[u8; 32], histories: &[u16; 2048]) -> u16
+    requires { ⌜ (crew .n ≤ 32) × (crew .d ≤ crew .n) ⌝ }
+    ensures { λ r. ⌜ r ≡ taken (classOf crew) crew
+        (polled (columns (now (present .entry)) (now (votes .entry)) (now (stamps .entry)) (now (histories .entry))) (crew .n)) ⌝ }
+{
+    let choice = choose(crew, present, votes, stamps, histories);
+    match choice {
+        Choice::Plan(plan) => plan,
+        Choice::Any => any_plan(crew, present, votes, stamps, histories),
+        Choice::Nothing => 0,
+    }
+}
+
+// The plan that more than half of n + b slots hold, 0 where none does.
+fn validate(
+    crew: Crew,
+    present: &[bool; 32],
+    votes: &[u16; 32],
+    stamps: &[u8; 32],
+    histories: &[u16; 2048],
+) -> u16
+    requires { ⌜ crew .n ≤ 32 ⌝ }
+    ensures { λ r. ⌜ r ≡ validated crew
+        (polled (columns (now (present .entry)) (now (votes .entry)) (now (stamps .entry)) (now (histories .entry))) (crew .n)) ⌝ }
+{
+    let n = crew.n as usize;
+    let half = (n + crew.b as usize) / 2;
+    let valid = mark_above(present, present, votes, stamps, n, half, false);
+    least_marked(&valid, votes, n)
+}
+
+// The slots whose votes decide. 01: "in classes 2 and 3 only slots whose stamp is the phase"
+fn mark_fresh(crew: Crew, phase: u8, present: &[bool; 32], stamps: &[u8; 32]) -> [bool; 32]
+    requires { ⌜ crew .n ≤ 32 ⌝ }
+    ensures { λ r. ⌜ Marks r (crew .n) (freshSlot (classOf crew) (now (present .entry)) (now (stamps .entry)) phase) ⌝ }
+{
+    if crew.class == 1 {
+        return *present;
+    }
+    mark_stamped(present, stamps, crew.n as usize, phase)
+}
+
+// The least plan that at least D slots hold, 0 where none does.
+fn decide(
+    crew: Crew,
+    phase: u8,
+    present: &[bool; 32],
+    votes: &[u16; 32],
+    stamps: &[u8; 32],
+    histories: &[u16; 2048],
+) -> u16
+    requires { ⌜ (crew .n ≤ 32) × (1 ≤ crew .d) ⌝ }
+    ensures { λ r. ⌜ r ≡ decision (classOf crew) crew phase
+        (polled (columns (now (present .entry)) (now (votes .entry)) (now (stamps .entry)) (now (histories .entry))) (crew .n)) ⌝ }
+{
+    let n = crew.n as usize;
+    let fresh = mark_fresh(crew, phase, present, stamps);
+    let deciding = mark_above(present, &fresh, votes, stamps, n, crew.d as usize - 1, false);
+    least_marked(&deciding, votes, n)
+}
+
+// 01: "Class 1 goes on to round 3, the others to round 2 and then 3."
+fn round_after_selection(class: u8) -> u8
+    ensures { λ r. ⌜ r ≡ cond (eqb class 1) 3 2 ⌝ }
+{
+    if class == 1 {
+        Node::DECISION
+    } else {
+        Node::VALIDATION
+    }
+}
+
+// 01: "Select is the plan, or 0 for 'none'; a plan becomes the vote and the phase's history entry."
+fn after_selection(node: Node, plan: u16) -> Node
+    requires { ⌜ node .phase < 64 ⌝ }
+    ensures { λ r. ⌜ r ≡ afterSelection node plan ⌝ }
+{
+    let mut next = node;
+    let phase = node.phase as usize;
+    next.round = round_after_selection(node.crew.class);
+    next.select = plan;
+    if plan == 0 {
+        return next;
+    }
+    next.vote = plan;
+    next.history[phase] = plan;
+    next
+}
+
+// 01: "vote and base become it and stamp becomes the phase; otherwise vote becomes base"
+fn after_validation(node: Node, plan: u16) -> Node
+    ensures { λ r. ⌜ r ≡ afterValidation node plan ⌝ }
+{
+    let mut next = node;
+    next.round = Node::DECISION;
+    if plan == 0 {
+        next.vote = node.base;
+        return next;
+    }
+    next.vote = plan;
+    next.base = plan;
+    next.stamp = node.phase;
+    next
+}
+
+// 01: "If there are any and result is 0, result becomes the least. A result stands for good. Phase rises by 1, round is 1."
+fn after_decision(node: Node, plan: u16) -> Node
+    requires { ⌜ node .phase < 64 ⌝ }
+    ensures { λ r. ⌜ r ≡ afterDecision node plan ⌝ }
+{
+    let mut next = node;
+    next.phase = node.phase + 1;
+    next.round = Node::SELECTION;
+    if node.result == 0 {
+        next.result = plan;
+        return next;
+    }
+    next
 }
