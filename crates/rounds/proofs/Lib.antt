@@ -10,3 +10,4 @@ pub mod Listing
 pub mod Ruling
 pub mod BackingLaws
 pub mod Choosing
+pub mod Inboxes

@@ -37,7 +37,10 @@ listed-same : (h k : List ℕ) (from count : ℕ)
 unfolding listed
 listed-same h k from zero same = refl
 listed-same h k from (suc count) same =
-    rw (same from (omega arith) (omega arith), listed-same h k (from + 1) count (λ j a b. same j (omega arith) (omega arith)))
+    rw (
+      same from (omega arith) (omega arith),
+      listed-same h k (from + 1) count (λ j a b. same j (omega arith) (omega arith)),
+    )
 
 module _ (read : Columns) (n : ℕ) (m : Ballot) (shape : Shape read n) (room : n < 32)
     (ok : entriesOk 0 64 (m .entries) ≡ true) where
@@ -51,8 +54,11 @@ module _ (read : Columns) (n : ℕ) (m : Ballot) (shape : Shape read n) (room : 
       let here = getD-set-same (read .present) n true false (omega (arith, shape .present-long)) in
       let vote = getD-set-same (read .votes) n (m .vote) 0 (omega (arith, shape .votes-long)) in
       let stamp = getD-set-same (read .stamps) n (m .stamp) 0 (omega (arith, shape .stamps-long)) in
-      let entries = listed-laid 64 0 (64 * n) (read .histories) (m .entries) refl (omega (arith, shape .histories-long)) ok
-          (λ j from less. shape .clear (64 * n + j) (omega arith)) in
+      let entries = listed-laid 64 0 (64 * n) (read .histories) (m .entries) refl (omega (
+        arith,
+        shape .histories-long,
+      )) ok
+      (λ j from less. shape .clear (64 * n + j) (omega arith)) in
       rw here (ap some (λ i. record { vote = vote i; stamp = stamp i; entries = entries i }))
 
   -- slots before it say what they said
@@ -61,13 +67,17 @@ module _ (read : Columns) (n : ℕ) (m : Ballot) (shape : Shape read n) (room : 
       let other : q ≢ n = (λ e. omega arith) in
       let row = drop (64 * q) (laid (read .histories) (64 * n) (m .entries)) in
       let same : listed row 0 64 ≡ listed (drop (64 * q) (read .histories)) 0 64 =
-          listed-same row (drop (64 * q) (read .histories)) 0 64
-          (λ j from less′.
-          getD-drop (64 * q) (laid (read .histories) (64 * n) (m .entries)) j 0
-          ∙ laid-before (read .histories) (64 * n) (64 * q + j) (m .entries) (omega arith)
-          ∙ sym (getD-drop (64 * q) (read .histories) j 0)) in
-      rw (getD-set-other (read .present) n q true false other, getD-set-other (read .votes) n q (m .vote) 0 other,
-        getD-set-other (read .stamps) n q (m .stamp) 0 other, same)
+      listed-same row (drop (64 * q) (read .histories)) 0 64
+      (λ j from less′.
+      getD-drop (64 * q) (laid (read .histories) (64 * n) (m .entries)) j 0
+      ∙ laid-before (read .histories) (64 * n) (64 * q + j) (m .entries) (omega arith)
+      ∙ sym (getD-drop (64 * q) (read .histories) j 0)) in
+      rw (
+        getD-set-other (read .present) n q true false other,
+        getD-set-other (read .votes) n q (m .vote) 0 other,
+        getD-set-other (read .stamps) n q (m .stamp) 0 other,
+        same,
+      )
 
   put-shape : Shape (put read n (some m)) (suc n)
   put-shape = record {

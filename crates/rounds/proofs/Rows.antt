@@ -51,13 +51,13 @@ laid-after h row place es below more = laid-misses h row place es (misses es bel
     misses (e ∷ es) below = ((λ q. omega (arith, below .0)), misses es (below .1))
 
 -- what an entry that keeps its bounds says, with those after it
-record Rising (least phase : ℕ) (e : Entry) (es : List Entry) : Type 0 where
-  from : least ≤ e .phase
-  below : e .phase < phase
-  full : leb 1 (e .plan) ≡ true
-  rest : entriesOk (e .phase + 1) phase es ≡ true
+pub record Rising (least phase : ℕ) (e : Entry) (es : List Entry) : Type 0 where
+  pub from : least ≤ e .phase
+  pub below : e .phase < phase
+  pub full : leb 1 (e .plan) ≡ true
+  pub rest : entriesOk (e .phase + 1) phase es ≡ true
 
-rising : (least phase : ℕ) (e : Entry) (es : List Entry) → entriesOk least phase (e ∷ es) ≡ true → Rising least phase e es
+pub rising : (least phase : ℕ) (e : Entry) (es : List Entry) → entriesOk least phase (e ∷ es) ≡ true → Rising least phase e es
 unfolding entriesOk
 rising least phase e es ok =
     let first = leb least (e .phase) && ltb (e .phase) phase in
@@ -97,13 +97,13 @@ module _ (count least row : ℕ) (h : List ℕ) (e : Entry) (es : List Entry) (l
       let r = rising least 64 e es ok in
       let k = set h (row + e .phase) (e .plan) in
       let missed = laid-misses k row (row + e .phase) es
-          (from-misses (e .phase + 1) 64 row (e .phase) es (r .rest) (omega arith)) in
+      (from-misses (e .phase + 1) 64 row (e .phase) es (r .rest) (omega arith)) in
       let stored = getD-set-same h (row + e .phase) (e .plan) 0 (omega (arith, r .below)) in
       let plan : getD (drop row (laid k row es)) least 0 ≡ e .plan =
-          getD-drop row (laid k row es) least 0
-          ∙ ap (λ place. getD (laid k row es) (row + place) 0) (sym is)
-          ∙ missed
-          ∙ stored in
+      getD-drop row (laid k row es) least 0
+      ∙ ap (λ place. getD (laid k row es) (row + place) 0) (sym is)
+      ∙ missed
+      ∙ stored in
       rw (plan, r .full, ← is) (ap (λ rest. e ∷ rest) (rw (← is) at others))
 
   ahead-turn : e .phase ≢ least → getD h (row + least) 0 ≡ 0
@@ -113,7 +113,7 @@ module _ (count least row : ℕ) (h : List ℕ) (e : Entry) (es : List Entry) (l
   ahead-turn other clear others =
       let r = rising least 64 e es ok in
       let missed = laid-misses h row (row + least) (e ∷ es)
-          ((λ q. other (omega arith)), from-misses (e .phase + 1) 64 row least es (r .rest) (omega (arith, r .from))) in
+      ((λ q. other (omega arith)), from-misses (e .phase + 1) 64 row least es (r .rest) (omega (arith, r .from))) in
       let empty = getD-drop row (laid h row (e ∷ es)) least 0 ∙ missed ∙ clear in
       rw empty others
 

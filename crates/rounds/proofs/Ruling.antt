@@ -147,7 +147,7 @@ module _ (crew : Crew) (read : Columns) (n : ℕ) where
         let v = voteAt read q in
         let t = getD (read .stamps) q 0 in
         let listers = count-polled read n (lists v t) (listing (read .present) (read .histories) v t)
-            (λ k inside. ap (here k) (row-lists read k t v)) in
+        (λ k inside. ap (here k) (row-lists read k t v)) in
         on-slot read (backed three crew ballots) q
         ∙ sym (and-assoc (marked (read .present) q) (possible crew ballots (rowOf read q)) _)
         ∙ ap₂ (λ a k. a && ltb (crew .b) k) (sym (are q less ∙ on-slot read (possible crew ballots) q)) listers

@@ -13,7 +13,16 @@ ghost use lib.ListN.{length, set, drop};
 ghost use Rattle.message.specs.Reading.{readOf, entriesIn};
 ghost use Rattle.message.specs.Bounds.{entriesOk};
 ghost use Rattle.rounds.specs.Inbox.{slotAt, counted};
-ghost use Rattle.rounds.specs.Taking.{afterSelection, afterValidation, afterDecision};
+ghost use Rattle.wire.specs.Outcome.{accepted, verdict, valueOr};
+ghost use Rattle.rounds.specs.Taking.{
+  afterSelection,
+  afterValidation,
+  afterDecision,
+  afterRound,
+  takeOf,
+  answered as takenAs,
+};
+ghost use Rattle.rounds.specs.Asking.{askOf, answered as askedAs};
 ghost use lib.ListN.{getD};
 ghost use Rattle.ballot.specs.Count.{bit, tally};
 ghost use Rattle.ballot.specs.Least.{orZero};
@@ -88,15 +97,12 @@ const SLOT: usize = 202;
 const SLOTS: usize = 32;
 // A history has a place for each phase 0 to 63.
 const PHASES: usize = 64;
+
 const PLACES: usize = 2048;
 
 // What a slot says to a node: a ballot, of its history only how many entries it has, or nothing where it does not count.
 enum Said {
-    Ballot {
-        vote: u16,
-        stamp: u8,
-        count: u8,
-    },
+    Ballot { vote: u16, stamp: u8, count: u8 },
     Nothing,
 }
 
@@ -193,7 +199,12 @@ fn read_slot(
     present[q] = true;
     votes[q] = vote;
     stamps[q] = stamp;
-    lay_entries(histories, PHASES * q, message::entries_counted(slot, count), count as usize);
+    lay_entries(
+        histories,
+        PHASES * q,
+        message::entries_counted(slot, count),
+        count as usize,
+    );
 }
 
 // Reads the slots of an inbox, once, into empty columns.
@@ -218,7 +229,17 @@ fn read_slots(
     while q < n {
         let start = SLOT * q;
         let end = start + SLOT;
-        read_slot(&inbox[start..end], q, run, phase, round, present, votes, stamps, histories);
+        read_slot(
+            &inbox[start..end],
+            q,
+            run,
+            phase,
+            round,
+            present,
+            votes,
+            stamps,
+            histories,
+        );
         q = q + 1;
     }
 }
@@ -278,7 +299,13 @@ fn lists(histories: &[u16; 2048], q: usize, phase: u8, plan: u16) -> bool
 }
 
 // How many slots list the plan at a phase.
-fn count_listing(present: &[bool; 32], histories: &[u16; 2048], n: usize, plan: u16, phase: u8) -> usize
+fn count_listing(
+    present: &[bool; 32],
+    histories: &[u16; 2048],
+    n: usize,
+    plan: u16,
+    phase: u8,
+) -> usize
     requires { ⌜ n ≤ 32 ⌝ }
     ensures { λ r. ⌜ (r ≡ tally (listing (now (present .entry)) (now (histories .entry)) plan phase) n) × (r ≤ n) ⌝ }
 {
@@ -546,7 +573,13 @@ fn choose_three(
 }
 
 // 01: "answers a plan, 'any' or 'none'"
-fn choose(crew: Crew, present: &[bool; 32], votes: &[u16; 32], stamps: &[u8; 32], histories: &[u16; 2048]) -> Choice
+fn choose(
+    crew: Crew,
+    present: &[bool; 32],
+    votes: &[u16; 32],
+    stamps: &[u8; 32],
+    histories: &[u16; 2048],
+) -> Choice
     requires { ⌜ (crew .n ≤ 32) × (crew .d ≤ crew .n) ⌝ }
     ensures { λ r. ⌜ choiceAs r ≡ selection (classOf crew) crew
         (polled (columns (now (present .entry)) (now (votes .entry)) (now (stamps .entry)) (now (histories .entry))) (crew .n)) ⌝ }
@@ -582,7 +615,13 @@ fn any_plan(
 }
 
 // What a node takes: the plan, or 0 for 'none'.
-fn select(crew: Crew, present: &[bool; 32], votes: &[u16; 32], stamps: &[u8; 32], histories: &[u16; 2048]) -> u16
+fn select(
+    crew: Crew,
+    present: &[bool; 32],
+    votes: &[u16; 32],
+    stamps: &[u8; 32],
+    histories: &[u16; 2048],
+) -> u16
     requires { ⌜ (crew .n ≤ 32) × (crew .d ≤ crew .n) ⌝ }
     ensures { λ r. ⌜ r ≡ taken (classOf crew) crew
         (polled (columns (now (present .entry)) (now (votes .entry)) (now (stamps .entry)) (now (histories .entry))) (crew .n)) ⌝ }
@@ -639,7 +678,15 @@ fn decide(
 {
     let n = crew.n as usize;
     let fresh = mark_fresh(crew, phase, present, stamps);
-    let deciding = mark_above(present, &fresh, votes, stamps, n, crew.d as usize - 1, false);
+    let deciding = mark_above(
+        present,
+        &fresh,
+        votes,
+        stamps,
+        n,
+        crew.d as usize - 1,
+        false,
+    );
     least_marked(&deciding, votes, n)
 }
 
@@ -700,4 +747,131 @@ fn after_decision(node: Node, plan: u16) -> Node
         return next;
     }
     next
+}
+
+// The record after its coming round, with the ballots of the columns.
+fn after_round(
+    node: Node,
+    present: &[bool; 32],
+    votes: &[u16; 32],
+    stamps: &[u8; 32],
+    histories: &[u16; 2048],
+) -> Node
+    requires { ⌜ (node .phase < 64) × (node .crew .n ≤ 32) × (node .crew .d ≤ node .crew .n) × (1 ≤ node .crew .d) ⌝ }
+    ensures { λ r. ⌜ r ≡ afterRound node
+        (polled (columns (now (present .entry)) (now (votes .entry)) (now (stamps .entry)) (now (histories .entry)))
+        (node .crew .n)) ⌝ }
+{
+    let crew = node.crew;
+    if node.round == Node::SELECTION {
+        return after_selection(node, select(crew, present, votes, stamps, histories));
+    }
+    if node.round == Node::VALIDATION {
+        return after_validation(node, validate(crew, present, votes, stamps, histories));
+    }
+    after_decision(
+        node,
+        decide(crew, node.phase, present, votes, stamps, histories),
+    )
+}
+
+fn refuse_take(node: Node, why: Refusal) -> Taken
+    ensures { λ r. ⌜ (r .answer ≡ Taking.Refused why) × (r .node ≡ node) ⌝ }
+{
+    Taken {
+        answer: Taking::Refused(why),
+        node: node,
+    }
+}
+
+// Takes the coming round with this inbox: the next record, or a refusal and the record as it was.
+pub fn take(node: Node, inbox: &[u8]) -> Taken
+    ensures { λ r. ⌜ (takenAs (r .answer) ≡ verdict (takeOf node (now (inbox .entry))))
+        × (r .node ≡ valueOr node (takeOf node (now (inbox .entry)))) ⌝ }
+{
+    if node.is_sound() {
+        if node.phase < Node::SPENT {
+            let n = node.crew.n as usize;
+            if inbox.len() == SLOT * n {
+                let mut present = [false; SLOTS];
+                let mut votes = [0u16; SLOTS];
+                let mut stamps = [0u8; SLOTS];
+                let mut histories = [0u16; PLACES];
+                read_slots(
+                    inbox,
+                    n,
+                    node.run,
+                    node.phase,
+                    node.round,
+                    &mut present,
+                    &mut votes,
+                    &mut stamps,
+                    &mut histories,
+                );
+                return Taken {
+                    answer: Taking::Accepted,
+                    node: after_round(node, &present, &votes, &stamps, &histories),
+                };
+            }
+            return refuse_take(node, Refusal::Inbox);
+        }
+        return refuse_take(node, Refusal::Spent);
+    }
+    refuse_take(node, Refusal::Unsound)
+}
+
+fn refuse_ask(node: Node, why: Refusal) -> Asked
+    ensures { λ r. ⌜ (r .answer ≡ Asking.Refused why) × (r .node ≡ node) ⌝ }
+{
+    Asked {
+        answer: Asking::Refused(why),
+        node: node,
+    }
+}
+
+fn to_asking(choice: Choice) -> Asking
+    ensures { λ r. ⌜ askedAs r ≡ accepted (choiceAs choice) ⌝ }
+{
+    match choice {
+        Choice::Plan(plan) => Asking::Plan(plan),
+        Choice::Any => Asking::Any,
+        Choice::Nothing => Asking::Nothing,
+    }
+}
+
+// Tells the coming selection with this inbox, and leaves the record as it was.
+pub fn ask(node: Node, inbox: &[u8]) -> Asked
+    ensures { λ r. ⌜ (askedAs (r .answer) ≡ askOf node (now (inbox .entry))) × (r .node ≡ node) ⌝ }
+{
+    let selecting = node.is_sound() & (node.round == Node::SELECTION);
+    if selecting {
+        if node.phase < Node::SPENT {
+            let n = node.crew.n as usize;
+            if inbox.len() == SLOT * n {
+                let mut present = [false; SLOTS];
+                let mut votes = [0u16; SLOTS];
+                let mut stamps = [0u8; SLOTS];
+                let mut histories = [0u16; PLACES];
+                read_slots(
+                    inbox,
+                    n,
+                    node.run,
+                    node.phase,
+                    node.round,
+                    &mut present,
+                    &mut votes,
+                    &mut stamps,
+                    &mut histories,
+                );
+                let choice = choose(node.crew, &present, &votes, &stamps, &histories);
+                return Asked {
+                    answer: to_asking(choice),
+                    node: node,
+                };
+            }
+            return refuse_ask(node, Refusal::Inbox);
+        }
+        return refuse_ask(node, Refusal::Spent);
+    }
+    refuse_ask(node, Refusal::Unsound)
 }

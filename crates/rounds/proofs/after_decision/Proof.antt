@@ -1,19 +1,14 @@
-use borrow.Author.Tests.{eq-eqb, ne-eqb}
 use borrow.Author.Needs.{needs}
+use borrow.Author.Tests.{eq-eqb, ne-eqb}
 use Rattle.rounds.proofs.after_decision.Statement.{statement}
 use Rattle.rounds.proofs.after_decision.Tie as tie
-use Rattle.rounds.proofs.after_decision.Reads as reads
-use Rattle.rounds.proofs.after_decision.Lts as lts
 
--- src/lib.rt:696:18
 add-next : tie.Need-add-next
 add-next c = search needs
 
--- src/lib.rt:700:9
 returns : tie.Need-returns
 returns c = simp (eq-eqb _ _ (c .if1 .taken))
 
--- src/lib.rt:691:1
 returns-2 : tie.Need-returns-2
 returns-2 c = simp (ne-eqb _ _ (c .if1 .left))
 

@@ -1,36 +1,25 @@
-use mathlib.Core.Path.{_≡_, sym, _∙_, ap}
 use borrow.Author.Needs.{needs}
 use Rattle.rounds.proofs.answer_three.Statement.{statement}
 use Rattle.rounds.proofs.answer_three.Tie as tie
-use Rattle.rounds.proofs.answer_three.Reads as reads
-use Rattle.rounds.proofs.answer_three.Lts as lts
-use Rattle.rounds.proofs.any_if.Reads as any-if-reads
 
--- src/lib.rt:444:23
 enum-known-backing : tie.Need-enum-known-backing
 enum-known-backing c = search needs
 
--- src/lib.rt:445:28
 enum-told : tie.Need-enum-told
 enum-told c = search needs
 
--- src/lib.rt:445:28
 any-if-requires : tie.Need-any-if-requires
 any-if-requires c κs = search needs
 
--- src/lib.rt:446:29
 enum-told-2 : tie.Need-enum-told-2
 enum-told-2 c = search needs
 
--- src/lib.rt:440:1
 returns : tie.Need-returns
 returns c = simp (c .before .backing .given .1)
 
--- src/lib.rt:440:1
 returns-2 : tie.Need-returns-2
 returns-2 c = search needs
 
--- src/lib.rt:440:1
 returns-3 : tie.Need-returns-3
 returns-3 c = search needs
 

@@ -1,72 +1,69 @@
-use Rattle.message.specs.Reading.{answered, entriesIn}
-use mathlib.Core.Path.{_≡_, sym, _∙_, ap}
-use denote.Ref.{now}
+use mathlib.Core.Path.{sym, _∙_, ap}
 use borrow.Author.Needs.{needs}
+use denote.Ref.{now}
+use Rattle.message.specs.Reading.{answered, entriesIn}
 use Rattle.rounds.proofs.hear.Statement.{statement}
 use Rattle.rounds.proofs.hear.Tie as tie
-use Rattle.rounds.proofs.hear.Reads as reads
-use Rattle.rounds.proofs.hear.Lts as lts
-use Rattle.message.proofs.read.Reads as read-reads
 
--- src/lib.rt:60:9
 read-requires : tie.Need-read-requires
 read-requires c κs = search needs
 
--- src/lib.rt:63:18
 enum-known-reading : tie.Need-enum-known-reading
 enum-known-reading c = search needs
 
--- src/lib.rt:71:17
 returns : tie.Need-returns
-returns c = let s = now (c .before .before .before .before .before .before .args .slot) in
-    let as-read = sym (c .before .before .before .before .read .ensures) ∙ ap (λ r. answered r s) (c .before .before .reading .given .1) in
+returns c =
+    let b4 = c .before .before .before .before in
+    let s = now (b4 .before .before .args .slot) in
+    let as-read = sym (b4 .read .ensures) ∙ ap (λ r. answered r s) (c .before .before .reading .given .1) in
     simp (as-read, c .if1 .taken)
 
--- src/lib.rt:76:18
 enum-known-reading-2 : tie.Need-enum-known-reading-2
 enum-known-reading-2 c = search needs
 
--- src/lib.rt:82:17
 returns-2 : tie.Need-returns-2
 unfolding entriesIn
-returns-2 c = let s = now (c .before .before .before .before .before .before .args .slot) in
-    let as-read = sym (c .before .before .before .before .read .ensures) ∙ ap (λ r. answered r s) (c .before .before .reading2 .given .1) in
+returns-2 c =
+    let b4 = c .before .before .before .before in
+    let s = now (b4 .before .before .args .slot) in
+    let as-read = sym (b4 .read .ensures) ∙ ap (λ r. answered r s) (c .before .before .reading2 .given .1) in
     simp (as-read, c .if2 .taken)
 
--- src/lib.rt:91:18
 enum-known-reading-3 : tie.Need-enum-known-reading-3
 enum-known-reading-3 c = search needs
 
--- src/lib.rt:98:17
 returns-3 : tie.Need-returns-3
 unfolding entriesIn
-returns-3 c = let s = now (c .before .before .before .before .before .before .args .slot) in
-    let as-read = sym (c .before .before .before .before .read .ensures) ∙ ap (λ r. answered r s) (c .before .before .reading3 .given .1) in
+returns-3 c =
+    let b4 = c .before .before .before .before in
+    let s = now (b4 .before .before .args .slot) in
+    let as-read = sym (b4 .read .ensures) ∙ ap (λ r. answered r s) (c .before .before .reading3 .given .1) in
     simp (as-read, c .if3 .taken)
 
--- src/lib.rt:106:32
 enum-told : tie.Need-enum-told
 enum-told c = search needs
 
--- src/lib.rt:57:1
 returns-4 : tie.Need-returns-4
-returns-4 c = let s = now (c .before .before .before .before .before .before .args .slot) in
-    let as-read = sym (c .before .before .before .before .read .ensures) ∙ ap (λ r. answered r s) (c .before .before .reading .given .1) in
+returns-4 c =
+    let b4 = c .before .before .before .before in
+    let s = now (b4 .before .before .args .slot) in
+    let as-read = sym (b4 .read .ensures) ∙ ap (λ r. answered r s) (c .before .before .reading .given .1) in
     simp (as-read, c .if1 .left)
 
--- src/lib.rt:57:1
 returns-5 : tie.Need-returns-5
-returns-5 c = let s = now (c .before .before .before .before .before .before .args .slot) in
-    let as-read = sym (c .before .before .before .before .read .ensures) ∙ ap (λ r. answered r s) (c .before .before .reading2 .given .1) in
+returns-5 c =
+    let b4 = c .before .before .before .before in
+    let s = now (b4 .before .before .args .slot) in
+    let as-read = sym (b4 .read .ensures) ∙ ap (λ r. answered r s) (c .before .before .reading2 .given .1) in
     simp (as-read, c .if2 .left)
 
--- src/lib.rt:57:1
 returns-6 : tie.Need-returns-6
-returns-6 c = let s = now (c .before .before .before .before .before .before .args .slot) in
-    let as-read = sym (c .before .before .before .before .read .ensures) ∙ ap (λ r. answered r s) (c .before .before .reading3 .given .1) in
+returns-6 c =
+    let b4 = c .before .before .before .before in
+    let s = now (b4 .before .before .args .slot) in
+    let as-read = sym (b4 .read .ensures) ∙ ap (λ r. answered r s) (c .before .before .reading3 .given .1) in
     simp (as-read, c .if3 .left)
 
--- src/lib.rt:57:1
 returns-7 : tie.Need-returns-7
 returns-7 c = let s = now (c .before .before .before .before .args .slot) in
     let as-read = sym (c .before .before .read .ensures) ∙ ap (λ r. answered r s) (c .enum-told .given .1) in

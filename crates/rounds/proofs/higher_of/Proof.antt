@@ -1,14 +1,10 @@
 use native.Mathlib.Omega.{arith}
 use Rattle.rounds.proofs.higher_of.Statement.{statement}
 use Rattle.rounds.proofs.higher_of.Tie as tie
-use Rattle.rounds.proofs.higher_of.Reads as reads
-use Rattle.rounds.proofs.higher_of.Lts as lts
 
--- src/lib.rt:362:1
 returns : tie.Need-returns
 returns c = (simp (c .if1 .taken), omega arith)
 
--- src/lib.rt:362:1
 returns-2 : tie.Need-returns-2
 returns-2 c = (simp (c .if1 .left), omega arith)
 

@@ -1,21 +1,15 @@
 use mathlib.Core.Option.{Option, some}
-use Rattle.ballot.specs.Least.{orZero}
-use Rattle.rounds.proofs.Marking.{small-turn}
-use Prim.Native.Nat.{ℕ}
-use mathlib.Core.Option.{some}
-use denote.Ref.{now}
-use lib.ListN.{getD}
-use Prim.Native.Nat.{_≤_, _-_, _<_}
+use mathlib.Core.Path.{_≡_, refl, ap, _∙_}
+use Prim.Native.Nat.{ℕ, _≤_, _-_, _<_}
 use native.Mathlib.Omega.{arith}
-use mathlib.Core.Path.{_≡_, refl, sym, ap, _∙_}
-use Rattle.rounds.proofs.Marking.{orTop, top-none, top-some, least-turn}
-use Rattle.rounds.specs.Marks.{marked, leastMarked}
+use lib.ListN.{getD}
 use borrow.Author.Needs.{needs}
+use denote.Ref.{now}
+use Rattle.ballot.specs.Least.{orZero}
+use Rattle.rounds.proofs.Marking.{small-turn, orTop, top-none, top-some, least-turn}
+use Rattle.rounds.specs.Marks.{marked, leastMarked}
 use Rattle.rounds.proofs.least_marked.Statement.{statement}
 use Rattle.rounds.proofs.least_marked.Tie as tie
-use Rattle.rounds.proofs.least_marked.Reads as reads
-use Rattle.rounds.proofs.least_marked.Lts as lts
-use Rattle.rounds.proofs.lower_of.Reads as lower-of-reads
 
 abbrev Inv-loop : tie.InvT-loop
 Inv-loop marks votes n least₀ q₀ least q =
@@ -26,63 +20,65 @@ Inv-loop marks votes n least₀ q₀ least q =
 abbrev μ-loop : tie.MeasureT-loop
 μ-loop marks votes n least₀ q₀ least q = n - q
 
--- src/lib.rt:354:5
 loop-holds : tie.Need-loop-holds Inv-loop μ-loop
 unfolding leastMarked
 loop-holds c = (omega arith, refl, λ v e. absurd (let z : _≡_ {A = ℕ} 0 1 = cc in omega arith))
 
--- src/lib.rt:355:26
 element-copy-out-lower-of : tie.Need-element-copy-out-lower-of Inv-loop μ-loop
 element-copy-out-lower-of c = search needs
 
--- src/lib.rt:355:36
 mul-lower-of : tie.Need-mul-lower-of Inv-loop μ-loop
 mul-lower-of c = search needs
 
--- src/lib.rt:355:36
 element-copy-out-lower-of-2 : tie.Need-element-copy-out-lower-of-2 Inv-loop μ-loop
 element-copy-out-lower-of-2 c = search needs
 
--- src/lib.rt:355:9
 lower-of-requires : tie.Need-lower-of-requires Inv-loop μ-loop
 lower-of-requires c κs = search needs
 
--- src/lib.rt:356:13
 add-q : tie.Need-add-q Inv-loop μ-loop
 add-q c = search needs
 
--- src/lib.rt:354:5
 loop-less : tie.Need-loop-less Inv-loop μ-loop
 loop-less c = search needs
 
--- src/lib.rt:354:5
 loop-again : tie.Need-loop-again Inv-loop μ-loop
-loop-again c = let a = c .before .before .before .before .before .args in
+loop-again c =
+    let b4 = c .before .before .before .before in
+    let a = b4 .before .args in
     let number : ℕ → ℕ = λ k. getD (now (a .votes)) k 0 in
-    let small = c .lower-of .ensures .1 in
-    (omega arith,
-    c .lower-of .ensures .0 ∙ least-turn (marked (now (a .marks))) number (c .before .before .before .before .loop .q) (c .before .before .before .before .loop .least) small (c .before .before .before .before .loop .inv .1),
-    small-turn (marked (now (a .marks))) number (c .before .before .before .before .loop .q) small (c .before .before .before .before .loop .inv .2))
+    let small = c .lower-of .ensures .1 in (
+      omega arith,
+      c .lower-of .ensures .0 ∙ least-turn (marked (now (a .marks))) number (b4 .loop .q) (b4 .loop .least) small (b4 .loop .inv .1),
+      small-turn (marked (now (a .marks))) number (b4 .loop .q) small (b4 .loop .inv .2),
+    )
 
--- src/lib.rt:358:24
 cast-result : tie.Need-cast-result Inv-loop μ-loop
 cast-result c = search needs
 
--- src/lib.rt:347:1
 returns : tie.Need-returns Inv-loop μ-loop
-returns c = let a = c .before .before .before .args in
+returns c =
+    let a = c .before .before .before .args in
     let number : ℕ → ℕ = λ k. getD (now (a .votes)) k 0 in
     let least : ℕ → Option ℕ = leastMarked (marked (now (a .marks))) number in
-    let done : c .before .before .loop .q ≡ a .n = omega (arith, c .before .before .loop .inv .0, c .before .loop-test .left) in
+    let done : c .before .before .loop .q ≡ a .n = omega (
+      arith,
+      c .before .before .loop .inv .0,
+      c .before .loop-test .left,
+    ) in
     let below = rw (c .before .before .loop .inv .1) at (c .if1 .taken) in
     c .before .before .loop .inv .1 ∙ top-some (least (c .before .before .loop .q)) below ∙ ap (λ k. orZero (least k)) done
 
--- src/lib.rt:347:1
 returns-2 : tie.Need-returns-2 Inv-loop μ-loop
-returns-2 c = let a = c .before .before .before .args in
+returns-2 c =
+    let a = c .before .before .before .args in
     let number : ℕ → ℕ = λ k. getD (now (a .votes)) k 0 in
     let least : ℕ → Option ℕ = leastMarked (marked (now (a .marks))) number in
-    let done : c .before .before .loop .q ≡ a .n = omega (arith, c .before .before .loop .inv .0, c .before .loop-test .left) in
+    let done : c .before .before .loop .q ≡ a .n = omega (
+      arith,
+      c .before .before .loop .inv .0,
+      c .before .loop-test .left,
+    ) in
     let top = rw (c .before .before .loop .inv .1) at (c .if1 .left) in
     top-none (least (c .before .before .loop .q)) top (c .before .before .loop .inv .2) ∙ ap (λ k. orZero (least k)) done
 

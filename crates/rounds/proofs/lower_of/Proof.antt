@@ -1,27 +1,23 @@
 use native.Mathlib.Omega.{arith}
-use lib.Dec.{ltb}
-use Prim.Native.Nat.{ℕ}
-use mathlib.Core.Path.{sym, _∙_, ap}
 use borrow.Author.Needs.{needs}
 use Rattle.rounds.proofs.lower_of.Statement.{statement}
 use Rattle.rounds.proofs.lower_of.Tie as tie
-use Rattle.rounds.proofs.lower_of.Reads as reads
-use Rattle.rounds.proofs.lower_of.Lts as lts
-use Rattle.rounds.proofs.wide.Reads as wide-reads
 
--- src/lib.rt:342:26
 wide-requires : tie.Need-wide-requires
 wide-requires c κs = search needs
 
--- src/lib.rt:343:17
 wide-requires-2 : tie.Need-wide-requires-2
 wide-requires-2 c κs = search needs
 
--- src/lib.rt:339:1
 returns : tie.Need-returns
-returns c = (simp (rw (c .before .before .wide .ensures .0) at (c .before .if1 .taken), c .wide2 .ensures .0), omega (arith, c .before .before .wide .ensures))
+returns c = (
+  simp (
+    rw (c .before .before .wide .ensures .0) at (c .before .if1 .taken),
+    c .wide2 .ensures .0,
+  ),
+  omega (arith, c .before .before .wide .ensures),
+)
 
--- src/lib.rt:339:1
 returns-2 : tie.Need-returns-2
 returns-2 c = (simp (rw (c .before .wide .ensures .0) at (c .if1 .left)), omega (arith, c .before .wide .ensures))
 

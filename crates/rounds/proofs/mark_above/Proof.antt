@@ -1,17 +1,13 @@
-use lib.ListN.{length, length-set}
-use denote.Ref.{now}
-use Prim.Native.Nat.{_≤_, _-_, _<_}
+use mathlib.Core.Path.{_≡_, refl, _∙_}
+use Prim.Native.Nat.{_≤_, _-_}
 use native.Mathlib.Omega.{arith}
-use mathlib.Core.Path.{_≡_, refl, ap, _∙_}
+use lib.ListN.{length, length-set}
+use borrow.Author.Needs.{needs}
+use denote.Ref.{now}
 use Rattle.rounds.proofs.Marking.{marks-next}
 use Rattle.rounds.specs.Marks.{Marks, above}
-use borrow.Author.Needs.{needs}
 use Rattle.rounds.proofs.mark_above.Statement.{statement}
 use Rattle.rounds.proofs.mark_above.Tie as tie
-use Rattle.rounds.proofs.mark_above.Reads as reads
-use Rattle.rounds.proofs.mark_above.Lts as lts
-use Rattle.rounds.proofs.below_of.Reads as below-of-reads
-use Rattle.rounds.proofs.count_supporting.Reads as count-supporting-reads
 
 abbrev Inv-loop : tie.InvT-loop
 Inv-loop present marks votes stamps n threshold stamped out₀ q₀ out q =
@@ -22,59 +18,55 @@ Inv-loop present marks votes stamps n threshold stamped out₀ q₀ out q =
 abbrev μ-loop : tie.MeasureT-loop
 μ-loop present marks votes stamps n threshold stamped out₀ q₀ out q = n - q
 
--- src/lib.rt:284:5
 loop-holds : tie.Need-loop-holds Inv-loop μ-loop
 loop-holds c = (omega arith, refl, λ k less. absurd (omega arith))
 
--- src/lib.rt:285:39
 element-copy-out-below-of : tie.Need-element-copy-out-below-of Inv-loop μ-loop
 element-copy-out-below-of c = search needs
 
--- src/lib.rt:285:13
 below-of-requires : tie.Need-below-of-requires Inv-loop μ-loop
 below-of-requires c κs = search needs
 
--- src/lib.rt:286:68
 mul-count-supporting : tie.Need-mul-count-supporting Inv-loop μ-loop
 mul-count-supporting c = search needs
 
--- src/lib.rt:286:68
 element-copy-out-count-supporting : tie.Need-element-copy-out-count-supporting Inv-loop μ-loop
 element-copy-out-count-supporting c = search needs
 
--- src/lib.rt:286:13
 count-supporting-requires : tie.Need-count-supporting-requires Inv-loop μ-loop
 count-supporting-requires c κs = search needs
 
--- src/lib.rt:287:18
 element-copy-out-out : tie.Need-element-copy-out-out Inv-loop μ-loop
 element-copy-out-out c = search needs
 
--- src/lib.rt:287:9
 array-write-out : tie.Need-array-write-out Inv-loop μ-loop
 array-write-out c = search needs
 
--- src/lib.rt:288:13
 add-q : tie.Need-add-q Inv-loop μ-loop
 add-q c = search needs
 
--- src/lib.rt:284:5
 loop-less : tie.Need-loop-less Inv-loop μ-loop
 loop-less c = search needs
 
--- src/lib.rt:284:5
 loop-again : tie.Need-loop-again Inv-loop μ-loop
-loop-again c = let a = c .before .before .before .before .before .before .before .args in
-    let l = c .before .before .before .before .before .before .loop in
-    let test = above (now (a .present)) (now (a .marks)) (now (a .votes)) (now (a .stamps)) (a .n) (a .threshold) (a .stamped) in
-    (omega arith,
-    length-set (l .out) (l .q) _ ∙ l .inv .1,
-    marks-next (l .out) (l .q) test _ (omega (arith, l .inv .1, c .before .before .before .before .before .loop-test .taken)) (l .inv .2)
-        (simp (c .before .count-supporting .ensures .0, c .before .before .before .below-of .ensures)))
+loop-again c =
+    let b4 = c .before .before .before .before in
+    let a = b4 .before .before .before .args in
+    let l = b4 .before .before .loop in
+    let test = above (now (a .present)) (now (a .marks)) (now (a .votes)) (now (a .stamps)) (a .n) (a .threshold) (a .stamped) in (
+      omega arith,
+      length-set (l .out) (l .q) _ ∙ l .inv .1,
+      marks-next (l .out) (l .q) test _ (omega (arith, l .inv .1, b4 .before .loop-test .taken)) (l .inv .2)
+          (simp (c .before .count-supporting .ensures .0, c .before .before .before .below-of .ensures)),
+    )
 
--- src/lib.rt:269:1
 returns : tie.Need-returns Inv-loop μ-loop
-returns c = let done : c .before .loop .q ≡ c .before .before .args .n = omega (arith, c .before .loop .inv .0, c .loop-test .left) in
+returns c =
+    let done : c .before .loop .q ≡ c .before .before .args .n = omega (
+      arith,
+      c .before .loop .inv .0,
+      c .loop-test .left,
+    ) in
     λ k less. c .before .loop .inv .2 k (omega arith)
 
 pub mark-above-spec : {M : Type 1} → statement M

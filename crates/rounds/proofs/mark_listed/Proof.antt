@@ -1,16 +1,13 @@
-use lib.ListN.{length, length-set}
-use denote.Ref.{now}
-use Prim.Native.Nat.{_≤_, _-_, _<_}
+use mathlib.Core.Path.{_≡_, refl, _∙_}
+use Prim.Native.Nat.{_≤_, _-_}
 use native.Mathlib.Omega.{arith}
-use mathlib.Core.Path.{_≡_, refl, ap, _∙_}
+use lib.ListN.{length, length-set}
+use borrow.Author.Needs.{needs}
+use denote.Ref.{now}
 use Rattle.rounds.proofs.Marking.{marks-next}
 use Rattle.rounds.specs.Marks.{Marks, listedAbove}
-use borrow.Author.Needs.{needs}
 use Rattle.rounds.proofs.mark_listed.Statement.{statement}
 use Rattle.rounds.proofs.mark_listed.Tie as tie
-use Rattle.rounds.proofs.mark_listed.Reads as reads
-use Rattle.rounds.proofs.mark_listed.Lts as lts
-use Rattle.rounds.proofs.count_listing.Reads as count-listing-reads
 
 abbrev Inv-loop : tie.InvT-loop
 Inv-loop marks present votes stamps histories n threshold out₀ q₀ out q =
@@ -21,55 +18,52 @@ Inv-loop marks present votes stamps histories n threshold out₀ q₀ out q =
 abbrev μ-loop : tie.MeasureT-loop
 μ-loop marks present votes stamps histories n threshold out₀ q₀ out q = n - q
 
--- src/lib.rt:324:5
 loop-holds : tie.Need-loop-holds Inv-loop μ-loop
 loop-holds c = (omega arith, refl, λ k less. absurd (omega arith))
 
--- src/lib.rt:325:60
 mul-count-listing : tie.Need-mul-count-listing Inv-loop μ-loop
 mul-count-listing c = search needs
 
--- src/lib.rt:325:60
 element-copy-out-count-listing : tie.Need-element-copy-out-count-listing Inv-loop μ-loop
 element-copy-out-count-listing c = search needs
 
--- src/lib.rt:325:70
 element-copy-out-count-listing-2 : tie.Need-element-copy-out-count-listing-2 Inv-loop μ-loop
 element-copy-out-count-listing-2 c = search needs
 
--- src/lib.rt:325:13
 count-listing-requires : tie.Need-count-listing-requires Inv-loop μ-loop
 count-listing-requires c κs = search needs
 
--- src/lib.rt:326:18
 element-copy-out-out : tie.Need-element-copy-out-out Inv-loop μ-loop
 element-copy-out-out c = search needs
 
--- src/lib.rt:326:9
 array-write-out : tie.Need-array-write-out Inv-loop μ-loop
 array-write-out c = search needs
 
--- src/lib.rt:327:13
 add-q : tie.Need-add-q Inv-loop μ-loop
 add-q c = search needs
 
--- src/lib.rt:324:5
 loop-less : tie.Need-loop-less Inv-loop μ-loop
 loop-less c = search needs
 
--- src/lib.rt:324:5
 loop-again : tie.Need-loop-again Inv-loop μ-loop
-loop-again c = let a = c .before .before .before .before .before .before .args in
-    let l = c .before .before .before .before .before .loop in
-    let test = listedAbove (now (a .marks)) (now (a .present)) (now (a .votes)) (now (a .stamps)) (now (a .histories)) (a .n) (a .threshold) in
-    (omega arith,
-    length-set (l .out) (l .q) _ ∙ l .inv .1,
-    marks-next (l .out) (l .q) test _ (omega (arith, l .inv .1, c .before .before .before .before .loop-test .taken)) (l .inv .2)
-        (simp (c .before .count-listing .ensures .0)))
+loop-again c =
+    let b4 = c .before .before .before .before in
+    let a = b4 .before .before .args in
+    let l = b4 .before .loop in
+    let test = listedAbove (now (a .marks)) (now (a .present)) (now (a .votes)) (now (a .stamps)) (now (a .histories)) (a .n) (a .threshold) in (
+      omega arith,
+      length-set (l .out) (l .q) _ ∙ l .inv .1,
+      marks-next (l .out) (l .q) test _ (omega (arith, l .inv .1, b4 .loop-test .taken)) (l .inv .2)
+          (simp (c .before .count-listing .ensures .0)),
+    )
 
--- src/lib.rt:308:1
 returns : tie.Need-returns Inv-loop μ-loop
-returns c = let done : c .before .loop .q ≡ c .before .before .args .n = omega (arith, c .before .loop .inv .0, c .loop-test .left) in
+returns c =
+    let done : c .before .loop .q ≡ c .before .before .args .n = omega (
+      arith,
+      c .before .loop .inv .0,
+      c .loop-test .left,
+    ) in
     λ k less. c .before .loop .inv .2 k (omega arith)
 
 pub mark-listed-spec : {M : Type 1} → statement M

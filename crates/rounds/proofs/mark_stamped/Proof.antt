@@ -1,16 +1,13 @@
-use lib.ListN.{length, length-set}
-use denote.Ref.{now}
-use lib.ListN.{length}
-use Prim.Native.Nat.{_≤_, _-_, _<_}
+use mathlib.Core.Path.{_≡_, refl, _∙_}
+use Prim.Native.Nat.{_≤_, _-_}
 use native.Mathlib.Omega.{arith}
-use mathlib.Core.Path.{_≡_, refl, ap, _∙_}
+use lib.ListN.{length, length-set}
+use borrow.Author.Needs.{needs}
+use denote.Ref.{now}
 use Rattle.rounds.proofs.Marking.{marks-next}
 use Rattle.rounds.specs.Marks.{Marks, stampedWith}
-use borrow.Author.Needs.{needs}
 use Rattle.rounds.proofs.mark_stamped.Statement.{statement}
 use Rattle.rounds.proofs.mark_stamped.Tie as tie
-use Rattle.rounds.proofs.mark_stamped.Reads as reads
-use Rattle.rounds.proofs.mark_stamped.Lts as lts
 
 abbrev Inv-loop : tie.InvT-loop
 Inv-loop present stamps n stamp out₀ q₀ out q =
@@ -21,42 +18,40 @@ Inv-loop present stamps n stamp out₀ q₀ out q =
 abbrev μ-loop : tie.MeasureT-loop
 μ-loop present stamps n stamp out₀ q₀ out q = n - q
 
--- src/lib.rt:300:5
 loop-holds : tie.Need-loop-holds Inv-loop μ-loop
 loop-holds c = (omega arith, refl, λ k less. absurd (omega arith))
 
--- src/lib.rt:301:18
 element-copy-out-out : tie.Need-element-copy-out-out Inv-loop μ-loop
 element-copy-out-out c = search needs
 
--- src/lib.rt:301:32
 element-copy-out-out-2 : tie.Need-element-copy-out-out-2 Inv-loop μ-loop
 element-copy-out-out-2 c = search needs
 
--- src/lib.rt:301:9
 array-write-out : tie.Need-array-write-out Inv-loop μ-loop
 array-write-out c = search needs
 
--- src/lib.rt:302:13
 add-q : tie.Need-add-q Inv-loop μ-loop
 add-q c = search needs
 
--- src/lib.rt:300:5
 loop-less : tie.Need-loop-less Inv-loop μ-loop
 loop-less c = search needs
 
--- src/lib.rt:300:5
 loop-again : tie.Need-loop-again Inv-loop μ-loop
 loop-again c = let a = c .before .before .before .before .args in
-    let l = c .before .before .before .loop in
-    (omega arith,
-    length-set (l .out) (l .q) _ ∙ l .inv .1,
-    marks-next (l .out) (l .q) (stampedWith (now (a .present)) (now (a .stamps)) (a .stamp)) _
-    (omega (arith, l .inv .1, c .before .before .loop-test .taken)) (l .inv .2) refl)
+    let l = c .before .before .before .loop in (
+      omega arith,
+      length-set (l .out) (l .q) _ ∙ l .inv .1,
+      marks-next (l .out) (l .q) (stampedWith (now (a .present)) (now (a .stamps)) (a .stamp)) _
+          (omega (arith, l .inv .1, c .before .before .loop-test .taken)) (l .inv .2) refl,
+    )
 
--- src/lib.rt:294:1
 returns : tie.Need-returns Inv-loop μ-loop
-returns c = let done : c .before .loop .q ≡ c .before .before .args .n = omega (arith, c .before .loop .inv .0, c .loop-test .left) in
+returns c =
+    let done : c .before .loop .q ≡ c .before .before .args .n = omega (
+      arith,
+      c .before .loop .inv .0,
+      c .loop-test .left,
+    ) in
     rw (← done) (c .before .loop .inv .2)
 
 pub mark-stamped-spec : {M : Type 1} → statement M

@@ -1,23 +1,17 @@
-use Rattle.rounds.proofs.Marking.{highest-turn}
-use Prim.Native.Nat.{ℕ}
-use denote.Ref.{now}
-use lib.ListN.{getD}
-use Prim.Native.Nat.{_≤_, _-_, _<_}
+use mathlib.Core.Path.{_≡_, ap, _∙_}
+use Prim.Native.Nat.{ℕ, _≤_, _-_}
 use native.Mathlib.Omega.{arith}
-use mathlib.Core.Path.{_≡_, refl, sym, ap, _∙_}
+use lib.ListN.{getD}
+use borrow.Author.Needs.{needs}
+use denote.Ref.{now}
 use Rattle.ballot.specs.Count.{tally}
 use Rattle.rounds.proofs.Marking.{highest-turn}
 use Rattle.rounds.specs.Marks.{marked, supporting, highest}
-use borrow.Author.Needs.{needs}
 use Rattle.rounds.proofs.most_votes.Statement.{statement}
 use Rattle.rounds.proofs.most_votes.Tie as tie
-use Rattle.rounds.proofs.most_votes.Reads as reads
-use Rattle.rounds.proofs.most_votes.Lts as lts
-use Rattle.rounds.proofs.count_supporting.Reads as count-supporting-reads
-use Rattle.rounds.proofs.higher_of.Reads as higher-of-reads
 
 abbrev Inv-loop : tie.InvT-loop
-Inv-loop present votes stamps n best₀ q₀ best q = 
+Inv-loop present votes stamps n best₀ q₀ best q =
     (q ≤ n)
     × (best ≡ highest (marked present) (λ k. tally (supporting present votes stamps (getD votes k 0) 0) n) q)
     × (best ≤ 32)
@@ -25,49 +19,41 @@ Inv-loop present votes stamps n best₀ q₀ best q =
 abbrev μ-loop : tie.MeasureT-loop
 μ-loop present votes stamps n best₀ q₀ best q = n - q
 
--- src/lib.rt:378:5
 loop-holds : tie.Need-loop-holds Inv-loop μ-loop
 unfolding highest
 loop-holds c = search needs
 
--- src/lib.rt:379:70
 mul-count-supporting : tie.Need-mul-count-supporting Inv-loop μ-loop
 mul-count-supporting c = search needs
 
--- src/lib.rt:379:70
 element-copy-out-count-supporting : tie.Need-element-copy-out-count-supporting Inv-loop μ-loop
 element-copy-out-count-supporting c = search needs
 
--- src/lib.rt:379:13
 count-supporting-requires : tie.Need-count-supporting-requires Inv-loop μ-loop
 count-supporting-requires c κs = search needs
 
--- src/lib.rt:380:26
 element-copy-out-higher-of : tie.Need-element-copy-out-higher-of Inv-loop μ-loop
 element-copy-out-higher-of c = search needs
 
--- src/lib.rt:380:9
 higher-of-requires : tie.Need-higher-of-requires Inv-loop μ-loop
 higher-of-requires c κs = search needs
 
--- src/lib.rt:381:13
 add-q : tie.Need-add-q Inv-loop μ-loop
 add-q c = search needs
 
--- src/lib.rt:378:5
 loop-less : tie.Need-loop-less Inv-loop μ-loop
 loop-less c = search needs
 
--- src/lib.rt:378:5
 loop-again : tie.Need-loop-again Inv-loop μ-loop
-loop-again c = let a = c .before .before .before .before .before .before .args in
+loop-again c =
+    let b4 = c .before .before .before .before in
+    let a = b4 .before .before .args in
     let votes = now (a .votes) in
     let number : ℕ → ℕ = λ k. tally (supporting (now (a .present)) votes (now (a .stamps)) (getD votes k 0) 0) (a .n) in
     let counted = rw (c .before .before .count-supporting .ensures .0) at (c .higher-of .ensures .0) in
-    let turned = highest-turn (marked (now (a .present))) number (c .before .before .before .before .before .loop .q) (c .before .before .before .before .before .loop .best) (c .before .before .before .before .before .loop .inv .1) in
+    let turned = highest-turn (marked (now (a .present))) number (b4 .before .loop .q) (b4 .before .loop .best) (b4 .before .loop .inv .1) in
     (omega arith, counted ∙ turned, c .higher-of .ensures .1)
 
--- src/lib.rt:370:1
 returns : tie.Need-returns Inv-loop μ-loop
 returns c = let a = c .before .before .args in
     let votes = now (a .votes) in

@@ -1,23 +1,18 @@
-use lib.ListN.{take, drop}
-use Prim.Native.Nat.{ℕ, _+_, _*_}
 use mathlib.Core.Option.{Option}
-use Rattle.ballot.specs.Ballot.{Ballot}
-use denote.Ref.{now}
-use lib.ListN.{length}
-use Prim.Native.Nat.{_≤_, _-_}
+use mathlib.Core.Path.{_≡_, ap}
+use Prim.Native.Nat.{ℕ, _*_, _≤_, _-_}
 use native.Mathlib.Nat.{add-sub-cancel-left}
 use native.Mathlib.Omega.{arith}
-use mathlib.Core.Path.{_≡_, sym, _∙_, ap}
-use Rattle.message.specs.Reading.{readOf}
-use Rattle.rounds.specs.Inbox.{slotAt, counted}
-use Rattle.rounds.specs.Columns.{columns, filled}
-use Rattle.rounds.proofs.Filling.{filled-more}
+use lib.ListN.{take, drop}
 use borrow.Author.Needs.{needs}
+use denote.Ref.{now}
+use Rattle.ballot.specs.Ballot.{Ballot}
+use Rattle.message.specs.Reading.{readOf}
+use Rattle.rounds.proofs.Filling.{filled-more}
+use Rattle.rounds.specs.Columns.{columns, filled}
+use Rattle.rounds.specs.Inbox.{slotAt, counted}
 use Rattle.rounds.proofs.read_slots.Statement.{statement}
 use Rattle.rounds.proofs.read_slots.Tie as tie
-use Rattle.rounds.proofs.read_slots.Reads as reads
-use Rattle.rounds.proofs.read_slots.Lts as lts
-use Rattle.rounds.proofs.read_slot.Reads as read-slot-reads
 
 abbrev Inv-loop : tie.InvT-loop
 Inv-loop inbox n run phase round present₀ votes₀ stamps₀ histories₀ q₀ present votes stamps histories q =
@@ -27,44 +22,34 @@ Inv-loop inbox n run phase round present₀ votes₀ stamps₀ histories₀ q₀
 abbrev μ-loop : tie.MeasureT-loop
 μ-loop inbox n run phase round present₀ votes₀ stamps₀ histories₀ q₀ present votes stamps histories q = n - q
 
--- src/lib.rt:169:5
 loop-holds : tie.Need-loop-holds Inv-loop μ-loop
 unfolding filled
 loop-holds c = (omega arith, c .before .pre .2)
 
--- src/lib.rt:170:21
 mul-start : tie.Need-mul-start Inv-loop μ-loop
 mul-start c = search needs
 
--- src/lib.rt:171:19
 add-end : tie.Need-add-end Inv-loop μ-loop
 add-end c = search needs
 
--- src/lib.rt:172:19
 sub-read-slot : tie.Need-sub-read-slot Inv-loop μ-loop
 sub-read-slot c = search needs
 
--- src/lib.rt:172:19
 part-read-slot-start : tie.Need-part-read-slot-start Inv-loop μ-loop
 part-read-slot-start c = search needs
 
--- src/lib.rt:172:19
 part-read-slot-end : tie.Need-part-read-slot-end Inv-loop μ-loop
 part-read-slot-end c = search needs
 
--- src/lib.rt:172:9
 read-slot-requires : tie.Need-read-slot-requires Inv-loop μ-loop
 read-slot-requires c κs = search needs
 
--- src/lib.rt:173:13
 add-q : tie.Need-add-q Inv-loop μ-loop
 add-q c = search needs
 
--- src/lib.rt:169:5
 loop-less : tie.Need-loop-less Inv-loop μ-loop
 loop-less c = search needs
 
--- src/lib.rt:169:5
 loop-again : tie.Need-loop-again Inv-loop μ-loop
 loop-again c = let a = c .before .before .before .before .before .before .before .before .before .args in
     let l = c .before .before .before .before .before .before .before .loop in
@@ -72,11 +57,10 @@ loop-again c = let a = c .before .before .before .before .before .before .before
     let slots : ℕ → Option Ballot = λ k. counted (a .run) (a .phase) (a .round) (readOf (slotAt inbox k)) in
     let at-q = 202 * l .q in
     let slot =
-        ap (λ size. counted (a .run) (a .phase) (a .round) (readOf (take size (drop at-q inbox))))
-        (add-sub-cancel-left at-q 202) in
+    ap (λ size. counted (a .run) (a .phase) (a .round) (readOf (take size (drop at-q inbox))))
+    (add-sub-cancel-left at-q 202) in
     (omega arith, filled-more slots (l .q) _ _ _ (l .inv .1) slot (c .read-slot .ensures))
 
--- src/lib.rt:151:1
 returns : tie.Need-returns Inv-loop μ-loop
 returns c = let l = c .before .loop in
     let done : l .q ≡ c .before .before .before .args .n = omega (arith, l .inv .0, c .loop-test .left) in

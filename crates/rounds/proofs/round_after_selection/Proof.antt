@@ -1,14 +1,10 @@
 use borrow.Author.Tests.{eq-eqb, ne-eqb}
 use Rattle.rounds.proofs.round_after_selection.Statement.{statement}
 use Rattle.rounds.proofs.round_after_selection.Tie as tie
-use Rattle.rounds.proofs.round_after_selection.Reads as reads
-use Rattle.rounds.proofs.round_after_selection.Lts as lts
 
--- src/lib.rt:647:1
 returns : tie.Need-returns
 returns c = simp (eq-eqb _ _ (c .if1 .taken))
 
--- src/lib.rt:647:1
 returns-2 : tie.Need-returns-2
 returns-2 c = simp (ne-eqb _ _ (c .if1 .left))
 

@@ -1,47 +1,38 @@
-use denote.Ref.{now}
-use mathlib.Core.Path.{_≡_, sym, _∙_, ap}
-use Rattle.rounds.specs.Columns.{columns, polled}
-use Rattle.rounds.specs.Marks.{choiceAs}
-use Rattle.ballot.specs.Selection.{taken, takenOn}
+use mathlib.Core.Path.{sym, _∙_, ap}
 use borrow.Author.Needs.{needs}
+use denote.Ref.{now}
+use Rattle.ballot.specs.Selection.{taken}
+use Rattle.rounds.specs.Marks.{choiceAs}
 use Rattle.rounds.proofs.select.Statement.{statement}
 use Rattle.rounds.proofs.select.Tie as tie
-use Rattle.rounds.proofs.select.Reads as reads
-use Rattle.rounds.proofs.select.Lts as lts
-use Rattle.rounds.proofs.any_plan.Reads as any-plan-reads
-use Rattle.rounds.proofs.choose.Reads as choose-reads
 
--- src/lib.rt:575:9
 choose-requires : tie.Need-choose-requires
 choose-requires c κs = search needs
 
--- src/lib.rt:577:22
 enum-known-choice : tie.Need-enum-known-choice
 enum-known-choice c = search needs
 
--- src/lib.rt:578:24
 enum-told : tie.Need-enum-told
 enum-told c = search needs
 
--- src/lib.rt:578:24
 any-plan-requires : tie.Need-any-plan-requires
 any-plan-requires c κs = search needs
 
--- src/lib.rt:579:28
 enum-told-2 : tie.Need-enum-told-2
 enum-told-2 c = search needs
 
--- src/lib.rt:570:1
 returns : tie.Need-returns
 unfolding taken
 returns c = simp (sym (c .before .before .before .choose .ensures) ∙ ap choiceAs (c .before .choice .given .1))
 
--- src/lib.rt:570:1
 returns-2 : tie.Need-returns-2
 unfolding taken
-returns-2 c = simp (sym (c .before .before .before .choose .ensures) ∙ ap choiceAs (c .before .enum-told .given .1), c .any-plan .ensures)
+returns-2 c =
+    simp (
+      sym (c .before .before .before .choose .ensures) ∙ ap choiceAs (c .before .enum-told .given .1),
+      c .any-plan .ensures,
+    )
 
--- src/lib.rt:570:1
 returns-3 : tie.Need-returns-3
 unfolding taken
 returns-3 c = simp (sym (c .before .before .choose .ensures) ∙ ap choiceAs (c .enum-told2 .given .1))

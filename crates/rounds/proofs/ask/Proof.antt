@@ -1,0 +1,112 @@
+use mathlib.Core.Bool.{true}
+use mathlib.Core.Path.{sym, _∙_, ap, refl}
+use lib.Dec.{eqb}
+use borrow.Author.Needs.{needs}
+use borrow.Author.Tests.{eq-eqb, ne-eqb, lt-ltb, le-ltb}
+use denote.Ref.{now}
+use Rattle.ballot.specs.Selection.{selection}
+use Rattle.crew.specs.Thresholds.{classOf}
+use Rattle.node.specs.Soundness.{sound}
+use Rattle.wire.proofs.Tests.{both-true}
+use Rattle.wire.specs.Outcome.{accepted}
+use Rattle.rounds.proofs.Inboxes.{sound-sizes, polled-inbox}
+use Rattle.rounds.specs.Asking.{askOf}
+use Rattle.rounds.proofs.ask.Statement.{statement}
+use Rattle.rounds.proofs.ask.Tie as tie
+
+is-sound-requires : tie.Need-is-sound-requires
+is-sound-requires c κs = search needs
+
+cast-n : tie.Need-cast-n
+cast-n c = search needs
+
+mul-if3 : tie.Need-mul-if3
+mul-if3 c = search needs
+
+read-slots-requires : tie.Need-read-slots-requires
+read-slots-requires c κs =
+    let b4 = c .before .before .before .before in
+    let b8 = b4 .before .before .before .before in
+    let b12 = b8 .before .before .before .before in
+    let d = b12 .args .node in
+    let ok = sym (b8 .before .before .is-sound .ensures) ∙ both-true (b8 .before .before .is-sound .result) (eqb (d .round) 1) (b8 .if1 .taken) .0 in
+    (sound-sizes d ok .0, b4 .if3 .taken, refl)
+
+choose-requires : tie.Need-choose-requires
+choose-requires c κs =
+    let b4 = c .before .before .before .before in
+    let b8 = b4 .before .before .before .before in
+    let b12 = b8 .before .before .before .before in
+    let b16 = b12 .before .before .before .before in
+    let d = b16 .before .args .node in
+    let ok = sym (b12 .before .before .before .is-sound .ensures) ∙ both-true (b12 .before .before .before .is-sound .result) (eqb (d .round) 1) (b12 .before .if1 .taken) .0 in
+    (sound-sizes d ok .0, sound-sizes d ok .1)
+
+to-asking-requires : tie.Need-to-asking-requires
+to-asking-requires c κs = search needs
+
+returns : tie.Need-returns
+unfolding askOf
+returns c =
+    let b4 = c .before .before .before .before in
+    let b8 = b4 .before .before .before .before in
+    let b12 = b8 .before .before .before .before in
+    let b16 = b12 .before .before .before .before in
+    let d = b16 .before .before .before .args .node in
+    let tests = rw (b16 .before .is-sound .ensures) at (b12 .before .before .before .if1 .taken) in
+    let ok = both-true (sound d) (eqb (d .round) 1) tests .0 in
+    let heard = polled-inbox d (now (b16 .before .before .before .args .inbox)) _ (sound-sizes d ok .0) (b4 .before .before .read-slots .ensures) in
+    simp (tests, lt-ltb _ _ (b12 .before .if2 .taken), eq-eqb _ _ (b8 .before .before .before .if3 .taken))
+    (c .to-asking .ensures ∙ ap accepted (c .before .choose .ensures ∙ ap (selection (classOf (d .crew)) (d .crew)) heard), refl)
+
+refuse-ask-requires : tie.Need-refuse-ask-requires
+refuse-ask-requires c κs = search needs
+
+returns-2 : tie.Need-returns-2
+unfolding askOf
+returns-2 c =
+    let b4 = c .before .before .before .before in
+    let tests = rw (b4 .before .before .before .is-sound .ensures) at (b4 .before .if1 .taken) in
+    simp (
+      tests,
+      lt-ltb _ _ (c .before .before .before .if2 .taken),
+      ne-eqb _ _ (c .before .if3 .left),
+      c .refuse-ask .ensures .0,
+      c .refuse-ask .ensures .1,
+    ) (refl, refl)
+
+refuse-ask-requires-2 : tie.Need-refuse-ask-requires-2
+refuse-ask-requires-2 c κs = search needs
+
+returns-3 : tie.Need-returns-3
+unfolding askOf
+returns-3 c =
+    let b4 = c .before .before .before .before in
+    let tests = rw (b4 .before .is-sound .ensures) at (c .before .before .before .if1 .taken) in
+    simp (tests, le-ltb _ _ (c .before .if2 .left), c .refuse-ask2 .ensures .0, c .refuse-ask2 .ensures .1) (refl, refl)
+
+refuse-ask-requires-3 : tie.Need-refuse-ask-requires-3
+refuse-ask-requires-3 c κs = search needs
+
+returns-4 : tie.Need-returns-4
+unfolding askOf
+returns-4 c = let tests = rw (c .before .before .before .is-sound .ensures) at (c .before .if1 .left) in
+    simp (tests, c .refuse-ask3 .ensures .0, c .refuse-ask3 .ensures .1) (refl, refl)
+
+pub ask-spec : {M : Type 1} → statement M
+ask-spec =
+    tie.close
+    (tie.spec
+    is-sound-requires
+    cast-n
+    mul-if3
+    read-slots-requires
+    choose-requires
+    to-asking-requires
+    returns
+    refuse-ask-requires
+    returns-2
+    refuse-ask-requires-2
+    returns-3
+    refuse-ask-requires-3
+    returns-4)
