@@ -1,0 +1,4 @@
+pub mod Plans
+pub mod Taking
+pub mod Soundness
+pub mod Order

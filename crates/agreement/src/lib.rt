@@ -1,0 +1,1 @@
+// No code: demand 3 as one statement on lists of calls (specs/Statement.antt), its proof, and the laws of single calls (proofs/).
