@@ -2,3 +2,9 @@ pub mod Plans
 pub mod Taking
 pub mod Soundness
 pub mod Order
+pub mod Record
+pub mod Written
+pub mod Calls
+pub mod Starts
+pub mod Places
+pub mod Simulation
