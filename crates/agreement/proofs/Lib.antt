@@ -8,3 +8,6 @@ pub mod Calls
 pub mod Starts
 pub mod Places
 pub mod Simulation
+pub mod Decisions
+pub mod GoodPhase
+pub mod Demand

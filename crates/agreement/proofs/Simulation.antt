@@ -122,7 +122,7 @@ module _ (l : Listing) (crew : Crew) (run : ℕ) (pre : Premises l crew run) whe
       }
 
   -- what the engine hears is what counts in the bytes
-  heard-is : (q j : ℕ) → recordAt l q j .crew ≡ crew → (bytes : List ℕ) → inboxAt l q j ≡ some bytes
+  pub heard-is : (q j : ℕ) → recordAt l q j .crew ≡ crew → (bytes : List ℕ) → inboxAt l q j ≡ some bytes
       → ballots (recordAt l q j) bytes ≡ inbox crew (said l j q)
   heard-is q j crew-is bytes e =
       ap (λ c. inbox c (ballotAt (recordAt l q j) bytes)) crew-is
