@@ -5,14 +5,14 @@ use mathlib.Core.Bool.{cond}
 use mathlib.Core.List.{List, [], _∷_}
 use mathlib.Core.Logic.{inl, inr, _≢_}
 use mathlib.Core.Option.{Option, none, some}
-use Prim.Native.Nat.{ℕ, _*_}
-use lib.ListN.{length}
+use Prim.Native.Nat.{ℕ, _*_, _≤_}
+use lib.ListN.{length, List·getD-eq-default}
 use Rattle.wire.specs.Outcome.{accepted, refused, valueOr}
 use Rattle.node.specs.declared.Node.{Node}
 use Rattle.node.specs.Soundness.{isAccepted}
 use Rattle.rounds.specs.Taking.{takeOf}
-use Rattle.agreement.specs.Statement.{Call, write, ask, take-round, afterCall, afterCalls, takenInbox}
-use Rattle.agreement.specs.Statement.{Puts, Wrote, Asks, Whole}
+use Rattle.agreement.specs.Statement.{Call, write, ask, take-round, Listing, afterCall, afterCalls, callsOf}
+use Rattle.agreement.specs.Statement.{recordAt, takenInbox, inboxAt, Puts, Wrote, Asks, Whole}
 
 -- asks change no record and write nothing
 asks-keep : (d : Node) (cs : List Call) → Asks cs → afterCalls d cs ≡ d
@@ -78,3 +78,8 @@ refused-keeps d refuses (take-round inbox ∷ cs) =
     let e = refuses inbox in
     let r = refused-keeps d refuses cs in
     (ap (λ o. afterCalls (valueOr d o) cs) e ∙ r .0, taken-first d inbox cs e ∙ r .1)
+
+-- after the list no inbox is taken
+pub ended : (l : Listing) (p j : ℕ) → length (l .rounds) ≤ j → inboxAt l p j ≡ none
+unfolding callsOf takenInbox
+ended l p j end = ap (λ es. takenInbox (recordAt l p j) (callsOf p es)) (List·getD-eq-default (l .rounds) [] {n = j} end)

@@ -30,6 +30,7 @@ use Rattle.agreement.specs.Statement.{Start, Listing, answerTo, made, ho
 use Rattle.agreement.specs.Statement.{inboxAt, phaseAt, roundAt, Every, Premises, isFor, Wins, Decided, PlanDecided}
 use Rattle.agreement.specs.Statement.{standing}
 use Rattle.agreement.proofs.Record.{roundNumber}
+use Rattle.agreement.proofs.Calls.{ended}
 use Rattle.agreement.proofs.Starts.{MadeBy, started}
 use Rattle.agreement.proofs.Places.{place-early}
 use Rattle.agreement.proofs.Simulation.{slotIn, said, runOf, Follows, Took, follows, honest-below, took, took-none}
@@ -57,15 +58,10 @@ module _ (l : Listing) (crew : Crew) (run : ℕ) (pre : Premises l crew run) whe
       (count-gather test (said l j p) (crew .n)
       ∙ ap (λ o. tally (λ q. holds test (slotIn (recordAt l p j) o q)) (crew .n)) e)
 
-  -- after the list no inbox is taken
-  ended : (p j : ℕ) → length (l .rounds) ≤ j → inboxAt l p j ≡ none
-  unfolding callsOf takenInbox
-  ended p j end = ap (λ es. takenInbox (recordAt l p j) (callsOf p es)) (List·getD-eq-default (l .rounds) [] {n = j} end)
-
   -- a round in which an honest node took an inbox is in the list, and comes before the records are spent
   took-held : (p j : ℕ) → T (honest l p) → (bytes : List ℕ) → inboxAt l p j ≡ some bytes → Held (runOf l crew) j
   took-held p j h bytes e = elim (decLt j (length (l .rounds))) [
-    | no end ↦ absurd (none-some bytes (sym (ended p j (omega arith)) ∙ e))
+    | no end ↦ absurd (none-some bytes (sym (ended l p j (omega arith)) ∙ e))
     | yes inside ↦ elim (decLt (state (runOf l crew) j .phase) 64) [
       | yes left ↦ (inside, left)
       | no spent ↦ absurd (none-some bytes (sym (took-none l crew run pre p j h (omega arith) (omega arith)) ∙ e))
@@ -85,8 +81,7 @@ module _ (l : Listing) (crew : Crew) (run : ℕ) (pre : Premises l crew run) whe
   decides-wins p j v h d =
       let t = took l crew run pre p j h (d .0) in
       let place = place-early (runOf l crew) j (d .0 .1) in
-      let enough = subst (λ phase. T (decides (classOf crew) crew phase (inbox crew (said l j p)) v)) (sym (place .0)) (d .1 .1) in
-      (
+      let enough = subst (λ phase. T (decides (classOf crew) crew phase (inbox crew (said l j p)) v)) (sym (place .0)) (d .1 .1) in (
         place .1 ∙ ap roundNumber (d .1 .0),
         t .bytes,
         t .taken,
@@ -131,8 +126,7 @@ module _ (l : Listing) (crew : Crew) (run : ℕ) (pre : Premises l crew run) whe
       let dp = decided-is p hp in
       let dq = decided-is q hq in
       let sp = standing-is p hp in
-      let sq = standing-is q hq in
-      (
+      let sq = standing-is q hq in (
         λ e. let both = equal .0 (sym sp ∙ e ∙ sq) in
             (λ d. dq .1 (both .0 (dp .0 d)), λ d. dp .1 (both .1 (dq .0 d))),
         λ both. sp ∙ equal .1 (λ d. dq .0 (both .0 (dp .1 d)), λ d. dp .0 (both .1 (dq .1 d))) ∙ sym sq,

@@ -43,8 +43,7 @@ module _ (l : Listing) (crew : Crew) (run : ℕ) (pre : Premises l crew run) (p 
   unfolding recordAt
   spent late =
       let f = follows l crew run pre p j h inside in
-      let last = late-is (runOf l crew) j late in
-      (
+      let last = late-is (runOf l crew) j late in (
         spent-calls d (f .is-sound) (phase-is ∙ last .0) (round-is ∙ ap roundNumber (last .1)),
         refused-keeps d (take-spent d (f .is-sound) (omega (arith, phase-is, last .0))) (calls l p j) .0,
       )

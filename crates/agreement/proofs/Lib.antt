@@ -11,3 +11,4 @@ pub mod Simulation
 pub mod Decisions
 pub mod GoodPhase
 pub mod Demand
+pub mod Example
