@@ -1,11 +1,13 @@
 -- The calls of one node in a round: the inbox that it takes, the record that it gets, and which writes it made.
 -- Assumes nothing.
-use mathlib.Core.Path.{_≡_, refl, ap, _∙_, subst}
+use mathlib.Core.Path.{_≡_, refl, sym, ap, _∙_, subst}
 use mathlib.Core.Bool.{cond}
 use mathlib.Core.List.{List, [], _∷_}
 use mathlib.Core.Logic.{inl, inr, _≢_}
 use mathlib.Core.Option.{Option, none, some}
-use Prim.Native.Nat.{ℕ, _*_, _≤_}
+use Prim.Native.Nat.{ℕ, _*_, _<_}
+use native.Mathlib.Omega.{arith}
+use native.Mathlib.Decide.{decLt}
 use lib.ListN.{length, List·getD-eq-default}
 use Rattle.wire.specs.Outcome.{accepted, refused, valueOr}
 use Rattle.node.specs.declared.Node.{Node}
@@ -79,7 +81,16 @@ refused-keeps d refuses (take-round inbox ∷ cs) =
     let r = refused-keeps d refuses cs in
     (ap (λ o. afterCalls (valueOr d o) cs) e ∙ r .0, taken-first d inbox cs e ∙ r .1)
 
--- after the list no inbox is taken
-pub ended : (l : Listing) (p j : ℕ) → length (l .rounds) ≤ j → inboxAt l p j ≡ none
+-- Inboxes are taken in rounds of the list only.
+
+pub none-taken : {bytes : List ℕ} → _≡_ {A = Option (List ℕ)} none (some bytes) → ⊥
+none-taken e = let z : _≡_ {A = ℕ} 0 1 = cc in omega arith
+
+pub taken-inside : (l : Listing) (p j : ℕ) (bytes : List ℕ) → inboxAt l p j ≡ some bytes → j < length (l .rounds)
 unfolding callsOf takenInbox
-ended l p j end = ap (λ es. takenInbox (recordAt l p j) (callsOf p es)) (List·getD-eq-default (l .rounds) [] {n = j} end)
+taken-inside l p j bytes e = elim (decLt j (length (l .rounds))) [
+  | yes inside ↦ inside
+  | no end ↦
+      let no-calls = List·getD-eq-default (l .rounds) [] {n = j} (omega arith) in
+      absurd (none-taken (sym (ap (λ es. takenInbox (recordAt l p j) (callsOf p es)) no-calls) ∙ e))
+]

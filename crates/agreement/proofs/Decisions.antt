@@ -1,20 +1,19 @@
 -- Decisions from the inboxes are the abstract engine's, so its theorems hold of them: standing results, agreement and common
 -- start. Assumes nothing.
 use mathlib.Core.Path.{_≡_, refl, sym, ap, _∙_, subst}
-use mathlib.Core.Bool.{Bool}
-use mathlib.Core.List.{List, []}
+use mathlib.Core.List.{List}
 use mathlib.Core.Logic.{_⊎_, inl, inr, _↔_}
-use mathlib.Core.Option.{Option, none, some}
-use Prim.Native.Nat.{ℕ, _≤_, _<_}
+use mathlib.Core.Option.{none, some}
+use Prim.Native.Nat.{ℕ}
 use native.Mathlib.Omega.{arith}
 use native.Mathlib.Decide.{decLt}
-use lib.ListN.{length, List·getD-eq-default}
+use lib.ListN.{length}
 use lib.Dec.{T, leb, leb→le, le→leb, ltb→lt}
 use Rattle.wire.specs.Outcome.{accepted}
 use Rattle.crew.specs.declared.Crew.{Crew}
 use Rattle.crew.specs.Thresholds.{classOf}
 use Rattle.ballot.specs.Count.{tally, count, holds}
-use Rattle.ballot.specs.Ballot.{Ballot, inbox}
+use Rattle.ballot.specs.Ballot.{inbox}
 use Rattle.ballot.specs.Decision.{decides}
 use Rattle.ballot.proofs.Counting.{count-gather}
 use Rattle.model.specs.Node.{Round, selecting, validating, deciding}
@@ -26,14 +25,14 @@ use Rattle.node.specs.Record.{begun}
 use Rattle.node.specs.Soundness.{isAccepted}
 use Rattle.node.proofs.StartLaws.{start-accepted}
 use Rattle.rounds.specs.Inbox.{ballotAt}
-use Rattle.agreement.specs.Statement.{Start, Listing, answerTo, made, honest, recordOf, callsOf, recordAt, takenInbox}
-use Rattle.agreement.specs.Statement.{inboxAt, phaseAt, roundAt, Every, Premises, isFor, Wins, Decided, PlanDecided}
+use Rattle.agreement.specs.Statement.{Listing, answerTo, made, honest, recordOf, recordAt}
+use Rattle.agreement.specs.Statement.{inboxAt, phaseAt, Every, Premises, isFor, Wins, Decided, PlanDecided}
 use Rattle.agreement.specs.Statement.{standing}
 use Rattle.agreement.proofs.Record.{roundNumber}
-use Rattle.agreement.proofs.Calls.{ended}
-use Rattle.agreement.proofs.Starts.{MadeBy, started}
+use Rattle.agreement.proofs.Calls.{none-taken, taken-inside}
+use Rattle.agreement.proofs.Starts.{started}
 use Rattle.agreement.proofs.Places.{place-early}
-use Rattle.agreement.proofs.Simulation.{slotIn, said, runOf, Follows, Took, follows, honest-below, took, took-none}
+use Rattle.agreement.proofs.Simulation.{slotIn, said, runOf, follows, honest-below, took, took-none}
 use Rattle.agreement.proofs.Simulation.{admissible}
 
 -- round 3 is the decision
@@ -41,9 +40,6 @@ third-round : (round : Round) → roundNumber round ≡ 3 → round ≡ deciding
 third-round selecting e = absurd (omega arith)
 third-round validating e = absurd (omega arith)
 third-round deciding e = refl
-
-none-some : (bytes : List ℕ) → _≡_ {A = Option (List ℕ)} none (some bytes) → ⊥
-none-some bytes e = let z : _≡_ {A = ℕ} 0 1 = cc in omega arith
 
 module _ (l : Listing) (crew : Crew) (run : ℕ) (pre : Premises l crew run) where
   -- The slots that are for a plan, counted from the bytes and as the engine has them.
@@ -60,13 +56,12 @@ module _ (l : Listing) (crew : Crew) (run : ℕ) (pre : Premises l crew run) whe
 
   -- a round in which an honest node took an inbox is in the list, and comes before the records are spent
   took-held : (p j : ℕ) → T (honest l p) → (bytes : List ℕ) → inboxAt l p j ≡ some bytes → Held (runOf l crew) j
-  took-held p j h bytes e = elim (decLt j (length (l .rounds))) [
-    | no end ↦ absurd (none-some bytes (sym (ended l p j (omega arith)) ∙ e))
-    | yes inside ↦ elim (decLt (state (runOf l crew) j .phase) 64) [
-      | yes left ↦ (inside, left)
-      | no spent ↦ absurd (none-some bytes (sym (took-none l crew run pre p j h (omega arith) (omega arith)) ∙ e))
-    ]
-  ]
+  took-held p j h bytes e =
+      let inside = taken-inside l p j bytes e in
+      elim (decLt (state (runOf l crew) j .phase) 64) [
+        | yes left ↦ (inside, left)
+        | no spent ↦ absurd (none-taken (sym (took-none l crew run pre p j h (omega arith) (omega arith)) ∙ e))
+      ]
 
   pub wins-decides : (p j v : ℕ) → T (honest l p) → Wins l crew p j v → DecidesAt (runOf l crew) j p v
   wins-decides p j v h w =

@@ -9,7 +9,7 @@ use Rattle.model.specs.Run.{state}
 use Rattle.node.specs.declared.Node.{Node}
 use Rattle.agreement.specs.Statement.{Listing, honest, calls, recordAt, phaseAt, roundAt, Early, Premises}
 use Rattle.agreement.specs.Statement.{Unspent, Spent, Demand3}
-use Rattle.agreement.proofs.Taking.{unspent-calls, take-spent, spent-calls}
+use Rattle.agreement.proofs.Answers.{unspent-calls, take-spent, spent-calls}
 use Rattle.agreement.proofs.Record.{roundNumber}
 use Rattle.agreement.proofs.Calls.{refused-keeps}
 use Rattle.agreement.proofs.Places.{place-early, early-is, late-is}

@@ -3,12 +3,12 @@
 use mathlib.Core.Path.{_≡_, refl, sym, _∙_, subst}
 use mathlib.Core.Bool.{Bool, true, not, _&&_}
 use mathlib.Core.List.{List, [], _∷_, _++_}
-use mathlib.Core.Logic.{_⊎_, inl, inr}
-use mathlib.Core.Option.{Option, none, some}
-use Prim.Native.Nat.{ℕ, zero, suc, _+_, _^_, _≤_, _<_}
+use mathlib.Core.Logic.{inl, inr}
+use mathlib.Core.Option.{Option, some}
+use Prim.Native.Nat.{ℕ, zero, suc, _+_, _≤_, _<_}
 use native.Mathlib.Omega.{arith}
 use native.Mathlib.Decide.{decLt}
-use lib.ListN.{length, getD, drop, replicate, List·getD-eq-default}
+use lib.ListN.{length, drop, replicate}
 use lib.Dec.{T, ltb, ltb→lt}
 use borrow.Author.Tests.{ne-eqb}
 use Rattle.wire.specs.Outcome.{accepted}
@@ -19,26 +19,23 @@ use Rattle.message.specs.Bounds.{entriesOk}
 use Rattle.message.specs.Encoding.{entryBytes, encode}
 use Rattle.message.specs.Reading.{entriesIn, bodyAt, tested, readOf}
 use Rattle.message.specs.Writing.{listed}
-use Rattle.ballot.specs.Count.{bit, tally, count, gather}
+use Rattle.ballot.specs.Count.{tally, count, gather}
 use Rattle.ballot.specs.Ballot.{lists}
 use Rattle.ballot.specs.Least.{least, leastOf}
 use Rattle.ballot.specs.Selection.{possible, backed, backing, enough, selection, leading, mostVoted, anyPlan, taken}
 use Rattle.ballot.specs.Validation.{valid, validated}
 use Rattle.ballot.specs.Decision.{decides, decision}
 use Rattle.ballot.proofs.Tests.{and-T}
-use Rattle.ballot.proofs.Counting.{bit-le, bit-F}
-use Rattle.node.specs.declared.Node.{Node}
 use Rattle.node.specs.Record.{begun}
 use Rattle.node.specs.Soundness.{emptyFrom, sound}
 use Rattle.node.specs.Starting.{startOf}
 use Rattle.node.specs.Sending.{comingOf, writeOf}
 use Rattle.rounds.specs.Inbox.{slotAt, ballotAt}
 use Rattle.rounds.specs.Taking.{afterRound, takeOf}
-use Rattle.rounds.specs.Asking.{askOf}
 use Rattle.agreement.specs.Statement.{Start, Call, write, ask, take-round, Event, Listing, made, honest, recordOf}
 use Rattle.agreement.specs.Statement.{afterCalls, callsOf, calls, recordAt, takenInbox, inboxAt, Wrote, Whole, Premises}
 use Rattle.agreement.specs.Statement.{Conclusions, numbered, standing, Every}
-use Rattle.agreement.proofs.Calls.{ended}
+use Rattle.agreement.proofs.Calls.{taken-inside}
 use Rattle.agreement.proofs.Demand.{demand3}
 
 abbrev crew : Crew
@@ -180,15 +177,11 @@ box-bytes (suc (suc j)) = are-bytes (box 2) tt
 same-box : (x y : List ℕ) → _≡_ {A = Option (List ℕ)} (some x) (some y) → x ≡ y
 same-box x y e = cc
 
-none-some : (x : List ℕ) → _≡_ {A = Option (List ℕ)} none (some x) → ⊥
-none-some x e = let z : _≡_ {A = ℕ} 0 1 = cc in omega arith
-
 -- an inbox that was taken is that of one of the three rounds
 taken-box : (p j : ℕ) (inbox : List ℕ) → T (honest drill p) → inboxAt drill p j ≡ some inbox → (j < 3) × (box j ≡ inbox)
-taken-box p j inbox h e = elim (decLt j 3) [
-  | yes l ↦ (l, same-box (box j) inbox (sym (goes p (honest-three p h) j l .0) ∙ e))
-  | no l ↦ absurd (none-some inbox (sym (ended drill p j (omega arith)) ∙ e))
-]
+taken-box p j inbox h e =
+    let inside = taken-inside drill p j inbox e in
+    (inside, same-box (box j) inbox (sym (goes p (honest-three p h) j inside .0) ∙ e))
 
 pub drill-premises : Premises drill crew 1
 drill-premises = record {

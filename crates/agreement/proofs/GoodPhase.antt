@@ -5,18 +5,16 @@ use mathlib.Core.List.{List}
 use mathlib.Core.Option.{Option, none, some}
 use Prim.Native.Nat.{ℕ, _≤_, _<_}
 use native.Mathlib.Omega.{arith}
-use lib.ListN.{length}
 use lib.Dec.{T}
 use Rattle.crew.specs.declared.Crew.{Crew}
 use Rattle.crew.specs.Thresholds.{classOf}
 use Rattle.ballot.specs.Count.{count}
 use Rattle.ballot.specs.Ballot.{Ballot, inbox, sameBallot}
-use Rattle.model.specs.Node.{selecting}
 use Rattle.model.specs.Run as model
 use Rattle.model.specs.Run.{saying, state, Held}
 use Rattle.model.proofs.Theorems as engine
 use Rattle.node.specs.Sending.{comingOf}
-use Rattle.agreement.specs.Statement.{Listing, honest, recordAt, inboxAt, phaseAt, roundAt, Premises, Wins}
+use Rattle.agreement.specs.Statement.{Listing, honest, recordAt, phaseAt, roundAt, Premises, Wins}
 use Rattle.agreement.specs.Statement.{ballotsIn, heard, Good}
 use Rattle.agreement.proofs.Record.{roundNumber}
 use Rattle.agreement.proofs.Written.{silent-is}

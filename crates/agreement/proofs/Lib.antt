@@ -1,5 +1,5 @@
 pub mod Plans
-pub mod Taking
+pub mod Answers
 pub mod Soundness
 pub mod Order
 pub mod Record
@@ -11,4 +11,5 @@ pub mod Simulation
 pub mod Decisions
 pub mod GoodPhase
 pub mod Demand
+pub mod Prefix
 pub mod Example

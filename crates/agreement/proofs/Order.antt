@@ -1,4 +1,4 @@
--- Law 5 of the engine: the order of an inbox does not matter, on any record. Assumes nothing.
+-- Law 5 of the engine: the order of an inbox does not matter, on any record, sound or not. Assumes nothing.
 -- 01: "Two inboxes with the same counting messages, each in as many slots of one as of the other, give the same answers."
 use mathlib.Core.Path.{_≡_, ap, ap₂}
 use mathlib.Core.Bool.{cond, _&&_}
@@ -32,15 +32,12 @@ module _ (d : Node) (left right : List ℕ) (long : length left ≡ length right
       λ i. cond (eqb (d .round) 1) (afterSelection d (taken i))
       (cond (eqb (d .round) 2) (afterValidation d (validated i)) (afterDecision d (decision i)))
 
-  pub take-same : takeOf d left ≡ takeOf d right
-  unfolding takeOf
-  take-same =
-      ap₂ (λ size next. require (sound d) 7 (require (ltb (d .phase) 64) 8
-      (require (eqb size (202 * d .crew .n)) 14 (accepted next)))) long after-same
-
-  pub ask-same : askOf d left ≡ askOf d right
-  unfolding askOf
-  ask-same =
-      ap₂ (λ size choice. require (sound d && eqb (d .round) 1) 7 (require (ltb (d .phase) 64) 8
-      (require (eqb size (202 * d .crew .n)) 14 (accepted choice)))) long
-      (selection-same (d .crew) (ballots d left) (ballots d right) same (classOf (d .crew)))
+  pub same-answers : (takeOf d left ≡ takeOf d right) × (askOf d left ≡ askOf d right)
+  unfolding takeOf askOf
+  same-answers = (
+    ap₂ (λ size next. require (sound d) 7 (require (ltb (d .phase) 64) 8
+        (require (eqb size (202 * d .crew .n)) 14 (accepted next)))) long after-same,
+    ap₂ (λ size choice. require (sound d && eqb (d .round) 1) 7 (require (ltb (d .phase) 64) 8
+        (require (eqb size (202 * d .crew .n)) 14 (accepted choice)))) long
+        (selection-same (d .crew) (ballots d left) (ballots d right) same (classOf (d .crew))),
+  )

@@ -16,7 +16,7 @@ use Rattle.agreement.specs.Statement.{phaseAt, roundAt}
 use Rattle.agreement.proofs.Record.{roundNumber}
 
 -- the phase and round with which round j begins: those of its place, and round 1 of phase 64 once the records are spent
-abbrev pub Stands : Crew → ℕ → ℕ → Round → Type 0
+abbrev Stands : Crew → ℕ → ℕ → Round → Type 0
 Stands crew j phase round =
     ((phaseAt crew j < 64) × (phase ≡ phaseAt crew j) × (roundNumber round ≡ roundAt crew j))
     ⊎ ((64 ≤ phaseAt crew j) × (phase ≡ 64) × (round ≡ selecting))
@@ -93,7 +93,7 @@ module _ (run : Run) where
   stays j s end (inl here) = absurd (omega (arith, here .0, here .1))
   stays j s end (inr spent) = inr (omega (arith, spent .0, phase-rises j (eqb (run .crew .class) 1)), spent .1, spent .2)
 
-  pub place : (j : ℕ) → Stands (run .crew) j (state run j .phase) (state run j .round)
+  place : (j : ℕ) → Stands (run .crew) j (state run j .phase) (state run j .round)
   unfolding state
   place zero =
       let first = first-place (eqb (run .crew .class) 1) in

@@ -1,22 +1,22 @@
 -- The votes of counting messages are plans: not 0, and of two bytes where the inbox holds bytes. So is the plan that a rule
 -- answers, where it answers one. Assumes nothing.
-use mathlib.Core.Path.{_≡_, refl, ap, subst}
+use mathlib.Core.Path.{_≡_, refl, subst}
 use mathlib.Core.Bool.{Bool, true, false, cond, _&&_}
 use mathlib.Core.List.{List}
-use mathlib.Core.Logic.{_≢_, inl, inr}
-use mathlib.Core.Option.{Option, none, some}
+use mathlib.Core.Logic.{inl, inr}
+use mathlib.Core.Option.{none, some}
 use Prim.Native.Nat.{ℕ, _+_, _*_, _^_, _≤_, _<_}
 use native.Mathlib.Omega.{arith}
 use native.Mathlib.Decide.{decLt}
 use lib.ListN.{length, getD, take, drop, length-take, List·getD-eq-default}
 use lib.Seq.{getD-take, getD-drop}
-use lib.Dec.{T, leb, ltb, eqb→eq}
+use lib.Dec.{leb, ltb, eqb→eq}
 use borrow.Author.Tests.{leb-true}
 use Rattle.wire.specs.Outcome.{Outcome, accepted, refused}
 use Rattle.wire.specs.Bytes.{AreBytes}
 use Rattle.wire.proofs.Tests.{tests, both-true}
 use Rattle.message.specs.Fields.{Body, selection, validation, decision, Message}
-use Rattle.message.specs.Bounds.{phaseOk, planOk, entriesOk, bodyOk, within, BodyFits}
+use Rattle.message.specs.Bounds.{phaseOk, planOk, entriesOk, bodyOk, BodyFits}
 use Rattle.message.specs.Reading.{readOf}
 use Rattle.message.proofs.ReadLaws.{read-passes}
 use Rattle.codec.proofs.Read.{encode-of-read}
@@ -26,7 +26,7 @@ use Rattle.ballot.proofs.Counting.{count-le}
 use Rattle.ballot.proofs.Least.{Voted}
 use Rattle.ballot.proofs.Slots.{no-slot-counts}
 use Rattle.node.specs.declared.Node.{Node}
-use Rattle.rounds.specs.Inbox.{slotAt, ballotOf, isComing, counted, ballotAt, ballots}
+use Rattle.rounds.specs.Inbox.{slotAt, ballotOf, isOf, counted, ballotAt, ballots}
 
 -- a slot that counts is read to a message, and says what that message puts forward
 pub slot-read : (d : Node) (inbox : List ℕ) (q : ℕ) (m : Ballot) → ballotAt d inbox q ≡ some m
@@ -38,9 +38,9 @@ slot-read d inbox q m e = go (readOf (slotAt inbox q)) refl e
     coming k true e = cc
     coming k false e = absurd (let z : _≡_ {A = ℕ} 0 1 = cc in omega arith)
 
-    go : (o : Outcome Message) → readOf (slotAt inbox q) ≡ o → counted d o ≡ some m
+    go : (o : Outcome Message) → readOf (slotAt inbox q) ≡ o → counted (d .run) (d .phase) (d .round) o ≡ some m
         → (k : Message) × (readOf (slotAt inbox q) ≡ accepted k) × (ballotOf (k .body) ≡ m)
-    go (accepted k) i e = (k, i, coming k (isComing d k) e)
+    go (accepted k) i e = (k, i, coming k (isOf (d .run) (d .phase) (d .round) k) e)
     go (refused number) i e = absurd (let z : _≡_ {A = ℕ} 0 1 = cc in omega arith)
 
 -- what a message within the bounds votes for is a plan

@@ -28,7 +28,7 @@ use Rattle.rounds.specs.Taking.{afterRound}
 use Rattle.agreement.specs.Statement.{Start, Listing, Call, made, honest, recordOf, afterCalls, calls, recordAt}
 use Rattle.agreement.specs.Statement.{takenInbox, inboxAt, write, Puts, Wrote, Whole, Premises}
 use Rattle.agreement.proofs.Plans.{slot-plan}
-use Rattle.agreement.proofs.Taking.{take-whole, take-cut, take-spent}
+use Rattle.agreement.proofs.Answers.{take-whole, take-cut, take-spent}
 use Rattle.agreement.proofs.Soundness.{take-sound, take-typed}
 use Rattle.agreement.proofs.Record.{roundNumber, asRecord, take-turns}
 use Rattle.agreement.proofs.Written.{puts-coming, coming-heard}
@@ -233,11 +233,12 @@ module _ (l : Listing) (crew : Crew) (run : ℕ) (pre : Premises l crew run) whe
         let fp = follows p j hp (omega (arith, held .0)) in
         let fq = follows q j hq (omega (arith, held .0)) in
         let coming = ap comingBytes (fq .is) in
-        ap (λ part. counted (recordAt l p j) (readOf part)) (begins .0 ∙ ap (λ part. part ++ slot .1) coming)
-        ∙ coming-heard crew run q (now .phase) (now .node q) (recordAt l p j) (slot .1) (now .round)
+        ap (λ (d : Node). ballotAt d bytes q) (fp .is)
+        ∙ ap (λ part. counted run (now .phase) (roundNumber (now .round)) (readOf part))
+        (begins .0 ∙ ap (λ part. part ++ slot .1) coming)
+        ∙ coming-heard crew run q (now .phase) (now .node q) (slot .1) (now .round)
         (subst Typed (fq .is) (fq .typed)) (ap sound (sym (fq .is)) ∙ fq .is-sound) (held .1)
         (omega (arith, begins .1, ap length coming))
-        (ap (λ (x : Node). x .run) (fp .is)) (ap (λ (x : Node). x .phase) (fp .is)) (ap (λ (x : Node). x .round) (fp .is))
 
     faithful : Faithful (classOf crew) crew (honest l) (said l j) now
     faithful p lp hp q lq hq = go (t .bytes) (t .taken)

@@ -1,10 +1,10 @@
--- Law 4 of the engine: every call on a sound record, reachable or not, leaves a sound record, and a refused call leaves the
--- record as it was. That a start gives a sound record is start-sound of crate node. Assumes nothing.
-use mathlib.Core.Path.{_≡_, refl, sym, ap, subst, _∙_}
+-- Law 4 of the engine: a start gives a sound record; every call on a sound record, reachable or not, leaves a sound record;
+-- and a refused call leaves the record as it was. Assumes nothing.
+use mathlib.Core.Path.{_≡_, refl, ap, subst, _∙_}
 use mathlib.Core.Bool.{Bool, true, false, cond}
 use mathlib.Core.List.{List}
 use mathlib.Core.Logic.{_⊎_, inl, inr, _≢_}
-use Prim.Native.Nat.{ℕ, _+_, _*_, _^_, _≤_, _<_}
+use Prim.Native.Nat.{ℕ, _+_, _^_, _≤_, _<_}
 use native.Mathlib.Omega.{arith}
 use native.Mathlib.Decide.{ℕ-discrete}
 use lib.ListN.{length, getD, set}
@@ -12,6 +12,7 @@ use lib.Dec.{eqb}
 use borrow.Author.Tests.{eq-eqb, eqb-true, eqb-false}
 use Rattle.wire.specs.Outcome.{Outcome, accepted, refused, valueOr}
 use Rattle.wire.specs.Bytes.{AreBytes}
+use Rattle.crew.specs.declared.Crew.{Crew}
 use Rattle.crew.specs.Thresholds.{classOf}
 use Rattle.ballot.specs.Ballot.{Ballot}
 use Rattle.ballot.specs.Selection.{taken}
@@ -24,13 +25,15 @@ use Rattle.model.specs.Node.{ifPlan}
 use Rattle.model.proofs.Node.{ifPlan-is, kept-length, kept-other, kept-here}
 use Rattle.node.specs.declared.Node.{Node}
 use Rattle.node.specs.Soundness.{firstUnselected, sound}
+use Rattle.node.specs.Starting.{startOf}
 use Rattle.node.specs.Sending.{writeOf, bufferAfter, comingBytes, bufferOf}
 use Rattle.node.proofs.Facts.{Sound, Typed, sound-facts, facts-sound, last-round}
+use Rattle.node.proofs.StartLaws.{start-sound}
 use Rattle.rounds.specs.Inbox.{ballots}
 use Rattle.rounds.specs.Taking.{afterSelection, afterValidation, afterDecision, afterRound, takeOf}
 use Rattle.agreement.specs.Statement.{Call, write, ask, take-round, afterCall}
 use Rattle.agreement.proofs.Plans.{voted-fits}
-use Rattle.agreement.proofs.Taking.{Takes, take-accepted}
+use Rattle.agreement.proofs.Answers.{take-accepted}
 
 -- What the three rules do to the fields of a sound record.
 
@@ -230,17 +233,18 @@ take-typed d inbox e typed bytes h =
     (λ three. decision-typed d typed (decided d heard) (fits _ (decided-voted d heard))) in
     subst Typed (t .is-after) after
 
--- a refused take leaves the record, and a refused write the buffer
-pub refused-take-keeps : (d : Node) (inbox : List ℕ) (number : ℕ) → takeOf d inbox ≡ refused number
-    → afterCall d (take-round inbox) ≡ d
-refused-take-keeps d inbox number e = ap (valueOr d) e
+-- Law 4, whole.
+pub record KeepsSound : Type 0 where
+  pub started : (crew : Crew) (own run plan : ℕ) (d : Node) → startOf crew own run plan ≡ accepted d → sound d ≡ true
+  -- accepted or refused, a call on a sound record leaves a sound one
+  pub called : (d : Node) (c : Call) → sound d ≡ true → sound (afterCall d c) ≡ true
+  -- a refused call leaves the record, and a refused write the buffer
+  pub take-refused : (d : Node) (inbox : List ℕ) (number : ℕ) → takeOf d inbox ≡ refused number
+      → afterCall d (take-round inbox) ≡ d
+  pub write-refused : (d : Node) (buffer : List ℕ) (number : ℕ) → writeOf d buffer ≡ refused number
+      → bufferOf d buffer ≡ buffer
 
-pub refused-write-keeps : (d : Node) (buffer : List ℕ) (number : ℕ) → writeOf d buffer ≡ refused number
-    → bufferOf d buffer ≡ buffer
-refused-write-keeps d buffer number e = ap (bufferAfter (comingBytes d) buffer) e
-
--- law 4 for any call
-pub call-sound : (d : Node) (c : Call) → sound d ≡ true → sound (afterCall d c) ≡ true
+call-sound : (d : Node) (c : Call) → sound d ≡ true → sound (afterCall d c) ≡ true
 call-sound d (write buffer) ok = ok
 call-sound d (ask inbox) ok = ok
 call-sound d (take-round inbox) ok = go (takeOf d inbox) refl
@@ -248,3 +252,11 @@ call-sound d (take-round inbox) ok = go (takeOf d inbox) refl
     go : (o : Outcome Node) → takeOf d inbox ≡ o → sound (valueOr d o) ≡ true
     go (accepted e) h = take-sound d inbox e h
     go (refused number) h = ok
+
+pub keeps-sound : KeepsSound
+keeps-sound = record {
+  started = start-sound;
+  called = call-sound;
+  take-refused = λ d inbox number e. ap (valueOr d) e;
+  write-refused = λ d buffer number e. ap (bufferAfter (comingBytes d) buffer) e;
+}

@@ -3,24 +3,21 @@
 use mathlib.Core.Path.{_≡_, refl, sym, ap, ap₂, _∙_}
 use mathlib.Core.Bool.{Bool, true, false, cond}
 use mathlib.Core.List.{List, [], _∷_, _++_, append-assoc, append-nil}
-use mathlib.Core.Option.{Option, none, some}
-use Prim.Native.Nat.{ℕ, zero, suc, _+_, _≤_, _<_}
+use mathlib.Core.Option.{none, some}
+use Prim.Native.Nat.{ℕ, zero, suc, _+_, _<_}
 use native.Mathlib.Nat.{zero-add}
 use native.Mathlib.Omega.{arith}
 use lib.ListN.{length, getD, take, drop}
 use lib.Seq.{take-at}
 use lib.Dec.{leb, ltb, eqb}
-use borrow.Author.Tests.{ltb-true, leb-true, leb-false, eqb-true, eqb-false, eq-eqb, ne-eqb}
-use Rattle.wire.specs.Outcome.{accepted}
+use borrow.Author.Tests.{leb-true, leb-false, eqb-true, eqb-false, eq-eqb, ne-eqb}
 use Rattle.wire.specs.Entry.{Entry}
 use Rattle.wire.proofs.Outcomes.{passed}
 use Rattle.crew.specs.declared.Crew.{Crew}
 use Rattle.crew.specs.Thresholds.{one, two, three, classOf}
 use Rattle.crew.proofs.Facts.{Accepts, accepts}
-use Rattle.message.specs.Fields.{Message}
 use Rattle.message.specs.Reading.{readOf}
 use Rattle.message.specs.Writing.{entryOf, listed, selectionOf, validationOf, decisionOf}
-use Rattle.ballot.specs.Ballot.{Ballot}
 use Rattle.model.specs.Node as model
 use Rattle.model.specs.Node.{Round, selecting, validating, deciding, entriesBelow, entriesSaid, say}
 use Rattle.node.specs.declared.Node.{Node}
@@ -28,7 +25,7 @@ use Rattle.node.specs.Soundness.{sound}
 use Rattle.node.specs.Sending.{listedPhases, comingOf, comingBytes, writeOf, bufferAfter, bufferOf}
 use Rattle.node.proofs.Facts.{Typed, sound-facts}
 use Rattle.node.proofs.ReadBack.{read-back}
-use Rattle.rounds.specs.Inbox.{ballotOf, counted}
+use Rattle.rounds.specs.Inbox.{counted}
 use Rattle.agreement.specs.Statement.{write, Puts}
 use Rattle.agreement.proofs.Record.{roundNumber, asRecord}
 
@@ -103,28 +100,27 @@ puts-coming d buffer bytes puts =
 
 -- What the coming message says to a node of the same run and place.
 
-module _ (crew : Crew) (run q phase : ℕ) (a : model.Node) (e : Node) (rest : List ℕ) where
+module _ (crew : Crew) (run q phase : ℕ) (a : model.Node) (rest : List ℕ) where
   abbrev Heard : Round → Type 0
   Heard round = let d = asRecord crew run q phase round a in
       Typed d → sound d ≡ true → phase < 64 → 0 < length (comingBytes d)
-      → e .run ≡ run → e .phase ≡ phase → e .round ≡ roundNumber round
-      → counted e (readOf (comingBytes d ++ rest)) ≡ say (classOf crew) crew phase round q a
+      → counted run phase (roundNumber round) (readOf (comingBytes d ++ rest)) ≡ say (classOf crew) crew phase round q a
 
   selection-heard : Heard selecting
   unfolding comingOf
-  selection-heard typed ok left long same-run same-phase same-round =
+  selection-heard typed ok left long =
       let d = asRecord crew run q phase selecting a in
       let m = selectionOf run phase (a .vote) (a .stamp) (a .history) (listedPhases d) in
       let read = read-back d typed ok left m refl .2 rest in
       let entries = listed-said crew (accepts crew (sound-facts d ok .crew)) (a .history) phase in
-      rw read (simp (same-run, same-phase, same-round, eq-eqb run run refl, eq-eqb phase phase refl, entries))
+      rw read (simp (eq-eqb run run refl, eq-eqb phase phase refl, entries))
 
   validation-heard : Heard validating
   unfolding comingOf
-  validation-heard typed ok left long same-run same-phase same-round = go (leb 1 (a .select)) refl
+  validation-heard typed ok left long = go (leb 1 (a .select)) refl
     where
       go : (chosen : Bool) → leb 1 (a .select) ≡ chosen
-          → counted e (readOf (comingBytes (asRecord crew run q phase validating a) ++ rest))
+          → counted run phase 2 (readOf (comingBytes (asRecord crew run q phase validating a) ++ rest))
           ≡ say (classOf crew) crew phase validating q a
       go true plan =
           let d = asRecord crew run q phase validating a in
@@ -132,21 +128,20 @@ module _ (crew : Crew) (run q phase : ℕ) (a : model.Node) (e : Node) (rest : L
           let coming : comingOf d ≡ some m = simp plan in
           let read = read-back d typed ok left m coming .2 rest in
           let some-plan = ne-eqb (a .select) 0 (λ z. omega (arith, leb-true 1 (a .select) plan)) in
-          rw read (simp (same-run, same-phase, same-round, eq-eqb run run refl, eq-eqb phase phase refl, some-plan))
+          rw read (simp (eq-eqb run run refl, eq-eqb phase phase refl, some-plan))
       go false silent = absurd (omega (arith, simp silent at long))
 
   decision-heard : Heard deciding
   unfolding comingOf
-  decision-heard typed ok left long same-run same-phase same-round =
+  decision-heard typed ok left long =
       let d = asRecord crew run q phase deciding a in
       let m = decisionOf run phase (a .vote) (a .stamp) in
       let read = read-back d typed ok left m refl .2 rest in
-      rw read (simp (same-run, same-phase, same-round, eq-eqb run run refl, eq-eqb phase phase refl))
+      rw read (simp (eq-eqb run run refl, eq-eqb phase phase refl))
 
   pub coming-heard : (round : Round) → (let d = asRecord crew run q phase round a in
       Typed d → sound d ≡ true → phase < 64 → 0 < length (comingBytes d)
-      → e .run ≡ run → e .phase ≡ phase → e .round ≡ roundNumber round
-      → counted e (readOf (comingBytes d ++ rest)) ≡ say (classOf crew) crew phase round q a)
+      → counted run phase (roundNumber round) (readOf (comingBytes d ++ rest)) ≡ say (classOf crew) crew phase round q a)
   coming-heard selecting = selection-heard
   coming-heard validating = validation-heard
   coming-heard deciding = decision-heard

@@ -172,30 +172,31 @@ Early crew j = phaseAt crew j < 64
 
 -- Premises.
 
--- slot q of the inbox that p took in round j counts for p, and says m
-abbrev pub Hears : Listing → ℕ → ℕ → ℕ → List ℕ → Ballot → Type 0
-Hears l p j q inbox m = (inboxAt l p j ≡ some inbox) × (ballotAt (recordAt l p j) inbox q ≡ some m)
-
 module _ {A : Type 0} where
   abbrev pub Every : (A → Type 0) → List A → Type 0
   Every P [] = Unit {0}
   Every P (a ∷ others) = P a × Every P others
 
+-- Slot q of the inbox that p took in round j counts for p, and says m. An inbox is p's own: others may have got another.
+abbrev pub Hears : Listing → ℕ → ℕ → ℕ → List ℕ → Ballot → Type 0
+Hears l p j q inbox m = (inboxAt l p j ≡ some inbox) × (ballotAt (recordAt l p j) inbox q ≡ some m)
+
 pub record Premises (l : Listing) (crew : Crew) (run : ℕ) : Type 0 where
-  -- what the types of a start's arguments say: a run has four bytes, a plan two
+  -- What the types of a start's arguments say: a run has four bytes, a plan two. A refused start may carry anything else.
   pub typed : Every (λ s. (s .run < 256 ^ 4) × (s .plan < 256 ^ 2)) (l .starts)
   -- the accepted starts have one accepted crew and one run
   pub crew-accepted : acceptOf crew ≡ accepted tt
   pub one-crew : Every (λ d. (d .crew ≡ crew) × (d .run ≡ run)) (made (l .starts))
-  -- each in its own name
+  -- and each its own number
   pub distinct : (q : ℕ) → numbered q (made (l .starts)) ≤ 1
   -- at most b nodes are not honest
   pub few : tally (λ q. not (honest l q)) (crew .n) ≤ crew .b
   -- until the records are spent every honest node goes through every round; after that it makes any calls
   pub whole : (p j : ℕ) → T (honest l p) → j < length (l .rounds) → Early crew j → Whole (crew .n) (calls l p j)
-  -- an inbox that an honest node took holds bytes
+  -- An inbox that an honest node took holds bytes. Nothing is asked of buffers, or of inboxes of refused takes and of asks.
   pub bytes : (p j : ℕ) → T (honest l p) → (inbox : List ℕ) → inboxAt l p j ≡ some inbox → AreBytes inbox
-  -- A slot of an honest node that counts for an honest node holds what its node wrote in that round.
+  -- A slot that counts for an honest node, its own included, and belongs to an honest one holds what that one wrote in the
+  -- round. Of slots that do not count, and of slots of other nodes, nothing is asked.
   -- 01: "a slot holds what a node wrote if there are such bytes and they stand at its front"
   pub slots : (p q j : ℕ) → T (honest l p) → T (honest l q) → (inbox : List ℕ) (m : Ballot) → Hears l p j q inbox m
       → (written : List ℕ) × (rest : List ℕ)
@@ -264,8 +265,8 @@ pub record Good (l : Listing) (crew : Crew) (phase : ℕ) (circle : ℕ → Bool
 
 -- Conclusions.
 
--- What the calls on an unspent record answer: a write is refused only with 9 and a take only with 14, and so is an ask in
--- round 1.
+-- What the calls on an unspent record answer: a write is refused only with 9, a take only with 14, an ask in round 1 only with
+-- 14. 01: "Asking outside round 1 is also 7."
 pub record Unspent (n : ℕ) (d : Node) : Type 0 where
   pub writes : (buffer : List ℕ)
       → (writeOf d buffer ≡ accepted (length (comingBytes d)))
@@ -274,6 +275,7 @@ pub record Unspent (n : ℕ) (d : Node) : Type 0 where
   pub takes-not : (inbox : List ℕ) → length inbox ≢ 202 * n → takeOf d inbox ≡ refused 14
   pub asks : (inbox : List ℕ) → d .round ≡ 1 → length inbox ≡ 202 * n → T (isAccepted (askOf d inbox))
   pub asks-not : (inbox : List ℕ) → d .round ≡ 1 → length inbox ≢ 202 * n → askOf d inbox ≡ refused 14
+  pub asks-late : (inbox : List ℕ) → d .round ≢ 1 → askOf d inbox ≡ refused 7
 
 -- 01: "When the records are spent, every call is refused with 8"
 pub record Spent (d : Node) : Type 0 where
@@ -283,8 +285,8 @@ pub record Spent (d : Node) : Type 0 where
   pub takes-not : (inbox : List ℕ) → takeOf d inbox ≡ refused 8
   pub asks-not : (inbox : List ℕ) → askOf d inbox ≡ refused 8
 
--- A list cut short after any of its rounds is a list again, and meets the premises where the whole does: so what is said of
--- the standing results holds after every round.
+-- A list cut short after any of its rounds is a list again, and meets the premises where the whole does (proofs/Prefix.antt):
+-- so what is said of the standing results holds after every round.
 pub record Conclusions (l : Listing) (crew : Crew) : Type 0 where
   -- a standing result is the plan that the node decided, and 0 where it has not decided
   pub result : (p : ℕ) → T (honest l p)

@@ -1,19 +1,19 @@
 -- What the calls on a sound record answer, case by case. Assumes nothing.
-use mathlib.Core.Path.{_≡_, refl, ap, subst, _∙_}
-use mathlib.Core.Bool.{true, _&&_}
+use mathlib.Core.Path.{_≡_}
+use mathlib.Core.Bool.{true}
 use mathlib.Core.List.{List}
-use mathlib.Core.Logic.{_⊎_, inl, inr, _≢_}
+use mathlib.Core.Logic.{inl, inr, _≢_}
 use Prim.Native.Nat.{ℕ, _*_, _≤_, _<_}
 use native.Mathlib.Omega.{arith}
 use native.Mathlib.Decide.{decLe}
 use lib.ListN.{length}
 use lib.Dec.{T, ltb, eqb}
 use borrow.Author.Tests.{lt-ltb, le-ltb, le-leb, lt-leb, eq-eqb, ne-eqb, ltb-true, eqb-true}
-use Rattle.wire.specs.Outcome.{Outcome, accepted, refused}
+use Rattle.wire.specs.Outcome.{accepted, refused}
 use Rattle.wire.proofs.Outcomes.{passed}
 use Rattle.node.specs.declared.Node.{Node}
-use Rattle.node.specs.Soundness.{isAccepted, sound}
-use Rattle.node.specs.Sending.{comingBytes, writeOf, bufferOf}
+use Rattle.node.specs.Soundness.{sound}
+use Rattle.node.specs.Sending.{comingBytes, writeOf}
 use Rattle.rounds.specs.Inbox.{ballots}
 use Rattle.rounds.specs.Taking.{afterRound, takeOf}
 use Rattle.rounds.specs.Asking.{askOf}
@@ -71,6 +71,7 @@ module _ (d : Node) (ok : sound d ≡ true) where
         takes-not = take-cut left;
         asks = λ inbox one long. simp (ok, early, eq-eqb (d .round) 1 one, eq-eqb (length inbox) (202 * d .crew .n) long) tt;
         asks-not = λ inbox one long. simp (ok, early, eq-eqb (d .round) 1 one, ne-eqb (length inbox) (202 * d .crew .n) long);
+        asks-late = λ inbox late. simp (ok, ne-eqb (d .round) 1 late);
       }
 
   -- once it is spent, all of them are refused with 8
