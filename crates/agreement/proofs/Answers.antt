@@ -65,12 +65,16 @@ module _ (d : Node) (ok : sound d ≡ true) where
       record {
         writes = λ buffer. elim (decLe (length (comingBytes d)) (length buffer)) [
           | yes room ↦ inl (simp (ok, early, le-leb _ _ room))
-          | no short ↦ inr (simp (ok, early, lt-leb (length (comingBytes d)) (length buffer) (omega arith)), omega arith)
+          | no short ↦
+              let over = lt-leb (length (comingBytes d)) (length buffer) (omega arith) in
+              inr (simp (ok, early, over), omega arith)
         ];
         takes = λ inbox long. rw (take-whole left inbox long) tt;
         takes-not = take-cut left;
-        asks = λ inbox one long. simp (ok, early, eq-eqb (d .round) 1 one, eq-eqb (length inbox) (202 * d .crew .n) long) tt;
-        asks-not = λ inbox one long. simp (ok, early, eq-eqb (d .round) 1 one, ne-eqb (length inbox) (202 * d .crew .n) long);
+        asks = λ inbox one long.
+            simp (ok, early, eq-eqb (d .round) 1 one, eq-eqb (length inbox) (202 * d .crew .n) long) tt;
+        asks-not = λ inbox one long.
+            simp (ok, early, eq-eqb (d .round) 1 one, ne-eqb (length inbox) (202 * d .crew .n) long);
         asks-late = λ inbox late. simp (ok, ne-eqb (d .round) 1 late);
       }
 

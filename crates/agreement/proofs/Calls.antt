@@ -49,11 +49,13 @@ module _ (d : Node) (n : ℕ) (next : List ℕ → Node)
   whole-takes (ask inbox ∷ cs) h = whole-takes cs h
   whole-takes (take-round inbox ∷ cs) (inl h) =
       let e = takes inbox (h .0) in
-      (inbox, h .0, taken-first d inbox cs e, ap (λ o. afterCalls (valueOr d o) cs) e ∙ asks-keep (next inbox) cs (h .1))
+      let after = ap (λ o. afterCalls (valueOr d o) cs) e ∙ asks-keep (next inbox) cs (h .1) in
+      (inbox, h .0, taken-first d inbox cs e, after)
   whole-takes (take-round inbox ∷ cs) (inr h) =
       let e = refuses inbox (h .0) in
       let r = whole-takes cs (h .1) in
-      (r .0, r .1, taken-first d inbox cs e ∙ r .2, ap (λ o. afterCalls (valueOr d o) cs) e ∙ r .3)
+      let after = ap (λ o. afterCalls (valueOr d o) cs) e ∙ r .3 in
+      (r .0, r .1, taken-first d inbox cs e ∙ r .2, after)
 
   -- all writes of a whole round are made on the record with which the round begins
   pub whole-wrote : (cs : List Call) (bytes : List ℕ) → Whole n cs → Wrote d cs bytes

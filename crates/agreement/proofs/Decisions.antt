@@ -1,5 +1,5 @@
--- Decisions from the inboxes are the abstract engine's, so its theorems hold of them: standing results, agreement and common
--- start. Assumes nothing.
+-- Decisions from the inboxes are the abstract engine's, so its theorems hold of them: standing results, agreement
+-- and common start. Assumes nothing.
 use mathlib.Core.Path.{_≡_, refl, sym, ap, _∙_, subst}
 use mathlib.Core.List.{List}
 use mathlib.Core.Logic.{_⊎_, inl, inr, _↔_}
@@ -63,20 +63,23 @@ module _ (l : Listing) (crew : Crew) (run : ℕ) (pre : Premises l crew run) whe
         | no spent ↦ absurd (none-taken (sym (took-none l crew run pre p j h (omega arith) (omega arith)) ∙ e))
       ]
 
+  -- the engine's rule decides v, by what p heard in round j
+  abbrev Enough : ℕ → ℕ → ℕ → ℕ → Type 0
+  Enough p j v phase = T (decides (classOf crew) crew phase (inbox crew (said l j p)) v)
+
   pub wins-decides : (p j v : ℕ) → T (honest l p) → Wins l crew p j v → DecidesAt (runOf l crew) j p v
   wins-decides p j v h w =
       let held = took-held p j h (w .1) (w .2) in
       let place = place-early (runOf l crew) j (held .1) in
       let third = third-round (state (runOf l crew) j .round) (sym (place .1) ∙ w .0) in
       let enough = subst T (sym (decides-is p j (phaseAt crew j) v (w .1) (w .2))) (le→leb (crew .d) _ (w .3)) in
-      let now = subst (λ phase. T (decides (classOf crew) crew phase (inbox crew (said l j p)) v)) (place .0) enough in
-      (held, (third, now))
+      (held, (third, subst (Enough p j v) (place .0) enough))
 
   pub decides-wins : (p j v : ℕ) → T (honest l p) → DecidesAt (runOf l crew) j p v → Wins l crew p j v
   decides-wins p j v h d =
       let t = took l crew run pre p j h (d .0) in
       let place = place-early (runOf l crew) j (d .0 .1) in
-      let enough = subst (λ phase. T (decides (classOf crew) crew phase (inbox crew (said l j p)) v)) (sym (place .0)) (d .1 .1) in (
+      let enough = subst (Enough p j v) (sym (place .0)) (d .1 .1) in (
         place .1 ∙ ap roundNumber (d .1 .0),
         t .bytes,
         t .taken,
@@ -133,10 +136,11 @@ module _ (l : Listing) (crew : Crew) (run : ℕ) (pre : Premises l crew run) whe
     begins-with : (q : ℕ) → T (honest l q) → recordOf q (made (l .starts)) .vote ≡ v
     unfolding begun
     begins-with q h =
-        let made-by = started (λ s. T (isAccepted (answerTo s)) → s .plan ≡ v) (λ d. (d .crew ≡ crew) × (d .run ≡ run)) q
-        (l .starts) all (pre .one-crew) (ltb→lt 0 _ h) in
+        let d = recordOf q (made (l .starts)) in
+        let made-by = started (λ s. T (isAccepted (answerTo s)) → s .plan ≡ v) (λ d. (d .crew ≡ crew) × (d .run ≡ run))
+        q (l .starts) all (pre .one-crew) (ltb→lt 0 _ h) in
         let s = made-by .start in
-        let b = start-accepted (s .crew) (s .own) (s .run) (s .plan) (recordOf q (made (l .starts))) (made-by .answer) in
+        let b = start-accepted (s .crew) (s .own) (s .run) (s .plan) d (made-by .answer) in
         ap (λ (x : Node). x .vote) (b .is-begun)
         ∙ made-by .of-start (subst (λ o. T (isAccepted o)) (sym (made-by .answer)) tt)
 

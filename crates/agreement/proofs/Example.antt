@@ -1,11 +1,12 @@
--- The drill's example of document 01 as a list of calls on bytes: it meets the premises of demand 3, so that they can be met,
--- and the three honest nodes end with 5. Crew 3,4,1,0,3 and plans 5 5 5 0; nobody sends for node 3. Assumes nothing.
+-- The drill's example of document 01 as a list of calls on bytes: it meets the premises of demand 3, so that they
+-- can be met, and the three honest nodes end with 5. Crew 3,4,1,0,3 and plans 5 5 5 0; nobody sends for node 3.
+-- Assumes nothing.
 use mathlib.Core.Path.{_≡_, refl, sym, _∙_, subst}
 use mathlib.Core.Bool.{Bool, true, not, _&&_}
 use mathlib.Core.List.{List, [], _∷_, _++_}
 use mathlib.Core.Logic.{inl, inr}
 use mathlib.Core.Option.{Option, some}
-use Prim.Native.Nat.{ℕ, zero, suc, _+_, _≤_, _<_}
+use Prim.Native.Nat.{ℕ, zero, suc, _^_, _≤_, _<_}
 use native.Mathlib.Omega.{arith}
 use native.Mathlib.Decide.{decLt}
 use lib.ListN.{length, drop, replicate}
@@ -33,8 +34,8 @@ use Rattle.node.specs.Sending.{comingOf, writeOf}
 use Rattle.rounds.specs.Inbox.{slotAt, ballotAt}
 use Rattle.rounds.specs.Taking.{afterRound, takeOf}
 use Rattle.agreement.specs.Statement.{Start, Call, write, ask, take-round, Event, Listing, made, honest, recordOf}
-use Rattle.agreement.specs.Statement.{afterCalls, callsOf, calls, recordAt, takenInbox, inboxAt, Wrote, Whole, Premises}
-use Rattle.agreement.specs.Statement.{Conclusions, numbered, standing, Every}
+use Rattle.agreement.specs.Statement.{afterCalls, callsOf, calls, recordAt, takenInbox, inboxAt, Wrote, Whole}
+use Rattle.agreement.specs.Statement.{numbered, Every, Premises, standing, Conclusions}
 use Rattle.agreement.proofs.Calls.{taken-inside}
 use Rattle.agreement.proofs.Demand.{demand3}
 
@@ -61,8 +62,8 @@ slot j = message j ++ drop (length (message j)) buffer
 abbrev box : ℕ → List ℕ
 box j = slot j ++ (slot j ++ (slot j ++ buffer))
 
--- The list: four starts, of which the last is refused for its plan 0; then three rounds. In each every node writes, first
--- into a buffer that is too short, and takes the round, first with an inbox that is.
+-- The list: four starts, of which the last is refused for its plan 0; then three rounds. In each every node writes,
+-- first into a buffer that is too short, and takes the round, first with an inbox that is.
 
 abbrev begins : ℕ → ℕ → Start
 begins q plan = record { crew = crew; own = q; run = 1; plan = plan }
@@ -72,10 +73,13 @@ on q c = record { node = q; call = c }
 
 abbrev round : ℕ → List Event
 round j =
-    on 0 (write []) ∷ on 0 (write buffer) ∷ on 1 (write []) ∷ on 1 (write buffer) ∷ on 2 (write []) ∷ on 2 (write buffer)
+    on 0 (write []) ∷ on 0 (write buffer)
+    ∷ on 1 (write []) ∷ on 1 (write buffer)
+    ∷ on 2 (write []) ∷ on 2 (write buffer)
     ∷ on 0 (ask (box j)) ∷ on 0 (take-round []) ∷ on 0 (take-round (box j))
     ∷ on 1 (ask (box j)) ∷ on 1 (take-round []) ∷ on 1 (take-round (box j))
-    ∷ on 2 (ask (box j)) ∷ on 2 (take-round []) ∷ on 2 (take-round (box j)) ∷ []
+    ∷ on 2 (ask (box j)) ∷ on 2 (take-round []) ∷ on 2 (take-round (box j))
+    ∷ []
 
 abbrev pub drill : Listing
 drill = record {
@@ -85,9 +89,10 @@ drill = record {
 
 pub drill-decides : (standing drill 0 ≡ 5) × (standing drill 1 ≡ 5) × (standing drill 2 ≡ 5)
 unfolding
-    acceptOf startOf begun made recordOf callsOf recordAt afterCalls takeOf sound emptyFrom afterRound ballotAt readOf tested
-    bodyAt entriesIn entriesOk count gather lists least leastOf possible backed backing enough selection leading mostVoted
-    anyPlan taken valid validated decides decision
+    acceptOf startOf begun made recordOf callsOf recordAt afterCalls
+    takeOf sound emptyFrom afterRound ballotAt readOf tested bodyAt entriesIn entriesOk count gather
+    lists least leastOf possible backed backing enough selection leading mostVoted anyPlan taken
+    valid validated decides decision
 drill-decides = (refl, refl, refl)
 
 -- The premises, computed.
@@ -98,8 +103,8 @@ three P a b c (suc zero) h = b
 three P a b c (suc (suc zero)) h = c
 three P a b c (suc (suc (suc i))) h = absurd (omega arith)
 
--- Node p in round j: it takes the inbox, has written the message, which stands at the front of its slot, and goes through the
--- whole round.
+-- Node p in round j: it takes the inbox, has written the message, which stands at the front of its slot, and goes
+-- through the whole round.
 abbrev Goes : ℕ → ℕ → Type 0
 Goes p j =
     (inboxAt drill p j ≡ some (box j))
@@ -109,9 +114,10 @@ Goes p j =
 
 goes : (p : ℕ) → p < 3 → (j : ℕ) → j < 3 → Goes p j
 unfolding
-    acceptOf startOf begun made recordOf callsOf recordAt afterCalls takeOf sound emptyFrom afterRound ballotAt readOf tested
-    bodyAt entriesIn entriesOk count gather lists least leastOf possible backed backing enough selection leading mostVoted
-    anyPlan taken valid validated decides decision takenInbox comingOf writeOf encode entryBytes listed
+    acceptOf startOf begun made recordOf callsOf recordAt afterCalls takenInbox
+    takeOf sound emptyFrom afterRound ballotAt readOf tested bodyAt entriesIn entriesOk count gather
+    lists least leastOf possible backed backing enough selection leading mostVoted anyPlan taken
+    valid validated decides decision comingOf writeOf encode entryBytes listed
 goes =
     three (λ p. (j : ℕ) → j < 3 → Goes p j)
     (three (Goes 0)
@@ -183,9 +189,12 @@ taken-box p j inbox h e =
     let inside = taken-inside drill p j inbox e in
     (inside, same-box (box j) inbox (sym (goes p (honest-three p h) j inside .0) ∙ e))
 
+fits : (1 < 256 ^ 4) × (5 < 256 ^ 2)
+fits = (omega arith, omega arith)
+
 pub drill-premises : Premises drill crew 1
 drill-premises = record {
-  typed = ((omega arith, omega arith), ((omega arith, omega arith), ((omega arith, omega arith), ((omega arith, omega arith), tt))));
+  typed = (fits, (fits, (fits, ((omega arith, omega arith), tt))));
   crew-accepted = accepted-crew;
   one-crew = one-crew;
   distinct = one-each;

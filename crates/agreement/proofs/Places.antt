@@ -1,5 +1,5 @@
--- A round's place in the list: the abstract engine's state when round j begins stands at the phase and round that j gives,
--- until it is spent. Assumes nothing.
+-- A round's place in the list: the abstract engine's state when round j begins stands at the phase and round that j
+-- gives, until it is spent. Assumes nothing.
 use mathlib.Core.Path.{_≡_, refl, sym}
 use mathlib.Core.Bool.{Bool, true, false, cond}
 use mathlib.Core.Logic.{_⊎_, inl, inr}
@@ -91,7 +91,9 @@ module _ (run : Run) where
 
   stays : (j : ℕ) (s : State) → 64 ≤ s .phase → Here j s → Here (suc j) s
   stays j s end (inl here) = absurd (omega (arith, here .0, here .1))
-  stays j s end (inr spent) = inr (omega (arith, spent .0, phase-rises j (eqb (run .crew .class) 1)), spent .1, spent .2)
+  stays j s end (inr spent) =
+      let rises = phase-rises j (eqb (run .crew .class) 1) in
+      inr (omega (arith, spent .0), spent .1, spent .2)
 
   place : (j : ℕ) → Stands (run .crew) j (state run j .phase) (state run j .round)
   unfolding state

@@ -1,5 +1,5 @@
--- The votes of counting messages are plans: not 0, and of two bytes where the inbox holds bytes. So is the plan that a rule
--- answers, where it answers one. Assumes nothing.
+-- The votes of counting messages are plans: not 0, and of two bytes where the inbox holds bytes. So is the plan
+-- that a rule answers, where it answers one. Assumes nothing.
 use mathlib.Core.Path.{_≡_, refl, subst}
 use mathlib.Core.Bool.{Bool, true, false, cond, _&&_}
 use mathlib.Core.List.{List}

@@ -1,5 +1,5 @@
--- A list cut short after any of its rounds meets the premises of demand 3 where the whole list does, so the conclusions hold
--- after every round. Assumes nothing.
+-- A list cut short after any of its rounds meets the premises of demand 3 where the whole list does, so the
+-- conclusions hold after every round. Assumes nothing.
 use mathlib.Core.Path.{_≡_, refl, sym, ap, ap₂, _∙_, subst}
 use mathlib.Core.List.{List, []}
 use mathlib.Core.Option.{some}
@@ -62,5 +62,6 @@ module _ (l : Listing) (m : ℕ) where
         (s .0, s .1, subst (λ cs. Wrote (recordAt (cut m l) q j) cs (s .0)) (sym (calls-same q j before)) wrote, s .3);
   }
 
-pub after-every-round : (l : Listing) (crew : Crew) (run : ℕ) → Premises l crew run → (m : ℕ) → Conclusions (cut m l) crew
+pub after-every-round : (l : Listing) (crew : Crew) (run : ℕ) → Premises l crew run
+    → (m : ℕ) → Conclusions (cut m l) crew
 after-every-round l crew run pre m = demand3 (cut m l) crew run (cut-premises l m crew run pre)

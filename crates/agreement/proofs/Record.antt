@@ -1,5 +1,5 @@
--- A record is a node of the abstract engine with its crew, run, own number and place; taking a round is the engine's turn.
--- Assumes nothing.
+-- A record is a node of the abstract engine with its crew, run, own number and place; taking a round is the
+-- engine's turn. Assumes nothing.
 use mathlib.Core.Path.{_≡_, refl, ap}
 use mathlib.Core.Bool.{Bool, true, false, cond}
 use mathlib.Core.List.{List}

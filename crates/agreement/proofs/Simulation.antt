@@ -1,5 +1,5 @@
--- The list of calls is a run of the abstract engine: every honest record, round by round, is the engine's node, and the run
--- meets what the engine's theorems suppose. Assumes nothing.
+-- The list of calls is a run of the abstract engine: every honest record, round by round, is the engine's node, and
+-- the run meets what the engine's theorems suppose. Assumes nothing.
 use mathlib.Core.Path.{_≡_, refl, sym, ap, ap₂, _∙_, subst}
 use mathlib.Core.List.{List, _++_}
 use mathlib.Core.Logic.{_⊎_, inl, inr, _≢_}
@@ -79,8 +79,8 @@ module _ (d : Node) (ok : sound d ≡ true) (left : d .phase < 64) (cs : List Ca
 
   round-wrote : (bytes : List ℕ) → Wrote d cs bytes → (buffer : List ℕ) × Puts d (write buffer) bytes
   round-wrote bytes w =
-      whole-wrote d (d .crew .n) (λ bytes. afterRound d (ballots d bytes)) (take-whole d ok left) (take-cut d ok left) cs
-      bytes whole w
+      whole-wrote d (d .crew .n) (λ bytes. afterRound d (ballots d bytes)) (take-whole d ok left)
+      (take-cut d ok left) cs bytes whole w
 
 -- a record that a start gave
 opening : (d : Node) (crew : Crew) (own run plan : ℕ) → d ≡ begun crew own run plan
@@ -163,7 +163,8 @@ module _ (l : Listing) (crew : Crew) (run : ℕ) (pre : Premises l crew run) whe
               ∙ ap₂ afterRound (f .is) same
               ∙ take-turns crew run q (s .phase) (s .round) (s .node q) (inbox crew (said l j q));
           is-sound =
-              subst (λ (x : Node). sound x ≡ true) (sym (t .after)) (take-sound d (t .bytes) (afterRound d heard) takes);
+              subst (λ (x : Node). sound x ≡ true) (sym (t .after))
+              (take-sound d (t .bytes) (afterRound d heard) takes);
           typed =
               subst Typed (sym (t .after))
               (take-typed d (t .bytes) (afterRound d heard) (f .typed) (pre .bytes q j h (t .bytes) (t .taken)) takes);
@@ -219,7 +220,8 @@ module _ (l : Listing) (crew : Crew) (run : ℕ) (pre : Premises l crew run) whe
     slot-begins q h written rest slot wrote e =
         let f = follows q j h (omega (arith, held .0)) in
         let left : recordAt l q j .phase < 64 = omega (arith, held .1, phase-same q j h (held .0) f) in
-        let puts = round-wrote (recordAt l q j) (f .is-sound) left (calls l q j) (whole q j h (held .0) f (held .1)) written wrote in
+        let whole-round = whole q j h (held .0) f (held .1) in
+        let puts = round-wrote (recordAt l q j) (f .is-sound) left (calls l q j) whole-round written wrote in
         let same = puts-coming (recordAt l q j) (puts .0) written (puts .1) in
         (e ∙ ap (λ bytes. bytes ++ rest) (sym same), omega (arith, puts .1 .1, ap length same))
 

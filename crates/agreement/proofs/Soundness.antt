@@ -1,5 +1,5 @@
--- Law 4 of the engine: a start gives a sound record; every call on a sound record, reachable or not, leaves a sound record;
--- and a refused call leaves the record as it was. Assumes nothing.
+-- Law 4 of the engine: a start gives a sound record; every call on a sound record, reachable or not, leaves a sound
+-- record; and a refused call leaves the record as it was. Assumes nothing.
 use mathlib.Core.Path.{_≡_, refl, ap, subst, _∙_}
 use mathlib.Core.Bool.{Bool, true, false, cond}
 use mathlib.Core.List.{List}
@@ -22,7 +22,7 @@ use Rattle.ballot.proofs.Least.{Voted, leastOf-voted}
 use Rattle.ballot.proofs.Selection.{taken-voted}
 use Rattle.ballot.proofs.Validation.{validated-voted}
 use Rattle.model.specs.Node.{ifPlan}
-use Rattle.model.proofs.Node.{ifPlan-is, kept-length, kept-other, kept-here}
+use Rattle.model.proofs.Node.{ifPlan-is, kept, kept-length, kept-other, kept-here}
 use Rattle.node.specs.declared.Node.{Node}
 use Rattle.node.specs.Soundness.{firstUnselected, sound}
 use Rattle.node.specs.Starting.{startOf}
@@ -109,7 +109,10 @@ module _ (d : Node) (s : Sound d) (left : d .phase < 64) (v : ℕ) where
     vote = plan-or v (d .base) (s .base);
     base = plan-or v (d .base) (s .base);
     initial = s .initial;
-    stamp = elim (ifPlan-is v (d .phase) (d .stamp)) [ inl z ↦ omega (arith, z .1, s .stamp) | inr z ↦ omega (arith, z .1) ];
+    stamp = elim (ifPlan-is v (d .phase) (d .stamp)) [
+      | inl z ↦ omega (arith, z .1, s .stamp)
+      | inr z ↦ omega (arith, z .1)
+    ];
     stamp-before = λ early. omega arith;
     unstamped = λ first. absurd (s .unvalidated first two);
     empty = λ phase from to. s .empty phase (omega (arith, unselected-next d (omega arith))) to;
@@ -176,7 +179,7 @@ fits-or : (v old : ℕ) → v < 256 ^ 2 → old < 256 ^ 2 → ifPlan v v old < 2
 fits-or v old a b = elim (ifPlan-is v v old) [ inl z ↦ omega (arith, z .1) | inr z ↦ omega (arith, z .1) ]
 
 module _ (d : Node) (t : Typed d) (v : ℕ) (fits : v < 256 ^ 2) where
-  entry-fits : d .phase < 64 → (phase : ℕ) → getD (ifPlan v (set (d .history) (d .phase) v) (d .history)) phase 0 < 256 ^ 2
+  entry-fits : d .phase < 64 → (phase : ℕ) → getD (kept (d .history) (d .phase) v) phase 0 < 256 ^ 2
   entry-fits left phase = elim (ℕ-discrete phase (d .phase)) [
     | no other ↦ rw (kept-other (d .history) (d .phase) v phase other) (t .entries phase)
     | yes same ↦ elim (ifPlan-is v (set (d .history) (d .phase) v) (d .history)) [
@@ -213,22 +216,29 @@ module _ (d : Node) (t : Typed d) (v : ℕ) (fits : v < 256 ^ 2) where
     vote = t .vote;
     base = t .base;
     select = t .select;
-    result = elim (ifPlan-is (d .result) (d .result) v) [ inl z ↦ omega (arith, z .1) | inr z ↦ omega (arith, z .1, t .result) ];
+    result = elim (ifPlan-is (d .result) (d .result) v) [
+      | inl z ↦ omega (arith, z .1)
+      | inr z ↦ omega (arith, z .1, t .result)
+    ];
     entries = t .entries;
     long = t .long;
   }
+
+selected-voted : (d : Node) (heard : List Ballot) → Voted (selected d heard) heard
+selected-voted d heard = taken-voted (classOf (d .crew)) (d .crew) heard
 
 decided-voted : (d : Node) (heard : List Ballot) → Voted (decided d heard) heard
 unfolding decision
 decided-voted d heard = leastOf-voted (decides (classOf (d .crew)) (d .crew) (d .phase) heard) heard
 
-pub take-typed : (d : Node) (inbox : List ℕ) (e : Node) → Typed d → AreBytes inbox → takeOf d inbox ≡ accepted e → Typed e
+pub take-typed : (d : Node) (inbox : List ℕ) (e : Node) → Typed d → AreBytes inbox → takeOf d inbox ≡ accepted e
+    → Typed e
 take-typed d inbox e typed bytes h =
     let t = take-accepted d inbox e h in
     let heard = ballots d inbox in
     let fits = voted-fits d inbox bytes in
     let after = by-round d heard Typed (sound-facts d (t .is-sound))
-    (λ one. selection-typed d typed (selected d heard) (fits _ (taken-voted (classOf (d .crew)) (d .crew) heard)) (t .left))
+    (λ one. selection-typed d typed (selected d heard) (fits _ (selected-voted d heard)) (t .left))
     (λ two. validation-typed d typed (confirmed d heard) (fits _ (validated-voted (d .crew) heard)))
     (λ three. decision-typed d typed (decided d heard) (fits _ (decided-voted d heard))) in
     subst Typed (t .is-after) after

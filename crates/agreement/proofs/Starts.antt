@@ -40,7 +40,7 @@ module _ (P : Start → Type 0) (Q : Node → Type 0) (q : ℕ) where
       }
       here d e of-d of-rest false own h later = later of-rest (omega arith)
 
-      go : (o : Outcome Node) → answerTo s ≡ o → Every Q (withRecord o (made ss)) → 0 < numbered q (withRecord o (made ss))
-          → Later → MadeBy P Q q (recordOf q (withRecord o (made ss)))
+      go : (o : Outcome Node) → answerTo s ≡ o → Every Q (withRecord o (made ss))
+          → 0 < numbered q (withRecord o (made ss)) → Later → MadeBy P Q q (recordOf q (withRecord o (made ss)))
       go (accepted d) e records h later = here d e (records .0) (records .1) (eqb (d .own) q) refl h later
       go (refused number) e records h later = later records h

@@ -43,7 +43,8 @@ same-entry phase plan = go (leb 1 plan) refl
 
 -- one phase more, at the end
 listed-last : (history : List ℕ) (from count : ℕ)
-    → listed history from (suc count) ≡ listed history from count ++ entryOf (from + count) (getD history (from + count) 0)
+    → listed history from (suc count)
+    ≡ listed history from count ++ entryOf (from + count) (getD history (from + count) 0)
 unfolding listed
 listed-last history from zero =
     let here : from ≡ from + 0 = omega arith in
@@ -74,9 +75,11 @@ listed-said crew a history phase = go (eqb (crew .class) 1) (eqb (crew .class) 2
     go : (x y z : Bool) → eqb (crew .class) 1 ≡ x → eqb (crew .class) 2 ≡ y → eqb (crew .class) 3 ≡ z
         → listed history 0 (cond z phase 0) ≡ entriesSaid (cond x one (cond y two three)) history phase
     go true y false first second third = refl
-    go true y true first second third = absurd (omega (arith, eqb-true (crew .class) 1 first, eqb-true (crew .class) 3 third))
+    go true y true first second third =
+        absurd (omega (arith, eqb-true (crew .class) 1 first, eqb-true (crew .class) 3 third))
     go false true false first second third = refl
-    go false true true first second third = absurd (omega (arith, eqb-true (crew .class) 2 second, eqb-true (crew .class) 3 third))
+    go false true true first second third =
+        absurd (omega (arith, eqb-true (crew .class) 2 second, eqb-true (crew .class) 3 third))
     go false false true first second third = listed-below history phase
     go false false false first second third =
         let not-one = eqb-false (crew .class) 1 first in
@@ -104,7 +107,8 @@ module _ (crew : Crew) (run q phase : ℕ) (a : model.Node) (rest : List ℕ) wh
   abbrev Heard : Round → Type 0
   Heard round = let d = asRecord crew run q phase round a in
       Typed d → sound d ≡ true → phase < 64 → 0 < length (comingBytes d)
-      → counted run phase (roundNumber round) (readOf (comingBytes d ++ rest)) ≡ say (classOf crew) crew phase round q a
+      → counted run phase (roundNumber round) (readOf (comingBytes d ++ rest))
+      ≡ say (classOf crew) crew phase round q a
 
   selection-heard : Heard selecting
   unfolding comingOf
@@ -141,7 +145,8 @@ module _ (crew : Crew) (run q phase : ℕ) (a : model.Node) (rest : List ℕ) wh
 
   pub coming-heard : (round : Round) → (let d = asRecord crew run q phase round a in
       Typed d → sound d ≡ true → phase < 64 → 0 < length (comingBytes d)
-      → counted run phase (roundNumber round) (readOf (comingBytes d ++ rest)) ≡ say (classOf crew) crew phase round q a)
+      → counted run phase (roundNumber round) (readOf (comingBytes d ++ rest))
+      ≡ say (classOf crew) crew phase round q a)
   coming-heard selecting = selection-heard
   coming-heard validating = validation-heard
   coming-heard deciding = decision-heard

@@ -1,6 +1,7 @@
--- Demand 3: one statement on a whole list of start, write, ask and take calls on bytes. Document 01, 'The list in demand 3'.
--- Definitions only: this is the page that a reader has to believe. What a call answers and leaves behind is startOf, writeOf,
--- bufferOf, askOf and takeOf, the very definitions that the contracts of the functions cite. proofs/Demand.antt proves it.
+-- Demand 3: one statement on a whole list of start, write, ask and take calls on bytes. Document 01, 'The list in
+-- demand 3'. Definitions only: this is the page that a reader has to believe. What a call answers and leaves behind
+-- is startOf, writeOf, bufferOf, askOf and takeOf, the very definitions that the contracts of the functions cite.
+-- proofs/Demand.antt proves it.
 use mathlib.Core.Path.{_≡_}
 use mathlib.Core.Bool.{Bool, not, cond, _&&_}
 use mathlib.Core.List.{List, [], _∷_, _++_}
@@ -82,8 +83,8 @@ recordOf q (d ∷ ds) = cond (eqb (d .own) q) d (recordOf q ds)
 
 -- The records, from call to call.
 
--- 01: "each call gets the record that its node's last accepted take returned, at first the start's, and nothing else changes
--- it meanwhile"; "Refused calls stand in the list and change no record."
+-- 01: "each call gets the record that its node's last accepted take returned, at first the start's, and nothing
+-- else changes it meanwhile"; "Refused calls stand in the list and change no record."
 abbrev pub afterCall : Node → Call → Node
 afterCall d (write buffer) = d
 afterCall d (ask inbox) = d
@@ -118,8 +119,8 @@ takenInbox d (take-round inbox ∷ cs) = cond (isAccepted (takeOf d inbox)) (som
 abbrev pub inboxAt : Listing → ℕ → ℕ → Option (List ℕ)
 inboxAt l p j = takenInbox (recordAt l p j) (calls l p j)
 
--- The call wrote these bytes: it was accepted with their number, and they stand at its buffer's front. Silence has written
--- nothing.
+-- The call wrote these bytes: it was accepted with their number, and they stand at its buffer's front. Silence has
+-- written nothing.
 abbrev pub Puts : Node → Call → List ℕ → Type 0
 Puts d (write buffer) bytes =
     (writeOf d buffer ≡ accepted (length bytes))
@@ -144,11 +145,11 @@ Asks (ask inbox ∷ cs) = Asks cs
 Asks (take-round inbox ∷ cs) = ⊥
 
 -- The calls of one node in a whole round of n slots.
--- 01: "In a whole round every honest node writes its coming message, then every honest node takes the round, with inboxes that
--- anybody may fill after all the writes"; "A take refused with 14 is made again until one is accepted."
--- That is: writes and takes of a wrong length, as many as there may be, then one take of the right length; asks anywhere. It
--- allows more than 01: a node may write nothing at all, or again after a refused take, and nodes wait for each other only so
--- far as the premise on slots makes them.
+-- 01: "In a whole round every honest node writes its coming message, then every honest node takes the round, with
+-- inboxes that anybody may fill after all the writes"; "A take refused with 14 is made again until one is
+-- accepted." That is: writes and takes of a wrong length, as many as there may be, then one take of the right
+-- length; asks anywhere. It allows more than 01: a node may write nothing at all, or again after a refused take,
+-- and nodes wait for each other only so far as the premise on slots makes them.
 abbrev pub Whole : ℕ → List Call → Type 0
 Whole n [] = ⊥
 Whole n (write buffer ∷ cs) = Whole n cs
@@ -158,8 +159,8 @@ Whole n (take-round inbox ∷ cs) =
 
 -- Places.
 
--- 01: "A round's place in the list gives its phase and number: rounds 1 and 3 of each phase in class 1, rounds 1 to 3 in the
--- others, phases 1 to 63."
+-- 01: "A round's place in the list gives its phase and number: rounds 1 and 3 of each phase in class 1, rounds 1 to
+-- 3 in the others, phases 1 to 63."
 abbrev pub phaseAt : Crew → ℕ → ℕ
 phaseAt crew j = cond (eqb (crew .class) 1) (1 + j / 2) (1 + j / 3)
 
@@ -177,12 +178,14 @@ module _ {A : Type 0} where
   Every P [] = Unit {0}
   Every P (a ∷ others) = P a × Every P others
 
--- Slot q of the inbox that p took in round j counts for p, and says m. An inbox is p's own: others may have got another.
+-- Slot q of the inbox that p took in round j counts for p, and says m. An inbox is p's own: others may have got
+-- another.
 abbrev pub Hears : Listing → ℕ → ℕ → ℕ → List ℕ → Ballot → Type 0
 Hears l p j q inbox m = (inboxAt l p j ≡ some inbox) × (ballotAt (recordAt l p j) inbox q ≡ some m)
 
 pub record Premises (l : Listing) (crew : Crew) (run : ℕ) : Type 0 where
-  -- What the types of a start's arguments say: a run has four bytes, a plan two. A refused start may carry anything else.
+  -- What the types of a start's arguments say: a run has four bytes, a plan two. A refused start may carry anything
+  -- else.
   pub typed : Every (λ s. (s .run < 256 ^ 4) × (s .plan < 256 ^ 2)) (l .starts)
   -- the accepted starts have one accepted crew and one run
   pub crew-accepted : acceptOf crew ≡ accepted tt
@@ -193,10 +196,11 @@ pub record Premises (l : Listing) (crew : Crew) (run : ℕ) : Type 0 where
   pub few : tally (λ q. not (honest l q)) (crew .n) ≤ crew .b
   -- until the records are spent every honest node goes through every round; after that it makes any calls
   pub whole : (p j : ℕ) → T (honest l p) → j < length (l .rounds) → Early crew j → Whole (crew .n) (calls l p j)
-  -- An inbox that an honest node took holds bytes. Nothing is asked of buffers, or of inboxes of refused takes and of asks.
+  -- An inbox that an honest node took holds bytes. Nothing is asked of buffers, or of inboxes of refused takes and
+  -- of asks.
   pub bytes : (p j : ℕ) → T (honest l p) → (inbox : List ℕ) → inboxAt l p j ≡ some inbox → AreBytes inbox
-  -- A slot that counts for an honest node, its own included, and belongs to an honest one holds what that one wrote in the
-  -- round. Of slots that do not count, and of slots of other nodes, nothing is asked.
+  -- A slot that counts for an honest node, its own included, and belongs to an honest one holds what that one wrote
+  -- in the round. Of slots that do not count, and of slots of other nodes, nothing is asked.
   -- 01: "a slot holds what a node wrote if there are such bytes and they stand at its front"
   pub slots : (p q j : ℕ) → T (honest l p) → T (honest l q) → (inbox : List ℕ) (m : Ballot) → Hears l p j q inbox m
       → (written : List ℕ) × (rest : List ℕ)
@@ -210,7 +214,8 @@ abbrev pub isFor : Crew → ℕ → ℕ → Ballot → Bool
 isFor crew phase v m = fresh (classOf crew) phase m && votes v m
 
 -- In round j the plan v wins for p.
--- 01: "in some round 3 that it took, at least D counting slots held one plan (in classes 2 and 3 with the phase as stamp)"
+-- 01: "in some round 3 that it took, at least D counting slots held one plan (in classes 2 and 3 with the phase as
+-- stamp)"
 abbrev pub Wins : Listing → Crew → ℕ → ℕ → ℕ → Type 0
 Wins l crew p j v =
     (roundAt crew j ≡ 3)
@@ -258,15 +263,15 @@ pub record Good (l : Listing) (crew : Crew) (phase : ℕ) (circle : ℕ → Bool
   -- 01: "In round 1 all of them have the same counting messages, each in as many slots of one inbox as of another"
   pub equal : (j p q : ℕ) → phaseAt crew j ≡ phase → roundAt crew j ≡ 1 → T (circle p) → T (circle q)
       → (m : Ballot) → count (sameBallot m) (heard l p j) ≡ count (sameBallot m) (heard l q j)
-  -- 01: "and every circle node's slot counts in each. In rounds 2 and 3 the slot of every circle node that is not silent counts
-  -- in every circle node's inbox." In round 1 no node is silent.
+  -- 01: "and every circle node's slot counts in each. In rounds 2 and 3 the slot of every circle node that is not
+  -- silent counts in every circle node's inbox." In round 1 no node is silent.
   pub counts : (j p q : ℕ) → phaseAt crew j ≡ phase → T (circle p) → T (circle q) → (Silent l q j → ⊥)
       → (inbox : List ℕ) × (m : Ballot) × Hears l p j q inbox m
 
 -- Conclusions.
 
--- What the calls on an unspent record answer: a write is refused only with 9, a take only with 14, an ask in round 1 only with
--- 14. 01: "Asking outside round 1 is also 7."
+-- What the calls on an unspent record answer: a write is refused only with 9, a take only with 14, an ask in round
+-- 1 only with 14. 01: "Asking outside round 1 is also 7."
 pub record Unspent (n : ℕ) (d : Node) : Type 0 where
   pub writes : (buffer : List ℕ)
       → (writeOf d buffer ≡ accepted (length (comingBytes d)))
@@ -285,8 +290,8 @@ pub record Spent (d : Node) : Type 0 where
   pub takes-not : (inbox : List ℕ) → takeOf d inbox ≡ refused 8
   pub asks-not : (inbox : List ℕ) → askOf d inbox ≡ refused 8
 
--- A list cut short after any of its rounds is a list again, and meets the premises where the whole does (proofs/Prefix.antt):
--- so what is said of the standing results holds after every round.
+-- A list cut short after any of its rounds is a list again, and meets the premises where the whole does
+-- (proofs/Prefix.antt): so what is said of the standing results holds after every round.
 pub record Conclusions (l : Listing) (crew : Crew) : Type 0 where
   -- a standing result is the plan that the node decided, and 0 where it has not decided
   pub result : (p : ℕ) → T (honest l p)
