@@ -1,18 +1,18 @@
 -- The drill's example of document 01 as a list of calls on bytes: it meets the premises of demand 3, so that they
 -- can be met, and the three honest nodes end with 5. Crew 3,4,1,0,3 and plans 5 5 5 0; nobody sends for node 3.
 -- Assumes nothing.
-use mathlib.Core.Path.{_≡_, refl, sym, _∙_, subst}
+use mathlib.Core.Path.{_≡_, refl, sym, ap, _∙_, subst}
 use mathlib.Core.Bool.{Bool, true, not, _&&_}
 use mathlib.Core.List.{List, [], _∷_, _++_}
 use mathlib.Core.Logic.{inl, inr}
 use mathlib.Core.Option.{Option, some}
-use Prim.Native.Nat.{ℕ, zero, suc, _^_, _≤_, _<_}
+use Prim.Native.Nat.{ℕ, zero, suc, _+_, _^_, _≤_, _<_}
 use native.Mathlib.Omega.{arith}
 use native.Mathlib.Decide.{decLt}
 use lib.ListN.{length, drop, replicate}
 use lib.Dec.{T, ltb, ltb→lt}
 use borrow.Author.Tests.{ne-eqb}
-use Rattle.wire.specs.Outcome.{accepted}
+use Rattle.wire.specs.Outcome.{accepted, refused}
 use Rattle.wire.specs.Bytes.{AreBytes}
 use Rattle.crew.specs.declared.Crew.{Crew}
 use Rattle.crew.specs.Acceptance.{acceptOf}
@@ -21,7 +21,7 @@ use Rattle.message.specs.Encoding.{entryBytes, encode}
 use Rattle.message.specs.Reading.{entriesIn, bodyAt, tested, readOf}
 use Rattle.message.specs.Writing.{listed}
 use Rattle.ballot.specs.Count.{tally, count, gather}
-use Rattle.ballot.specs.Ballot.{lists}
+use Rattle.ballot.specs.Ballot.{Ballot, lists, sameBallot}
 use Rattle.ballot.specs.Least.{least, leastOf}
 use Rattle.ballot.specs.Selection.{possible, backed, backing, enough, selection, leading, mostVoted, anyPlan, taken}
 use Rattle.ballot.specs.Validation.{valid, validated}
@@ -35,7 +35,7 @@ use Rattle.rounds.specs.Inbox.{slotAt, ballotAt}
 use Rattle.rounds.specs.Taking.{afterRound, takeOf}
 use Rattle.agreement.specs.Statement.{Start, Call, write, ask, take-round, Event, Listing, made, honest, recordOf}
 use Rattle.agreement.specs.Statement.{afterCalls, callsOf, calls, recordAt, takenInbox, inboxAt, Wrote, Whole}
-use Rattle.agreement.specs.Statement.{numbered, Every, Premises, standing, Conclusions}
+use Rattle.agreement.specs.Statement.{answerTo, numbered, Every, Premises, standing, heard, Good, Conclusions}
 use Rattle.agreement.proofs.Calls.{taken-inside}
 use Rattle.agreement.proofs.Demand.{demand3}
 
@@ -95,6 +95,13 @@ unfolding
     valid validated decides decision
 drill-decides = (refl, refl, refl)
 
+-- and what was said of the refusals
+pub drill-refuses : (answerTo (begins 3 0) ≡ refused 6)
+    × (writeOf (recordAt drill 0 0) [] ≡ refused 9)
+    × (takeOf (recordAt drill 0 0) [] ≡ refused 14)
+unfolding acceptOf startOf begun made recordOf recordAt sound emptyFrom writeOf takeOf comingOf encode entryBytes listed
+drill-refuses = (refl, refl, refl)
+
 -- The premises, computed.
 
 three : (P : ℕ → Type 0) → P 0 → P 1 → P 2 → (i : ℕ) → i < 3 → P i
@@ -103,8 +110,13 @@ three P a b c (suc zero) h = b
 three P a b c (suc (suc zero)) h = c
 three P a b c (suc (suc (suc i))) h = absurd (omega arith)
 
--- Node p in round j: it takes the inbox, has written the message, which stands at the front of its slot, and goes
--- through the whole round.
+-- a fact of each of three nodes in each of three rounds
+nine : (P : ℕ → ℕ → Type 0) → P 0 0 → P 0 1 → P 0 2 → P 1 0 → P 1 1 → P 1 2 → P 2 0 → P 2 1 → P 2 2
+    → (p : ℕ) → p < 3 → (j : ℕ) → j < 3 → P p j
+nine P a b c d e f g h i = three (λ p. (j : ℕ) → j < 3 → P p j) (three (P 0) a b c) (three (P 1) d e f) (three (P 2) g h i)
+
+-- Node p in round j takes the inbox, has written the message, which stands at the front of its slot, and goes through
+-- the whole round.
 abbrev Goes : ℕ → ℕ → Type 0
 Goes p j =
     (inboxAt drill p j ≡ some (box j))
@@ -119,19 +131,16 @@ unfolding
     lists least leastOf possible backed backing enough selection leading mostVoted anyPlan taken
     valid validated decides decision comingOf writeOf encode entryBytes listed
 goes =
-    three (λ p. (j : ℕ) → j < 3 → Goes p j)
-    (three (Goes 0)
+    nine Goes
     (refl, inr (inl (refl, omega arith, refl)), refl, inr (λ e. omega arith, inl (refl, tt)))
     (refl, inr (inl (refl, omega arith, refl)), refl, inr (λ e. omega arith, inl (refl, tt)))
-    (refl, inr (inl (refl, omega arith, refl)), refl, inr (λ e. omega arith, inl (refl, tt))))
-    (three (Goes 1)
     (refl, inr (inl (refl, omega arith, refl)), refl, inr (λ e. omega arith, inl (refl, tt)))
     (refl, inr (inl (refl, omega arith, refl)), refl, inr (λ e. omega arith, inl (refl, tt)))
-    (refl, inr (inl (refl, omega arith, refl)), refl, inr (λ e. omega arith, inl (refl, tt))))
-    (three (Goes 2)
     (refl, inr (inl (refl, omega arith, refl)), refl, inr (λ e. omega arith, inl (refl, tt)))
     (refl, inr (inl (refl, omega arith, refl)), refl, inr (λ e. omega arith, inl (refl, tt)))
-    (refl, inr (inl (refl, omega arith, refl)), refl, inr (λ e. omega arith, inl (refl, tt))))
+    (refl, inr (inl (refl, omega arith, refl)), refl, inr (λ e. omega arith, inl (refl, tt)))
+    (refl, inr (inl (refl, omega arith, refl)), refl, inr (λ e. omega arith, inl (refl, tt)))
+    (refl, inr (inl (refl, omega arith, refl)), refl, inr (λ e. omega arith, inl (refl, tt)))
 
 -- the honest nodes are 0, 1 and 2
 nobody-else : (q : ℕ) → 3 ≤ q → numbered q (made (drill .starts)) ≡ 0
@@ -205,6 +214,70 @@ drill-premises = record {
       let t = taken-box p j inbox hp (hears .0) in
       let g = goes q (honest-three q hq) j (t .0) in
       (message j, drop (length (message j)) buffer, g .1, subst (λ x. slotAt x q ≡ slot j) (t .1) (g .2));
+}
+
+-- Phase 1 is good, so that good phases can be had: the circle is 0, 1 and 2.
+
+abbrev circle : ℕ → Bool
+circle p = ltb p 3
+
+-- what a slot of round j says
+abbrev ballot : ℕ → Ballot
+ballot zero = record { vote = 5; stamp = 0; entries = record { phase = 0; plan = 5 } ∷ [] }
+ballot (suc zero) = record { vote = 5; stamp = 0; entries = [] }
+ballot (suc (suc j)) = record { vote = 5; stamp = 1; entries = [] }
+
+-- the three slots count for node p in round j
+abbrev AllHeard : ℕ → ℕ → Type 0
+AllHeard p j = (q : ℕ) → q < 3 → ballotAt (recordAt drill p j) (box j) q ≡ some (ballot j)
+
+all-heard : (p : ℕ) → p < 3 → (j : ℕ) → j < 3 → AllHeard p j
+unfolding
+    acceptOf startOf begun made recordOf callsOf recordAt afterCalls
+    takeOf sound emptyFrom afterRound ballotAt readOf tested bodyAt entriesIn entriesOk count gather
+    lists least leastOf possible backed backing enough selection leading mostVoted anyPlan taken
+    valid validated decides decision
+all-heard =
+    nine AllHeard
+    (three (λ q. ballotAt (recordAt drill 0 0) (box 0) q ≡ some (ballot 0)) refl refl refl)
+    (three (λ q. ballotAt (recordAt drill 0 1) (box 1) q ≡ some (ballot 1)) refl refl refl)
+    (three (λ q. ballotAt (recordAt drill 0 2) (box 2) q ≡ some (ballot 2)) refl refl refl)
+    (three (λ q. ballotAt (recordAt drill 1 0) (box 0) q ≡ some (ballot 0)) refl refl refl)
+    (three (λ q. ballotAt (recordAt drill 1 1) (box 1) q ≡ some (ballot 1)) refl refl refl)
+    (three (λ q. ballotAt (recordAt drill 1 2) (box 2) q ≡ some (ballot 2)) refl refl refl)
+    (three (λ q. ballotAt (recordAt drill 2 0) (box 0) q ≡ some (ballot 0)) refl refl refl)
+    (three (λ q. ballotAt (recordAt drill 2 1) (box 1) q ≡ some (ballot 1)) refl refl refl)
+    (three (λ q. ballotAt (recordAt drill 2 2) (box 2) q ≡ some (ballot 2)) refl refl refl)
+
+-- in round 1 the three hear the same
+same-heard : (p : ℕ) → p < 3 → heard drill p 0 ≡ ballot 0 ∷ ballot 0 ∷ ballot 0 ∷ []
+unfolding
+    acceptOf startOf begun made recordOf callsOf recordAt takenInbox
+    takeOf sound emptyFrom ballotAt readOf tested bodyAt entriesIn entriesOk count gather
+same-heard = three (λ p. heard drill p 0 ≡ ballot 0 ∷ ballot 0 ∷ ballot 0 ∷ []) refl refl refl
+
+-- they are honest
+circle-honest : (p : ℕ) → p < 3 → T (honest drill p)
+unfolding acceptOf startOf begun made count
+circle-honest = three (λ p. T (honest drill p)) tt tt tt
+
+circle-wide : 4 ≤ tally circle 4 + 1 + 0
+unfolding tally
+circle-wide = omega arith
+
+pub drill-good : Good drill crew 1 circle
+drill-good = record {
+  inside = λ p k. circle-honest p (ltb→lt p 3 k);
+  wide = circle-wide;
+  listed = λ j e. omega arith;
+  equal = λ j p q e first kp kq m.
+      let start : 0 ≡ j = omega arith in
+      subst (λ j. count (sameBallot m) (heard drill p j) ≡ count (sameBallot m) (heard drill q j)) start
+      (ap (count (sameBallot m)) (same-heard p (ltb→lt p 3 kp) ∙ sym (same-heard q (ltb→lt q 3 kq))));
+  counts = λ j p q e kp kq loud.
+      let inside : j < 3 = omega arith in
+      let hp = ltb→lt p 3 kp in
+      (box j, ballot j, (goes p hp j inside .0, all-heard p hp j inside q (ltb→lt q 3 kq)));
 }
 
 -- so demand 3 says something of it

@@ -3,7 +3,7 @@
 use mathlib.Core.Path.{_≡_, refl, sym}
 use mathlib.Core.Bool.{Bool, true, false, cond}
 use mathlib.Core.Logic.{_⊎_, inl, inr}
-use Prim.Native.Nat.{ℕ, zero, suc, _+_, _*_, _/_, _%_, _≤_, _<_}
+use Prim.Native.Nat.{ℕ, zero, suc, _/_, _%_, _≤_, _<_}
 use native.Mathlib.Omega.{arith}
 use native.Mathlib.Decide.{decLt}
 use lib.Dec.{eqb}
@@ -12,7 +12,7 @@ use Rattle.crew.specs.Thresholds.{Class, one, two, three}
 use Rattle.model.specs.Node.{Round, selecting, validating, deciding}
 use Rattle.model.specs.Run.{State, roundAfter, phaseAfter, step, Run, class, state}
 use Rattle.model.proofs.Run.{moves}
-use Rattle.agreement.specs.Statement.{phaseAt, roundAt}
+use Rattle.agreement.specs.Statement.{phaseIf, roundIf, phaseAt, roundAt}
 use Rattle.agreement.proofs.Record.{roundNumber}
 
 -- the phase and round with which round j begins: those of its place, and round 1 of phase 64 once the records are spent
@@ -31,16 +31,10 @@ three-rounds : (j : ℕ) → ((j % 3 < 2) → (suc j / 3 ≡ j / 3) × (suc j % 
     × ((j % 3 ≡ 2) → (suc j / 3 ≡ suc (j / 3)) × (suc j % 3 ≡ 0))
 three-rounds j = (λ r. (omega arith, omega arith), λ r. (omega arith, omega arith))
 
-abbrev phaseOf : Bool → ℕ → ℕ
-phaseOf first j = cond first (1 + j / 2) (1 + j / 3)
-
-abbrev roundOf : Bool → ℕ → ℕ
-roundOf first j = cond first (1 + 2 * (j % 2)) (1 + j % 3)
-
 next-place : (j phase : ℕ) (round : Round) (first second : Bool)
-    → phase ≡ phaseOf first j → roundNumber round ≡ roundOf first j
-    → (phaseAfter round phase ≡ phaseOf first (suc j))
-    × (roundNumber (roundAfter (cond first one (cond second two three)) round) ≡ roundOf first (suc j))
+    → phase ≡ phaseIf first j → roundNumber round ≡ roundIf first j
+    → (phaseAfter round phase ≡ phaseIf first (suc j))
+    × (roundNumber (roundAfter (cond first one (cond second two three)) round) ≡ roundIf first (suc j))
 next-place j phase selecting true second p r =
     let next = two-rounds j .0 (omega arith) in (omega (arith, next .0), omega (arith, next .1))
 next-place j phase validating true second p r = absurd (omega arith)
@@ -56,12 +50,12 @@ next-place j phase deciding false second p r =
     let next = three-rounds j .1 (omega arith) in (omega (arith, next .0), omega (arith, next .1))
 
 -- a phase does not fall
-phase-rises : (j : ℕ) (first : Bool) → phaseOf first j ≤ phaseOf first (suc j)
+phase-rises : (j : ℕ) (first : Bool) → phaseIf first j ≤ phaseIf first (suc j)
 phase-rises j true = omega arith
 phase-rises j false = omega arith
 
 -- the first round
-first-place : (first : Bool) → (phaseOf first 0 ≡ 1) × (roundOf first 0 ≡ 1)
+first-place : (first : Bool) → (phaseIf first 0 ≡ 1) × (roundIf first 0 ≡ 1)
 first-place true = (refl, refl)
 first-place false = (refl, refl)
 

@@ -3,7 +3,7 @@
 -- is startOf, writeOf, bufferOf, askOf and takeOf, the very definitions that the contracts of the functions cite.
 -- proofs/Demand.antt proves it.
 use mathlib.Core.Path.{_≡_}
-use mathlib.Core.Bool.{Bool, not, cond, _&&_}
+use mathlib.Core.Bool.{Bool, true, false, not, cond, _&&_}
 use mathlib.Core.List.{List, [], _∷_, _++_}
 use mathlib.Core.Logic.{_⊎_, _≢_, _↔_}
 use mathlib.Core.Option.{Option, none, some}
@@ -159,13 +159,22 @@ Whole n (take-round inbox ∷ cs) =
 
 -- Places.
 
--- 01: "A round's place in the list gives its phase and number: rounds 1 and 3 of each phase in class 1, rounds 1 to
--- 3 in the others, phases 1 to 63."
+-- The phase and the number of round j, by whether the class is 1.
+-- 01: "A round's place in the list gives its phase and number: rounds 1 and 3 of each phase in class 1, rounds 1 to 3
+-- in the others, phases 1 to 63."
+abbrev pub phaseIf : Bool → ℕ → ℕ
+phaseIf true j = 1 + j / 2
+phaseIf false j = 1 + j / 3
+
+abbrev pub roundIf : Bool → ℕ → ℕ
+roundIf true j = 1 + 2 * (j % 2)
+roundIf false j = 1 + j % 3
+
 abbrev pub phaseAt : Crew → ℕ → ℕ
-phaseAt crew j = cond (eqb (crew .class) 1) (1 + j / 2) (1 + j / 3)
+phaseAt crew j = phaseIf (eqb (crew .class) 1) j
 
 abbrev pub roundAt : Crew → ℕ → ℕ
-roundAt crew j = cond (eqb (crew .class) 1) (1 + 2 * (j % 2)) (1 + j % 3)
+roundAt crew j = roundIf (eqb (crew .class) 1) j
 
 -- 01: "phases 1 to 63"; "Phase 64 means spent."
 abbrev pub Early : Crew → ℕ → Type 0
