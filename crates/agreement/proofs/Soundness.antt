@@ -1,5 +1,5 @@
--- Law 4 of the engine: a start gives a sound record; every call on a sound record, reachable or not, leaves a sound
--- record; and a refused call leaves the record as it was. Assumes nothing.
+-- Law 4 of the engine: a start gives a sound record; an accepted take leaves a sound record, whatever the record and
+-- the inbox; a refused call leaves the record as it was. Assumes nothing.
 use mathlib.Core.Path.{_≡_, refl, ap, subst, _∙_}
 use mathlib.Core.Bool.{Bool, true, false, cond}
 use mathlib.Core.List.{List}
@@ -10,7 +10,7 @@ use native.Mathlib.Decide.{ℕ-discrete}
 use lib.ListN.{length, getD, set}
 use lib.Dec.{eqb}
 use borrow.Author.Tests.{eq-eqb, eqb-true, eqb-false}
-use Rattle.wire.specs.Outcome.{Outcome, accepted, refused, valueOr}
+use Rattle.wire.specs.Outcome.{accepted, refused, valueOr}
 use Rattle.wire.specs.Bytes.{AreBytes}
 use Rattle.crew.specs.declared.Crew.{Crew}
 use Rattle.crew.specs.Thresholds.{classOf}
@@ -31,7 +31,8 @@ use Rattle.node.proofs.Facts.{Sound, Typed, sound-facts, facts-sound, last-roun
 use Rattle.node.proofs.StartLaws.{start-sound}
 use Rattle.rounds.specs.Inbox.{ballots}
 use Rattle.rounds.specs.Taking.{afterSelection, afterValidation, afterDecision, afterRound, takeOf}
-use Rattle.agreement.specs.Statement.{Call, write, ask, take-round, afterCall}
+use Rattle.rounds.specs.Asking.{askOf}
+use Rattle.agreement.specs.Statement.{write, ask, take-round, afterCall}
 use Rattle.agreement.proofs.Plans.{voted-fits}
 use Rattle.agreement.proofs.Answers.{take-accepted}
 
@@ -42,17 +43,17 @@ plan-or : (v old : ℕ) → 1 ≤ old → 1 ≤ ifPlan v v old
 plan-or v old h = elim (ifPlan-is v v old) [ inl z ↦ omega (arith, z .1) | inr z ↦ omega (arith, z .1, z .0) ]
 
 -- after a selection comes round 3 in class 1, round 2 in the others
-abbrev roundIf : Bool → ℕ
-roundIf first = cond first 3 2
+abbrev nextIf : Bool → ℕ
+nextIf first = cond first 3 2
 
 module _ (class : ℕ) where
   abbrev next : ℕ
-  next = roundIf (eqb class 1)
+  next = nextIf (eqb class 1)
 
   next-is : (next ≡ 3) ⊎ ((next ≡ 2) × (class ≢ 1))
   next-is = go (eqb class 1) refl
     where
-      go : (first : Bool) → eqb class 1 ≡ first → (roundIf first ≡ 3) ⊎ ((roundIf first ≡ 2) × (class ≢ 1))
+      go : (first : Bool) → eqb class 1 ≡ first → (nextIf first ≡ 3) ⊎ ((nextIf first ≡ 2) × (class ≢ 1))
       go true e = inl refl
       go false e = inr (refl, eqb-false class 1 e)
 
@@ -245,28 +246,25 @@ take-typed d inbox e typed bytes h =
 
 -- Law 4, whole.
 pub record KeepsSound : Type 0 where
+  -- a start gives a sound record
   pub started : (crew : Crew) (own run plan : ℕ) (d : Node) → startOf crew own run plan ≡ accepted d → sound d ≡ true
-  -- accepted or refused, a call on a sound record leaves a sound one
-  pub called : (d : Node) (c : Call) → sound d ≡ true → sound (afterCall d c) ≡ true
+  -- an accepted take leaves a sound record, whose fields fit their types where they did before
+  pub taken-sound : (d : Node) (inbox : List ℕ) (e : Node) → takeOf d inbox ≡ accepted e → sound e ≡ true
+  pub taken-typed : (d : Node) (inbox : List ℕ) (e : Node) → Typed d → AreBytes inbox → takeOf d inbox ≡ accepted e
+      → Typed e
   -- a refused call leaves the record, and a refused write the buffer
   pub take-refused : (d : Node) (inbox : List ℕ) (number : ℕ) → takeOf d inbox ≡ refused number
       → afterCall d (take-round inbox) ≡ d
   pub write-refused : (d : Node) (buffer : List ℕ) (number : ℕ) → writeOf d buffer ≡ refused number
-      → bufferOf d buffer ≡ buffer
-
-call-sound : (d : Node) (c : Call) → sound d ≡ true → sound (afterCall d c) ≡ true
-call-sound d (write buffer) ok = ok
-call-sound d (ask inbox) ok = ok
-call-sound d (take-round inbox) ok = go (takeOf d inbox) refl
-  where
-    go : (o : Outcome Node) → takeOf d inbox ≡ o → sound (valueOr d o) ≡ true
-    go (accepted e) h = take-sound d inbox e h
-    go (refused number) h = ok
+      → (afterCall d (write buffer) ≡ d) × (bufferOf d buffer ≡ buffer)
+  pub ask-refused : (d : Node) (inbox : List ℕ) (number : ℕ) → askOf d inbox ≡ refused number → afterCall d (ask inbox) ≡ d
 
 pub keeps-sound : KeepsSound
 keeps-sound = record {
   started = start-sound;
-  called = call-sound;
+  taken-sound = take-sound;
+  taken-typed = take-typed;
   take-refused = λ d inbox number e. ap (valueOr d) e;
-  write-refused = λ d buffer number e. ap (bufferAfter (comingBytes d) buffer) e;
+  write-refused = λ d buffer number e. (refl, ap (bufferAfter (comingBytes d) buffer) e);
+  ask-refused = λ d inbox number e. refl;
 }

@@ -1,7 +1,7 @@
--- Demand 3: one statement on a whole list of start, write, ask and take calls on bytes. Document 01, 'The list in
--- demand 3'. Definitions only: this is the page that a reader has to believe. What a call answers and leaves behind
--- is startOf, writeOf, bufferOf, askOf and takeOf, the very definitions that the contracts of the functions cite.
--- proofs/Demand.antt proves it.
+-- Demand 3: one statement on a whole list of start, write, ask and take calls on bytes (document 01, 'The list in
+-- demand 3'). This is the page that a reader has to believe: definitions only. What a call answers and leaves behind is
+-- startOf, writeOf, bufferOf, askOf and takeOf, the very definitions that the contracts of the functions cite.
+-- proofs/Demand.antt proves it; proofs/Example.antt has a list that meets the premises.
 use mathlib.Core.Path.{_≡_}
 use mathlib.Core.Bool.{Bool, true, false, not, cond, _&&_}
 use mathlib.Core.List.{List, [], _∷_, _++_}
@@ -47,7 +47,7 @@ pub record Event : Type 0 where
   pub node : ℕ
   pub call : Call
 
--- 01: "It begins with starts." Then come the rounds, each the list of its calls, in the order in which they are made.
+-- 01: "It begins with starts". Then come the rounds, each the list of its calls, in the order in which they are made.
 pub record Listing : Type 0 where
   pub starts : List Start
   pub rounds : List (List Event)
@@ -83,8 +83,9 @@ recordOf q (d ∷ ds) = cond (eqb (d .own) q) d (recordOf q ds)
 
 -- The records, from call to call.
 
--- 01: "each call gets the record that its node's last accepted take returned, at first the start's, and nothing
--- else changes it meanwhile"; "Refused calls stand in the list and change no record."
+-- 01: "The state is the honest nodes' records alone: each call gets the record that its node's last accepted take
+-- returned, at first the start's, and nothing else changes it meanwhile." "Refused calls stand in the list and change
+-- no record."
 abbrev pub afterCall : Node → Call → Node
 afterCall d (write buffer) = d
 afterCall d (ask inbox) = d
@@ -146,10 +147,10 @@ Asks (take-round inbox ∷ cs) = ⊥
 
 -- The calls of one node in a whole round of n slots.
 -- 01: "In a whole round every honest node writes its coming message, then every honest node takes the round, with
--- inboxes that anybody may fill after all the writes"; "A take refused with 14 is made again until one is
--- accepted." That is: writes and takes of a wrong length, as many as there may be, then one take of the right
--- length; asks anywhere. It allows more than 01: a node may write nothing at all, or again after a refused take,
--- and nodes wait for each other only so far as the premise on slots makes them.
+-- inboxes that anybody may fill after all the writes." "A take refused with 14 is made again until one is accepted."
+-- That is: any number of writes, each into a buffer of any length, and of takes of a wrong length, then one take of the
+-- right length; asks anywhere. More than 01's rounds are covered: a node may write nothing, or again after a refused
+-- take, and nodes wait for each other only so far as the premise on slots makes them.
 abbrev pub Whole : ℕ → List Call → Type 0
 Whole n [] = ⊥
 Whole n (write buffer ∷ cs) = Whole n cs
@@ -187,29 +188,26 @@ module _ {A : Type 0} where
   Every P [] = Unit {0}
   Every P (a ∷ others) = P a × Every P others
 
--- Slot q of the inbox that p took in round j counts for p, and says m. An inbox is p's own: others may have got
--- another.
+-- slot q of the inbox that p took in round j counts for p, and says m; each node has inboxes of its own
 abbrev pub Hears : Listing → ℕ → ℕ → ℕ → List ℕ → Ballot → Type 0
 Hears l p j q inbox m = (inboxAt l p j ≡ some inbox) × (ballotAt (recordAt l p j) inbox q ≡ some m)
 
 pub record Premises (l : Listing) (crew : Crew) (run : ℕ) : Type 0 where
-  -- What the types of a start's arguments say: a run has four bytes, a plan two. A refused start may carry anything
-  -- else.
+  -- what the types of a start's arguments say: a run has four bytes, a plan two
   pub typed : Every (λ s. (s .run < 256 ^ 4) × (s .plan < 256 ^ 2)) (l .starts)
-  -- the accepted starts have one accepted crew and one run
+  -- the accepted starts have one accepted crew and one run; a refused one may carry anything
   pub crew-accepted : acceptOf crew ≡ accepted tt
   pub one-crew : Every (λ d. (d .crew ≡ crew) × (d .run ≡ run)) (made (l .starts))
-  -- and each its own number
+  -- each accepted start has its own number
   pub distinct : (q : ℕ) → numbered q (made (l .starts)) ≤ 1
   -- at most b nodes are not honest
   pub few : tally (λ q. not (honest l q)) (crew .n) ≤ crew .b
   -- until the records are spent every honest node goes through every round; after that it makes any calls
   pub whole : (p j : ℕ) → T (honest l p) → j < length (l .rounds) → Early crew j → Whole (crew .n) (calls l p j)
-  -- An inbox that an honest node took holds bytes. Nothing is asked of buffers, or of inboxes of refused takes and
-  -- of asks.
+  -- An inbox that an honest node took holds bytes. Nothing is asked of buffers, and of inboxes of other calls.
   pub bytes : (p j : ℕ) → T (honest l p) → (inbox : List ℕ) → inboxAt l p j ≡ some inbox → AreBytes inbox
-  -- A slot that counts for an honest node, its own included, and belongs to an honest one holds what that one wrote
-  -- in the round. Of slots that do not count, and of slots of other nodes, nothing is asked.
+  -- A slot that counts for an honest node, and belongs to it or to another honest node, holds what its node wrote in
+  -- that round. Nothing is asked of slots that do not count, and of those of the nodes that are not honest.
   -- 01: "a slot holds what a node wrote if there are such bytes and they stand at its front"
   pub slots : (p q j : ℕ) → T (honest l p) → T (honest l q) → (inbox : List ℕ) (m : Ballot) → Hears l p j q inbox m
       → (written : List ℕ) × (rest : List ℕ)
@@ -279,8 +277,8 @@ pub record Good (l : Listing) (crew : Crew) (phase : ℕ) (circle : ℕ → Bool
 
 -- Conclusions.
 
--- What the calls on an unspent record answer: a write is refused only with 9, a take only with 14, an ask in round
--- 1 only with 14. 01: "Asking outside round 1 is also 7."
+-- What the calls on an unspent record answer: a write is refused only with 9, a take and an ask only with 14.
+-- 01: "Asking outside round 1 is also 7."
 pub record Unspent (n : ℕ) (d : Node) : Type 0 where
   pub writes : (buffer : List ℕ)
       → (writeOf d buffer ≡ accepted (length (comingBytes d)))
