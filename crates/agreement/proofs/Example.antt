@@ -113,7 +113,8 @@ three P a b c (suc (suc (suc i))) h = absurd (omega arith)
 -- a fact of each of three nodes in each of three rounds
 nine : (P : ℕ → ℕ → Type 0) → P 0 0 → P 0 1 → P 0 2 → P 1 0 → P 1 1 → P 1 2 → P 2 0 → P 2 1 → P 2 2
     → (p : ℕ) → p < 3 → (j : ℕ) → j < 3 → P p j
-nine P a b c d e f g h i = three (λ p. (j : ℕ) → j < 3 → P p j) (three (P 0) a b c) (three (P 1) d e f) (three (P 2) g h i)
+nine P a b c d e f g h i =
+    three (λ p. (j : ℕ) → j < 3 → P p j) (three (P 0) a b c) (three (P 1) d e f) (three (P 2) g h i)
 
 -- Node p in round j takes the inbox, has written the message, which stands at the front of its slot, and goes through
 -- the whole round.

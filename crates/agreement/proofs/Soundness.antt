@@ -257,7 +257,8 @@ pub record KeepsSound : Type 0 where
       → afterCall d (take-round inbox) ≡ d
   pub write-refused : (d : Node) (buffer : List ℕ) (number : ℕ) → writeOf d buffer ≡ refused number
       → (afterCall d (write buffer) ≡ d) × (bufferOf d buffer ≡ buffer)
-  pub ask-refused : (d : Node) (inbox : List ℕ) (number : ℕ) → askOf d inbox ≡ refused number → afterCall d (ask inbox) ≡ d
+  pub ask-refused : (d : Node) (inbox : List ℕ) (number : ℕ) → askOf d inbox ≡ refused number
+      → afterCall d (ask inbox) ≡ d
 
 pub keeps-sound : KeepsSound
 keeps-sound = record {
