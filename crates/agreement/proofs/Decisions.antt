@@ -16,7 +16,7 @@ use Rattle.ballot.specs.Count.{tally, count, holds}
 use Rattle.ballot.specs.Ballot.{inbox}
 use Rattle.ballot.specs.Decision.{decides}
 use Rattle.ballot.proofs.Counting.{count-gather}
-use Rattle.model.specs.Node.{Round, selecting, validating, deciding}
+use Rattle.model.specs.Node.{Round, selecting, validating, deciding, number}
 use Rattle.model.specs.Run as model
 use Rattle.model.specs.Run.{state, Held, DecidesAt}
 use Rattle.model.proofs.Theorems as engine
@@ -28,7 +28,6 @@ use Rattle.rounds.specs.Inbox.{ballotAt}
 use Rattle.agreement.specs.Statement.{Listing, answerTo, made, honest, recordOf, recordAt}
 use Rattle.agreement.specs.Statement.{inboxAt, phaseAt, Every, Premises, isFor, Wins, Decided, PlanDecided}
 use Rattle.agreement.specs.Statement.{standing}
-use Rattle.agreement.proofs.Record.{roundNumber}
 use Rattle.agreement.proofs.Calls.{none-taken, taken-inside}
 use Rattle.agreement.proofs.Starts.{started}
 use Rattle.agreement.proofs.Places.{place-early}
@@ -36,7 +35,7 @@ use Rattle.agreement.proofs.Simulation.{slotIn, said, runOf, follows, h
 use Rattle.agreement.proofs.Simulation.{admissible}
 
 -- round 3 is the decision
-third-round : (round : Round) → roundNumber round ≡ 3 → round ≡ deciding
+third-round : (round : Round) → number round ≡ 3 → round ≡ deciding
 third-round selecting e = absurd (omega arith)
 third-round validating e = absurd (omega arith)
 third-round deciding e = refl
@@ -80,7 +79,7 @@ module _ (l : Listing) (crew : Crew) (run : ℕ) (pre : Premises l crew run) whe
       let t = took l crew run pre p j h (d .0) in
       let place = place-early (runOf l crew) j (d .0 .1) in
       let enough = subst (Enough p j v) (sym (place .0)) (d .1 .1) in (
-        place .1 ∙ ap roundNumber (d .1 .0),
+        place .1 ∙ ap number (d .1 .0),
         t .bytes,
         t .taken,
         leb→le (crew .d) _ (subst T (decides-is p j (phaseAt crew j) v (t .bytes) (t .taken)) enough),

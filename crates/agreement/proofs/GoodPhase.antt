@@ -2,7 +2,7 @@
 use mathlib.Core.Path.{_≡_, sym, ap, _∙_}
 use mathlib.Core.Bool.{Bool}
 use mathlib.Core.List.{List}
-use mathlib.Core.Option.{Option, none, some}
+use mathlib.Core.Option.{none}
 use Prim.Native.Nat.{ℕ, _≤_, _<_}
 use native.Mathlib.Omega.{arith}
 use lib.Dec.{T}
@@ -10,21 +10,19 @@ use Rattle.crew.specs.declared.Crew.{Crew}
 use Rattle.crew.specs.Thresholds.{classOf}
 use Rattle.ballot.specs.Count.{count}
 use Rattle.ballot.specs.Ballot.{Ballot, inbox, sameBallot}
+use Rattle.ballot.proofs.Slots.{not-none}
+use Rattle.model.specs.Node.{number}
 use Rattle.model.specs.Run as model
 use Rattle.model.specs.Run.{saying, state, Held}
 use Rattle.model.proofs.Theorems as engine
 use Rattle.node.specs.Sending.{comingOf}
 use Rattle.agreement.specs.Statement.{Listing, honest, recordAt, phaseAt, roundAt, Premises, Wins}
 use Rattle.agreement.specs.Statement.{ballotsIn, heard, Good}
-use Rattle.agreement.proofs.Record.{roundNumber}
 use Rattle.agreement.proofs.Written.{silent-is}
 use Rattle.agreement.proofs.Places.{place-early}
 use Rattle.agreement.proofs.Simulation.{slotIn, said, runOf, follows, crew-is, heard-is, honest-below, took}
 use Rattle.agreement.proofs.Simulation.{admissible}
 use Rattle.agreement.proofs.Decisions.{decides-wins}
-
-some-none : (o : Option Ballot) (m : Ballot) → o ≡ some m → o ≡ none → ⊥
-some-none o m e z = let y : _≡_ {A = ℕ} 0 1 = cc in omega arith
 
 module _ (l : Listing) (crew : Crew) (run : ℕ) (pre : Premises l crew run) (phase : ℕ) (early : phase < 64)
     (circle : ℕ → Bool) (good : Good l crew phase circle) where
@@ -36,7 +34,7 @@ module _ (l : Listing) (crew : Crew) (run : ℕ) (pre : Premises l crew run) (ph
 
   -- its place is the state's
   place-is : (j : ℕ) → state (runOf l crew) j .phase ≡ phase
-      → (phaseAt crew j ≡ phase) × (roundAt crew j ≡ roundNumber (state (runOf l crew) j .round))
+      → (phaseAt crew j ≡ phase) × (roundAt crew j ≡ number (state (runOf l crew) j .round))
   place-is j e = let place = place-early (runOf l crew) j (held j e .1) in (place .0 ∙ e, place .1)
 
   -- the counting messages, from the bytes and as the engine has them
@@ -54,8 +52,7 @@ module _ (l : Listing) (crew : Crew) (run : ℕ) (pre : Premises l crew run) (ph
       let f = follows l crew run pre q j (good .inside q kq) (omega (arith, held j e .0)) in
       let counts = good .counts j p q (place-is j e .0) kp kq λ silent.
       loud (silent-is crew run q (s .phase) (s .round) (s .node q) (sym (ap comingOf (f .is)) ∙ silent)) in
-      some-none (said l j p q) (counts .1)
-      (ap (λ o. slotIn (recordAt l p j) o q) (counts .2 .0) ∙ counts .2 .1) absent
+      not-none (sym absent ∙ ap (λ o. slotIn (recordAt l p j) o q) (counts .2 .0) ∙ counts .2 .1)
 
   good-run : model.Good (runOf l crew) phase circle
   good-run = record {
@@ -64,7 +61,7 @@ module _ (l : Listing) (crew : Crew) (run : ℕ) (pre : Premises l crew run) (ph
     listed = λ j e. held j e .0;
     equal = λ j e first p lp kp q lq kq m.
         ap (count (sameBallot m)) (sym (same-heard j p e kp))
-        ∙ good .equal j p q (place-is j e .0) (place-is j e .1 ∙ ap roundNumber first) kp kq m
+        ∙ good .equal j p q (place-is j e .0) (place-is j e .1 ∙ ap number first) kp kq m
         ∙ ap (count (sameBallot m)) (same-heard j q e kq);
     counts = λ j e p lp kp q lq kq loud. speaks j p q e kp kq loud;
   }

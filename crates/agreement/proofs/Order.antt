@@ -11,7 +11,7 @@ use Rattle.wire.specs.Outcome.{accepted, require}
 use Rattle.crew.specs.Thresholds.{classOf}
 use Rattle.ballot.specs.Count.{count}
 use Rattle.ballot.specs.Ballot.{Ballot, sameBallot}
-use Rattle.ballot.proofs.Least.{Same}
+use Rattle.ballot.proofs.Counting.{Same}
 use Rattle.ballot.proofs.Order.{same-inboxes, selection-same, taken-same, validated-same, decision-same}
 use Rattle.node.specs.declared.Node.{Node}
 use Rattle.node.specs.Soundness.{sound}

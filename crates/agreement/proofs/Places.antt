@@ -9,16 +9,15 @@ use native.Mathlib.Decide.{decLt}
 use lib.Dec.{eqb}
 use Rattle.crew.specs.declared.Crew.{Crew}
 use Rattle.crew.specs.Thresholds.{Class, one, two, three}
-use Rattle.model.specs.Node.{Round, selecting, validating, deciding}
+use Rattle.model.specs.Node.{Round, selecting, validating, deciding, number}
 use Rattle.model.specs.Run.{State, roundAfter, phaseAfter, step, Run, class, state}
 use Rattle.model.proofs.Run.{moves}
 use Rattle.agreement.specs.Statement.{phaseIf, roundIf, phaseAt, roundAt}
-use Rattle.agreement.proofs.Record.{roundNumber}
 
 -- the phase and round with which round j begins: those of its place, and round 1 of phase 64 once the records are spent
 abbrev Stands : Crew → ℕ → ℕ → Round → Type 0
 Stands crew j phase round =
-    ((phaseAt crew j < 64) × (phase ≡ phaseAt crew j) × (roundNumber round ≡ roundAt crew j))
+    ((phaseAt crew j < 64) × (phase ≡ phaseAt crew j) × (number round ≡ roundAt crew j))
     ⊎ ((64 ≤ phaseAt crew j) × (phase ≡ 64) × (round ≡ selecting))
 
 -- One round on, by the class: of two rounds a phase, or of three.
@@ -32,9 +31,9 @@ three-rounds : (j : ℕ) → ((j % 3 < 2) → (suc j / 3 ≡ j / 3) × (suc j % 
 three-rounds j = (λ r. (omega arith, omega arith), λ r. (omega arith, omega arith))
 
 next-place : (j phase : ℕ) (round : Round) (first second : Bool)
-    → phase ≡ phaseIf first j → roundNumber round ≡ roundIf first j
+    → phase ≡ phaseIf first j → number round ≡ roundIf first j
     → (phaseAfter round phase ≡ phaseIf first (suc j))
-    × (roundNumber (roundAfter (cond first one (cond second two three)) round) ≡ roundIf first (suc j))
+    × (number (roundAfter (cond first one (cond second two three)) round) ≡ roundIf first (suc j))
 next-place j phase selecting true second p r =
     let next = two-rounds j .0 (omega arith) in (omega (arith, next .0), omega (arith, next .1))
 next-place j phase validating true second p r = absurd (omega arith)
@@ -100,7 +99,7 @@ module _ (run : Run) where
 
   -- before the records are spent, the place is the state's
   pub place-early : (j : ℕ) → state run j .phase < 64
-      → (phaseAt (run .crew) j ≡ state run j .phase) × (roundAt (run .crew) j ≡ roundNumber (state run j .round))
+      → (phaseAt (run .crew) j ≡ state run j .phase) × (roundAt (run .crew) j ≡ number (state run j .round))
   place-early j left = elim (place j) [
     | inl here ↦ (sym (here .1), sym (here .2))
     | inr spent ↦ absurd (omega (arith, spent .1))

@@ -24,7 +24,7 @@ use Rattle.ballot.specs.Count.{count}
 use Rattle.ballot.specs.Ballot.{Ballot, votes}
 use Rattle.ballot.proofs.Counting.{count-le}
 use Rattle.ballot.proofs.Least.{Voted}
-use Rattle.ballot.proofs.Slots.{no-slot-counts}
+use Rattle.ballot.proofs.Slots.{same-ballot, not-none, no-slot-counts}
 use Rattle.node.specs.declared.Node.{Node}
 use Rattle.rounds.specs.Inbox.{slotAt, ballotOf, isOf, counted, ballotAt, ballots}
 
@@ -35,13 +35,13 @@ unfolding ballotAt
 slot-read d inbox q m e = go (readOf (slotAt inbox q)) refl e
   where
     coming : (k : Message) (b : Bool) → cond b (some (ballotOf (k .body))) none ≡ some m → ballotOf (k .body) ≡ m
-    coming k true e = cc
-    coming k false e = absurd (let z : _≡_ {A = ℕ} 0 1 = cc in omega arith)
+    coming k true e = same-ballot e
+    coming k false e = absurd (not-none e)
 
     go : (o : Outcome Message) → readOf (slotAt inbox q) ≡ o → counted (d .run) (d .phase) (d .round) o ≡ some m
         → (k : Message) × (readOf (slotAt inbox q) ≡ accepted k) × (ballotOf (k .body) ≡ m)
     go (accepted k) i e = (k, i, coming k (isOf (d .run) (d .phase) (d .round) k) e)
-    go (refused number) i e = absurd (let z : _≡_ {A = ℕ} 0 1 = cc in omega arith)
+    go (refused number) i e = absurd (not-none e)
 
 -- what a message within the bounds votes for is a plan
 body-plan : (phase : ℕ) (body : Body) → bodyOk phase body ≡ true → 1 ≤ ballotOf body .vote

@@ -10,15 +10,10 @@ use Rattle.crew.specs.declared.Crew.{Crew}
 use Rattle.crew.specs.Thresholds.{one, two, three, classOf}
 use Rattle.ballot.specs.Ballot.{Ballot}
 use Rattle.model.specs.Node as model
-use Rattle.model.specs.Node.{Round, selecting, validating, deciding, turn}
+use Rattle.model.specs.Node.{Round, selecting, validating, deciding, turn, number}
 use Rattle.model.specs.Run.{roundAfter, phaseAfter}
 use Rattle.node.specs.declared.Node.{Node}
 use Rattle.rounds.specs.Taking.{afterRound}
-
-abbrev pub roundNumber : Round → ℕ
-roundNumber selecting = 1
-roundNumber validating = 2
-roundNumber deciding = 3
 
 -- the record of node q, with the round's number standing free
 abbrev recordWith : Crew → ℕ → ℕ → model.Node → ℕ → ℕ → Node
@@ -37,11 +32,11 @@ recordWith crew run q a phase round = record {
 }
 
 abbrev pub asRecord : Crew → ℕ → ℕ → ℕ → Round → model.Node → Node
-asRecord crew run q phase round a = recordWith crew run q a phase (roundNumber round)
+asRecord crew run q phase round a = recordWith crew run q a phase (number round)
 
 -- 01: "Class 1 goes on to round 3, the others to round 2 and then 3."
 pub after-selection : (first second : Bool)
-    → cond first 3 2 ≡ roundNumber (roundAfter (cond first one (cond second two three)) selecting)
+    → cond first 3 2 ≡ number (roundAfter (cond first one (cond second two three)) selecting)
 after-selection true second = refl
 after-selection false true = refl
 after-selection false false = refl

@@ -13,8 +13,9 @@ use Rattle.crew.specs.declared.Crew.{Crew}
 use Rattle.crew.specs.Thresholds.{classOf}
 use Rattle.message.specs.Reading.{readOf}
 use Rattle.ballot.specs.Ballot.{Ballot, inbox}
+use Rattle.ballot.proofs.Slots.{not-none}
 use Rattle.model.specs.Node as model
-use Rattle.model.specs.Node.{selecting, begin, turn}
+use Rattle.model.specs.Node.{selecting, begin, turn, number}
 use Rattle.model.specs.Run.{State, Inboxes, start, step, saying, Faithful, Run, state, Held, Admissible}
 use Rattle.model.proofs.Run.{moves}
 use Rattle.node.specs.declared.Node.{Node}
@@ -30,7 +31,7 @@ use Rattle.agreement.specs.Statement.{takenInbox, inboxAt, write, Puts, 
 use Rattle.agreement.proofs.Plans.{slot-plan}
 use Rattle.agreement.proofs.Answers.{take-whole, take-cut, take-spent}
 use Rattle.agreement.proofs.Soundness.{take-sound, take-typed}
-use Rattle.agreement.proofs.Record.{roundNumber, asRecord, take-turns}
+use Rattle.agreement.proofs.Record.{asRecord, take-turns}
 use Rattle.agreement.proofs.Written.{puts-coming, coming-heard}
 use Rattle.agreement.proofs.Calls.{whole-takes, whole-wrote, refused-keeps}
 use Rattle.agreement.proofs.Starts.{MadeBy, started}
@@ -236,7 +237,7 @@ module _ (l : Listing) (crew : Crew) (run : ℕ) (pre : Premises l crew run) whe
         let fq = follows q j hq (omega (arith, held .0)) in
         let coming = ap comingBytes (fq .is) in
         ap (λ (d : Node). ballotAt d bytes q) (fp .is)
-        ∙ ap (λ part. counted run (now .phase) (roundNumber (now .round)) (readOf part))
+        ∙ ap (λ part. counted run (now .phase) (number (now .round)) (readOf part))
         (begins .0 ∙ ap (λ part. part ++ slot .1) coming)
         ∙ coming-heard crew run q (now .phase) (now .node q) (slot .1) (now .round)
         (subst Typed (fq .is) (fq .typed)) (ap sound (sym (fq .is)) ∙ fq .is-sound) (held .1)
@@ -266,7 +267,7 @@ module _ (l : Listing) (crew : Crew) (run : ℕ) (pre : Premises l crew run) whe
 
   -- no slot votes for 0
   slots-plan : (d : Node) (o : Option (List ℕ)) (q : ℕ) (m : Ballot) → slotIn d o q ≡ some m → m .vote ≢ 0
-  slots-plan d none q m e z = absurd (let y : _≡_ {A = ℕ} 0 1 = cc in omega arith)
+  slots-plan d none q m e z = absurd (not-none e)
   slots-plan d (some bytes) q m e z = omega (arith, slot-plan d bytes q m e)
 
   pub admissible : Admissible (runOf l crew)

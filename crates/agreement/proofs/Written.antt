@@ -7,27 +7,26 @@ use mathlib.Core.Option.{none, some}
 use Prim.Native.Nat.{ℕ, zero, suc, _+_, _<_}
 use native.Mathlib.Nat.{zero-add}
 use native.Mathlib.Omega.{arith}
-use lib.ListN.{length, getD, take, drop}
-use lib.Seq.{take-at}
-use lib.Dec.{leb, ltb, eqb}
+use lib.ListN.{length, getD}
+use lib.Dec.{leb, eqb}
 use borrow.Author.Tests.{leb-true, leb-false, eqb-true, eqb-false, eq-eqb, ne-eqb}
 use Rattle.wire.specs.Entry.{Entry}
-use Rattle.wire.proofs.Outcomes.{passed}
 use Rattle.crew.specs.declared.Crew.{Crew}
 use Rattle.crew.specs.Thresholds.{one, two, three, classOf}
 use Rattle.crew.proofs.Facts.{Accepts, accepts}
 use Rattle.message.specs.Reading.{readOf}
 use Rattle.message.specs.Writing.{entryOf, listed, selectionOf, validationOf, decisionOf}
 use Rattle.model.specs.Node as model
-use Rattle.model.specs.Node.{Round, selecting, validating, deciding, entriesBelow, entriesSaid, say}
+use Rattle.model.specs.Node.{Round, selecting, validating, deciding, entriesBelow, entriesSaid, say, number}
 use Rattle.node.specs.declared.Node.{Node}
 use Rattle.node.specs.Soundness.{sound}
-use Rattle.node.specs.Sending.{listedPhases, comingOf, comingBytes, writeOf, bufferAfter, bufferOf}
+use Rattle.node.specs.Sending.{listedPhases, comingOf, comingBytes}
 use Rattle.node.proofs.Facts.{Typed, sound-facts}
+use Rattle.node.proofs.SendLaws.{write-accepted}
 use Rattle.node.proofs.ReadBack.{read-back}
 use Rattle.rounds.specs.Inbox.{counted}
 use Rattle.agreement.specs.Statement.{write, Puts}
-use Rattle.agreement.proofs.Record.{roundNumber, asRecord}
+use Rattle.agreement.proofs.Record.{asRecord}
 
 -- The entries that a message lists are those that the engine's node says.
 
@@ -90,16 +89,7 @@ listed-said crew a history phase = go (eqb (crew .class) 1) (eqb (crew .class) 2
 -- The bytes that a write put are those of the coming message.
 
 pub puts-coming : (d : Node) (buffer bytes : List ℕ) → Puts d (write buffer) bytes → comingBytes d ≡ bytes
-unfolding writeOf
-puts-coming d buffer bytes puts =
-    let ok = passed (sound d) 7 _ (puts .0) in
-    let left = passed (ltb (d .phase) 64) 8 _ (ok .1) in
-    let room = passed (leb (length (comingBytes d)) (length buffer)) 9 _ (left .1) in
-    let size : length (comingBytes d) ≡ length bytes = cc (room .1) in
-    let front : take (length bytes) (bufferOf d buffer) ≡ comingBytes d
-    = ap (λ o. take (length bytes) (bufferAfter (comingBytes d) buffer o)) (puts .0)
-    ∙ take-at (comingBytes d) (drop (length bytes) buffer) (length bytes) size in
-    sym front ∙ puts .2
+puts-coming d buffer bytes puts = sym (write-accepted d buffer (length bytes) (puts .0) .3) ∙ puts .2
 
 -- What the coming message says to a node of the same run and place.
 
@@ -107,7 +97,7 @@ module _ (crew : Crew) (run q phase : ℕ) (a : model.Node) (rest : List ℕ) wh
   abbrev Heard : Round → Type 0
   Heard round = let d = asRecord crew run q phase round a in
       Typed d → sound d ≡ true → phase < 64 → 0 < length (comingBytes d)
-      → counted run phase (roundNumber round) (readOf (comingBytes d ++ rest))
+      → counted run phase (number round) (readOf (comingBytes d ++ rest))
       ≡ say (classOf crew) crew phase round q a
 
   selection-heard : Heard selecting
@@ -145,7 +135,7 @@ module _ (crew : Crew) (run q phase : ℕ) (a : model.Node) (rest : List ℕ) wh
 
   pub coming-heard : (round : Round) → (let d = asRecord crew run q phase round a in
       Typed d → sound d ≡ true → phase < 64 → 0 < length (comingBytes d)
-      → counted run phase (roundNumber round) (readOf (comingBytes d ++ rest))
+      → counted run phase (number round) (readOf (comingBytes d ++ rest))
       ≡ say (classOf crew) crew phase round q a)
   coming-heard selecting = selection-heard
   coming-heard validating = validation-heard
