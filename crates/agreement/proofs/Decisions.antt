@@ -32,7 +32,7 @@ use Rattle.agreement.proofs.Calls.{none-taken, taken-inside}
 use Rattle.agreement.proofs.Starts.{started}
 use Rattle.agreement.proofs.Places.{place-early}
 use Rattle.agreement.proofs.Simulation.{slotIn, said, runOf, follows, honest-below, took, took-none}
-use Rattle.agreement.proofs.Simulation.{admissible}
+use Rattle.agreement.proofs.Faithful.{admissible}
 
 -- round 3 is the decision
 third-round : (round : Round) → number round ≡ 3 → round ≡ deciding

@@ -21,7 +21,7 @@ use Rattle.agreement.specs.Statement.{ballotsIn, heard, Good}
 use Rattle.agreement.proofs.Written.{silent-is}
 use Rattle.agreement.proofs.Places.{place-early}
 use Rattle.agreement.proofs.Simulation.{slotIn, said, runOf, follows, crew-is, heard-is, honest-below, took}
-use Rattle.agreement.proofs.Simulation.{admissible}
+use Rattle.agreement.proofs.Faithful.{admissible}
 use Rattle.agreement.proofs.Decisions.{decides-wins}
 
 module _ (l : Listing) (crew : Crew) (run : ℕ) (pre : Premises l crew run) (phase : ℕ) (early : phase < 64)

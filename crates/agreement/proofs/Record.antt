@@ -15,7 +15,7 @@ use Rattle.model.specs.Run.{roundAfter, phaseAfter}
 use Rattle.node.specs.declared.Node.{Node}
 use Rattle.rounds.specs.Taking.{afterRound}
 
--- the record of node q, with the round's number standing free
+-- the record of node q, by the number of its round
 abbrev recordWith : Crew → ℕ → ℕ → model.Node → ℕ → ℕ → Node
 recordWith crew run q a phase round = record {
   crew = crew;
@@ -35,7 +35,7 @@ abbrev pub asRecord : Crew → ℕ → ℕ → ℕ → Round → model.Node → 
 asRecord crew run q phase round a = recordWith crew run q a phase (number round)
 
 -- 01: "Class 1 goes on to round 3, the others to round 2 and then 3."
-pub after-selection : (first second : Bool)
+after-selection : (first second : Bool)
     → cond first 3 2 ≡ number (roundAfter (cond first one (cond second two three)) selecting)
 after-selection true second = refl
 after-selection false true = refl

@@ -1,8 +1,7 @@
--- The list of calls is a run of the abstract engine: every honest record, round by round, is the engine's node, and
--- the run meets what the engine's theorems suppose. Assumes nothing.
+-- The list of calls is a run of the abstract engine: every honest record, round by round, is the engine's node.
+-- Assumes nothing.
 use mathlib.Core.Path.{_≡_, refl, sym, ap, ap₂, _∙_, subst}
-use mathlib.Core.List.{List, _++_}
-use mathlib.Core.Logic.{_⊎_, inl, inr, _≢_}
+use mathlib.Core.List.{List}
 use mathlib.Core.Bool.{true}
 use mathlib.Core.Option.{Option, none, some}
 use Prim.Native.Nat.{ℕ, zero, suc, _*_, _^_, _≤_, _<_}
@@ -11,12 +10,10 @@ use lib.ListN.{length}
 use lib.Dec.{T, ltb→lt}
 use Rattle.crew.specs.declared.Crew.{Crew}
 use Rattle.crew.specs.Thresholds.{classOf}
-use Rattle.message.specs.Reading.{readOf}
 use Rattle.ballot.specs.Ballot.{Ballot, inbox}
-use Rattle.ballot.proofs.Slots.{not-none}
 use Rattle.model.specs.Node as model
-use Rattle.model.specs.Node.{selecting, begin, turn, number}
-use Rattle.model.specs.Run.{State, Inboxes, start, step, saying, Faithful, Run, state, Held, Admissible}
+use Rattle.model.specs.Node.{selecting, begin, turn}
+use Rattle.model.specs.Run.{State, Inboxes, start, step, Run, state, Held}
 use Rattle.model.proofs.Run.{moves}
 use Rattle.node.specs.declared.Node.{Node}
 use Rattle.node.specs.Record.{begun}
@@ -24,15 +21,14 @@ use Rattle.node.specs.Soundness.{sound}
 use Rattle.node.specs.Sending.{comingBytes}
 use Rattle.node.proofs.Facts.{Typed, sound-facts}
 use Rattle.node.proofs.StartLaws.{start-accepted, start-sound, start-typed}
-use Rattle.rounds.specs.Inbox.{slotAt, counted, ballotAt, ballots}
+use Rattle.rounds.specs.Inbox.{ballotAt, ballots}
 use Rattle.rounds.specs.Taking.{afterRound}
 use Rattle.agreement.specs.Statement.{Start, Listing, Call, made, honest, recordOf, afterCalls, calls, recordAt}
 use Rattle.agreement.specs.Statement.{takenInbox, inboxAt, write, Puts, Wrote, Whole, Premises}
-use Rattle.agreement.proofs.Plans.{slot-plan}
 use Rattle.agreement.proofs.Answers.{take-whole, take-cut, take-spent}
 use Rattle.agreement.proofs.Soundness.{take-sound, take-typed}
 use Rattle.agreement.proofs.Record.{asRecord, take-turns}
-use Rattle.agreement.proofs.Written.{puts-coming, coming-heard}
+use Rattle.agreement.proofs.Written.{puts-coming}
 use Rattle.agreement.proofs.Calls.{whole-takes, whole-wrote, refused-keeps}
 use Rattle.agreement.proofs.Starts.{MadeBy, started}
 use Rattle.agreement.proofs.Places.{place-early}
@@ -208,72 +204,12 @@ module _ (l : Listing) (crew : Crew) (run : ℕ) (pre : Premises l crew run) whe
       let spent : 64 ≤ recordAt l q j .phase = omega (arith, ap (λ (x : Node). x .phase) (f .is)) in
       refused-keeps (recordAt l q j) (take-spent (recordAt l q j) (f .is-sound) spent) (calls l q j) .1
 
-  -- What an honest node's slot says to an honest node is what the engine's node says.
-
-  module _ (j : ℕ) (held : Held (runOf l crew) j) where
-    abbrev now : State
-    now = state (runOf l crew) j
-
-    -- the slot begins with the bytes of the node's coming message
-    slot-begins : (q : ℕ) → T (honest l q) → (written rest slot : List ℕ) → Wrote (recordAt l q j) (calls l q j) written
-        → slot ≡ written ++ rest
-        → (slot ≡ comingBytes (recordAt l q j) ++ rest) × (0 < length (comingBytes (recordAt l q j)))
-    slot-begins q h written rest slot wrote e =
-        let f = follows q j h (omega (arith, held .0)) in
-        let left : recordAt l q j .phase < 64 = omega (arith, held .1, phase-same q j h (held .0) f) in
-        let whole-round = whole q j h (held .0) f (held .1) in
-        let puts = round-wrote (recordAt l q j) (f .is-sound) left (calls l q j) whole-round written wrote in
-        let same = puts-coming (recordAt l q j) (puts .0) written (puts .1) in
-        (e ∙ ap (λ bytes. bytes ++ rest) (sym same), omega (arith, puts .1 .1, ap length same))
-
-    spoken : (p q : ℕ) → T (honest l p) → T (honest l q) → (bytes : List ℕ) (m : Ballot) → inboxAt l p j ≡ some bytes
-        → ballotAt (recordAt l p j) bytes q ≡ some m
-        → ballotAt (recordAt l p j) bytes q ≡ saying (classOf crew) crew now q
-    unfolding ballotAt
-    spoken p q hp hq bytes m e o =
-        let slot = pre .slots p q j hp hq bytes m (e, o) in
-        let begins = slot-begins q hq (slot .0) (slot .1) (slotAt bytes q) (slot .2) (slot .3) in
-        let fp = follows p j hp (omega (arith, held .0)) in
-        let fq = follows q j hq (omega (arith, held .0)) in
-        let coming = ap comingBytes (fq .is) in
-        ap (λ (d : Node). ballotAt d bytes q) (fp .is)
-        ∙ ap (λ part. counted run (now .phase) (number (now .round)) (readOf part))
-        (begins .0 ∙ ap (λ part. part ++ slot .1) coming)
-        ∙ coming-heard crew run q (now .phase) (now .node q) (slot .1) (now .round)
-        (subst Typed (fq .is) (fq .typed)) (ap sound (sym (fq .is)) ∙ fq .is-sound) (held .1)
-        (omega (arith, begins .1, ap length coming))
-
-    faithful : Faithful (classOf crew) crew (honest l) (said l j) now
-    faithful p lp hp q lq hq = go (t .bytes) (t .taken)
-      where
-        t : Took (recordAt l p j) (calls l p j)
-        t = took p j hp held
-
-        known : (bytes : List ℕ) → inboxAt l p j ≡ some bytes → (o : Option Ballot)
-            → ballotAt (recordAt l p j) bytes q ≡ o
-            → (ballotAt (recordAt l p j) bytes q ≡ none)
-            ⊎ (ballotAt (recordAt l p j) bytes q ≡ saying (classOf crew) crew now q)
-        known bytes e none o = inl o
-        known bytes e (some m) o = inr (spoken p q hp hq bytes m e o)
-
-        go : (bytes : List ℕ) → inboxAt l p j ≡ some bytes
-            → (said l j p q ≡ none) ⊎ (said l j p q ≡ saying (classOf crew) crew now q)
-        go bytes e =
-            let slot = ap (λ o. slotIn (recordAt l p j) o q) e in
-            elim (known bytes e (ballotAt (recordAt l p j) bytes q) refl) [
-              | inl z ↦ inl (slot ∙ z)
-              | inr z ↦ inr (slot ∙ z)
-            ]
-
-  -- no slot votes for 0
-  slots-plan : (d : Node) (o : Option (List ℕ)) (q : ℕ) (m : Ballot) → slotIn d o q ≡ some m → m .vote ≢ 0
-  slots-plan d none q m e z = absurd (not-none e)
-  slots-plan d (some bytes) q m e z = omega (arith, slot-plan d bytes q m e)
-
-  pub admissible : Admissible (runOf l crew)
-  admissible = record {
-    crew-accepted = pre .crew-accepted;
-    few = pre .few;
-    faithful = faithful;
-    plans = λ j held p lp hp q lq m e. slots-plan (recordAt l p j) (inboxAt l p j) q m e;
-  }
+  -- what an honest node wrote in a round are the bytes of its coming message
+  pub wrote-coming : (q j : ℕ) → T (honest l q) → Held (runOf l crew) j → (written : List ℕ)
+      → Wrote (recordAt l q j) (calls l q j) written → (comingBytes (recordAt l q j) ≡ written) × (0 < length written)
+  wrote-coming q j h held written wrote =
+      let f = follows q j h (omega (arith, held .0)) in
+      let left : recordAt l q j .phase < 64 = omega (arith, held .1, phase-same q j h (held .0) f) in
+      let whole-round = whole q j h (held .0) f (held .1) in
+      let puts = round-wrote (recordAt l q j) (f .is-sound) left (calls l q j) whole-round written wrote in
+      (puts-coming (recordAt l q j) (puts .0) written (puts .1), puts .1 .1)
