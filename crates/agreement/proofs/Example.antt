@@ -87,15 +87,26 @@ drill = record {
   rounds = round 0 ∷ round 1 ∷ round 2 ∷ [];
 }
 
-pub drill-decides : (standing drill 0 ≡ 5) × (standing drill 1 ≡ 5) × (standing drill 2 ≡ 5)
+-- a fact of 0, 1 and 2 holds of every number below 3
+three : (P : ℕ → Type 0) → P 0 → P 1 → P 2 → (i : ℕ) → i < 3 → P i
+three P a b c zero h = a
+three P a b c (suc zero) h = b
+three P a b c (suc (suc zero)) h = c
+three P a b c (suc (suc (suc i))) h = absurd (omega arith)
+
+-- 01's whole output: the results are 0 after rounds 1 and 2, and 5 after round 3
+pub drill-decides : (p : ℕ) → p < 3
+    → (recordAt drill p 1 .result ≡ 0) × (recordAt drill p 2 .result ≡ 0) × (standing drill p ≡ 5)
 unfolding
     acceptOf startOf begun made recordOf callsOf recordAt afterCalls
     takeOf sound emptyFrom afterRound ballotAt readOf tested bodyAt entriesIn entriesOk count gather
     lists least leastOf possible backed backing enough selection leading mostVoted anyPlan taken
     valid validated decides decision
-drill-decides = (refl, refl, refl)
+drill-decides =
+    three (λ p. (recordAt drill p 1 .result ≡ 0) × (recordAt drill p 2 .result ≡ 0) × (standing drill p ≡ 5))
+    (refl, refl, refl) (refl, refl, refl) (refl, refl, refl)
 
--- and what was said of the refusals
+-- the refused start, write and take
 pub drill-refuses : (answerTo (begins 3 0) ≡ refused 6)
     × (writeOf (recordAt drill 0 0) [] ≡ refused 9)
     × (takeOf (recordAt drill 0 0) [] ≡ refused 14)
@@ -103,12 +114,6 @@ unfolding acceptOf startOf begun made recordOf recordAt sound emptyFrom writeOf 
 drill-refuses = (refl, refl, refl)
 
 -- The premises, computed.
-
-three : (P : ℕ → Type 0) → P 0 → P 1 → P 2 → (i : ℕ) → i < 3 → P i
-three P a b c zero h = a
-three P a b c (suc zero) h = b
-three P a b c (suc (suc zero)) h = c
-three P a b c (suc (suc (suc i))) h = absurd (omega arith)
 
 -- a fact of each of three nodes in each of three rounds
 nine : (P : ℕ → ℕ → Type 0) → P 0 0 → P 0 1 → P 0 2 → P 1 0 → P 1 1 → P 1 2 → P 2 0 → P 2 1 → P 2 2

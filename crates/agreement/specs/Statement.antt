@@ -81,6 +81,28 @@ unfoldable pub recordOf : ℕ → List Node → Node
 recordOf q [] = blank
 recordOf q (d ∷ ds) = cond (eqb (d .own) q) d (recordOf q ds)
 
+-- Whole rounds.
+
+-- nothing but asks
+abbrev pub Asks : List Call → Type 0
+Asks [] = Unit {0}
+Asks (write buffer ∷ cs) = ⊥
+Asks (ask inbox ∷ cs) = Asks cs
+Asks (take-round inbox ∷ cs) = ⊥
+
+-- The calls of one node in a whole round of n slots.
+-- 01: "In a whole round every honest node writes its coming message, then every honest node takes the round, with
+-- inboxes that anybody may fill after all the writes." "A take refused with 14 is made again until one is accepted."
+-- That is: any number of writes, each into a buffer of any length, and of takes of a wrong length, then one take of the
+-- right length; asks anywhere. More than 01's rounds are covered: a node may write nothing, or again after a refused
+-- take, and nodes wait for each other only so far as the premise on slots makes them.
+abbrev pub Whole : ℕ → List Call → Type 0
+Whole n [] = ⊥
+Whole n (write buffer ∷ cs) = Whole n cs
+Whole n (ask inbox ∷ cs) = Whole n cs
+Whole n (take-round inbox ∷ cs) =
+    ((length inbox ≡ 202 * n) × Asks cs) ⊎ ((length inbox ≢ 202 * n) × Whole n cs)
+
 -- The records, from call to call.
 
 -- 01: "The state is the honest nodes' records alone: each call gets the record that its node's last accepted take
@@ -120,6 +142,8 @@ takenInbox d (take-round inbox ∷ cs) = cond (isAccepted (takeOf d inbox)) (som
 abbrev pub inboxAt : Listing → ℕ → ℕ → Option (List ℕ)
 inboxAt l p j = takenInbox (recordAt l p j) (calls l p j)
 
+-- What a node wrote in a round.
+
 -- The call wrote these bytes: it was accepted with their number, and they stand at its buffer's front. Silence has
 -- written nothing.
 abbrev pub Puts : Node → Call → List ℕ → Type 0
@@ -135,28 +159,6 @@ Puts d (take-round inbox) bytes = ⊥
 abbrev pub Wrote : Node → List Call → List ℕ → Type 0
 Wrote d [] bytes = ⊥
 Wrote d (c ∷ cs) bytes = Puts d c bytes ⊎ Wrote (afterCall d c) cs bytes
-
--- Whole rounds.
-
--- nothing but asks
-abbrev pub Asks : List Call → Type 0
-Asks [] = Unit {0}
-Asks (write buffer ∷ cs) = ⊥
-Asks (ask inbox ∷ cs) = Asks cs
-Asks (take-round inbox ∷ cs) = ⊥
-
--- The calls of one node in a whole round of n slots.
--- 01: "In a whole round every honest node writes its coming message, then every honest node takes the round, with
--- inboxes that anybody may fill after all the writes." "A take refused with 14 is made again until one is accepted."
--- That is: any number of writes, each into a buffer of any length, and of takes of a wrong length, then one take of the
--- right length; asks anywhere. More than 01's rounds are covered: a node may write nothing, or again after a refused
--- take, and nodes wait for each other only so far as the premise on slots makes them.
-abbrev pub Whole : ℕ → List Call → Type 0
-Whole n [] = ⊥
-Whole n (write buffer ∷ cs) = Whole n cs
-Whole n (ask inbox ∷ cs) = Whole n cs
-Whole n (take-round inbox ∷ cs) =
-    ((length inbox ≡ 202 * n) × Asks cs) ⊎ ((length inbox ≢ 202 * n) × Whole n cs)
 
 -- Places.
 
