@@ -1,0 +1,17 @@
+pub mod Plans
+pub mod Answers
+pub mod Soundness
+pub mod Order
+pub mod Record
+pub mod Entries
+pub mod Written
+pub mod Calls
+pub mod Starts
+pub mod Places
+pub mod Simulation
+pub mod Faithful
+pub mod Decisions
+pub mod GoodPhase
+pub mod Demand
+pub mod Prefix
+pub mod Example

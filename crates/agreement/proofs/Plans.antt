@@ -1,0 +1,100 @@
+-- The votes of counting messages are plans: not 0, and of two bytes where the inbox holds bytes. So is the plan
+-- that a rule answers, where it answers one. Assumes nothing.
+use mathlib.Core.Path.{_≡_, refl, subst}
+use mathlib.Core.Bool.{Bool, true, false, cond, _&&_}
+use mathlib.Core.List.{List}
+use mathlib.Core.Logic.{inl, inr}
+use mathlib.Core.Option.{none, some}
+use Prim.Native.Nat.{ℕ, _+_, _*_, _^_, _≤_, _<_}
+use native.Mathlib.Omega.{arith}
+use native.Mathlib.Decide.{decLt}
+use lib.ListN.{length, getD, take, drop, length-take, List·getD-eq-default}
+use lib.Seq.{getD-take, getD-drop}
+use lib.Dec.{leb, ltb, eqb→eq}
+use borrow.Author.Tests.{leb-true}
+use Rattle.wire.specs.Outcome.{Outcome, accepted, refused}
+use Rattle.wire.specs.Bytes.{AreBytes}
+use Rattle.wire.proofs.Tests.{tests, both-true}
+use Rattle.message.specs.Fields.{Body, selection, validation, decision, Message}
+use Rattle.message.specs.Bounds.{phaseOk, planOk, entriesOk, bodyOk, BodyFits}
+use Rattle.message.specs.Reading.{readOf}
+use Rattle.message.proofs.ReadLaws.{read-passes}
+use Rattle.codec.proofs.Read.{encode-of-read}
+use Rattle.ballot.specs.Count.{count}
+use Rattle.ballot.specs.Ballot.{Ballot, votes}
+use Rattle.ballot.proofs.Counting.{count-le}
+use Rattle.ballot.proofs.Least.{Voted}
+use Rattle.ballot.proofs.Slots.{same-ballot, not-none, no-slot-counts}
+use Rattle.node.specs.declared.Node.{Node}
+use Rattle.rounds.specs.Inbox.{slotAt, ballotOf, isOf, counted, ballotAt, ballots}
+
+-- a slot that counts is read to a message, and says what that message puts forward
+pub slot-read : (d : Node) (inbox : List ℕ) (q : ℕ) (m : Ballot) → ballotAt d inbox q ≡ some m
+    → (k : Message) × (readOf (slotAt inbox q) ≡ accepted k) × (ballotOf (k .body) ≡ m)
+unfolding ballotAt
+slot-read d inbox q m e = go (readOf (slotAt inbox q)) refl e
+  where
+    coming : (k : Message) (b : Bool) → cond b (some (ballotOf (k .body))) none ≡ some m → ballotOf (k .body) ≡ m
+    coming k true e = same-ballot e
+    coming k false e = absurd (not-none e)
+
+    go : (o : Outcome Message) → readOf (slotAt inbox q) ≡ o → counted (d .run) (d .phase) (d .round) o ≡ some m
+        → (k : Message) × (readOf (slotAt inbox q) ≡ accepted k) × (ballotOf (k .body) ≡ m)
+    go (accepted k) i e = (k, i, coming k (isOf (d .run) (d .phase) (d .round) k) e)
+    go (refused number) i e = absurd (not-none e)
+
+-- what a message within the bounds votes for is a plan
+body-plan : (phase : ℕ) (body : Body) → bodyOk phase body ≡ true → 1 ≤ ballotOf body .vote
+body-plan phase (selection vote stamp entries) ok =
+    let all = both-true (planOk vote && ltb stamp phase && leb (length entries) 63) (entriesOk 0 phase entries) ok in
+    let scalars = both-true (planOk vote && ltb stamp phase) (leb (length entries) 63) (all .0) in
+    leb-true 1 vote (both-true (planOk vote) (ltb stamp phase) (scalars .0) .0)
+body-plan phase (validation plan) ok = leb-true 1 plan ok
+body-plan phase (decision vote stamp) ok = leb-true 1 vote (both-true (planOk vote) (leb stamp phase) ok .0)
+
+body-fits : (body : Body) → BodyFits body → ballotOf body .vote < 256 ^ 2
+body-fits (selection vote stamp entries) fits = fits .0
+body-fits (validation plan) fits = fits
+body-fits (decision vote stamp) fits = fits
+
+pub slot-plan : (d : Node) (inbox : List ℕ) (q : ℕ) (m : Ballot) → ballotAt d inbox q ≡ some m → 1 ≤ m .vote
+slot-plan d inbox q m e =
+    let r = slot-read d inbox q m e in
+    let k = r .0 in
+    let bounds = read-passes (slotAt inbox q) k (r .1) .in-bounds in
+    subst (λ (x : Ballot). 1 ≤ x .vote) (r .2)
+    (body-plan (k .phase) (k .body) (both-true (phaseOk (k .phase)) (bodyOk (k .phase) (k .body)) bounds .1))
+
+-- a part of a list of bytes holds bytes
+part-bytes : (s : List ℕ) (from size : ℕ) → AreBytes s → AreBytes (take size (drop from s))
+part-bytes s from size bytes place = elim (decLt place size) [
+  | yes inside ↦ rw (getD-take size (drop from s) place 0 inside, getD-drop from s place 0) (bytes (from + place))
+  | no outside ↦
+      let out : length (take size (drop from s)) ≤ place = omega (arith, length-take size (drop from s)) in
+      rw (List·getD-eq-default (take size (drop from s)) 0 {n = place} out) (omega arith)
+]
+
+slot-fits : (d : Node) (inbox : List ℕ) → AreBytes inbox → (q : ℕ) (m : Ballot) → ballotAt d inbox q ≡ some m
+    → m .vote < 256 ^ 2
+slot-fits d inbox bytes q m e =
+    let r = slot-read d inbox q m e in
+    let fits = encode-of-read (slotAt inbox q) (r .0) (part-bytes inbox (202 * q) 202 bytes) (r .1) .2 in
+    subst (λ (x : Ballot). x .vote < 256 ^ 2) (r .2) (body-fits (r .0 .body) (fits .1))
+
+-- the ballots whose vote does not fit two bytes
+abbrev tooLarge : Ballot → Bool
+tooLarge m = leb (256 ^ 2) (m .vote)
+
+inbox-fits : (d : Node) (inbox : List ℕ) → AreBytes inbox → count tooLarge (ballots d inbox) ≡ 0
+inbox-fits d inbox bytes = no-slot-counts (d .crew) (ballotAt d inbox) tooLarge λ q l m e t.
+    omega (tests, slot-fits d inbox bytes q m e)
+
+-- what is voted, or 0, fits two bytes
+pub voted-fits : (d : Node) (inbox : List ℕ) → AreBytes inbox → (v : ℕ) → Voted v (ballots d inbox) → v < 256 ^ 2
+voted-fits d inbox bytes v (inl empty) = omega arith
+voted-fits d inbox bytes v (inr voted) = elim (decLt v (256 ^ 2)) [
+  | yes fits ↦ fits
+  | no large ↦
+      let voters = count-le (votes v) tooLarge (ballots d inbox) λ m t. omega (tests, eqb→eq (m .vote) v t) in
+      absurd (omega (arith, voters, inbox-fits d inbox bytes))
+]
