@@ -524,9 +524,10 @@ fn choose_one(
 {
     let n = crew.n as usize;
     let e = bound(crew);
+    let arrivals = count_marks(present, n);
     let backed = mark_above(present, present, votes, stamps, n, e, false);
     let backing = backing_of(&backed, votes, stamps, n);
-    answer_below_three(backing, 2 * e < count_marks(present, n))
+    answer_below_three(backing, 2 * e < arrivals)
 }
 
 // Selection in class 2.
@@ -544,10 +545,11 @@ fn choose_two(
     let n = crew.n as usize;
     let b = crew.b as usize;
     let e = bound(crew);
+    let arrivals = count_marks(present, n);
     let possible = mark_above(present, present, votes, stamps, n, e, true);
     let backed = mark_above(present, &possible, votes, stamps, n, b, false);
     let backing = backing_of(&backed, votes, stamps, n);
-    answer_below_three(backing, e + b < count_marks(present, n))
+    answer_below_three(backing, e + b < arrivals)
 }
 
 // Selection in class 3.

@@ -15,6 +15,7 @@ returns : tie.Need-returns
 unfolding afterRound
 returns c =
     let b4 = c .before .before .before .before in
+    let b4 = b4 in
     rw (eq-eqb _ _ (c .before .before .if1 .taken)) (c .after-selection .ensures ∙ ap (afterSelection (b4 .before .args .node)) (c .before .select .ensures))
 
 validate-requires : tie.Need-validate-requires
@@ -27,6 +28,7 @@ returns-2 : tie.Need-returns-2
 unfolding afterRound
 returns-2 c =
     let b4 = c .before .before .before .before in
+    let b4 = b4 in
     rw (ne-eqb _ _ (b4 .if1 .left), eq-eqb _ _ (c .before .before .if2 .taken))
     (c .after-validation .ensures ∙ ap (afterValidation (b4 .before .before .before .args .node)) (c .before .validate .ensures))
 
@@ -40,6 +42,7 @@ returns-3 : tie.Need-returns-3
 unfolding afterRound
 returns-3 c =
     let b4 = c .before .before .before .before in
+    let b4 = b4 in
     rw (ne-eqb _ _ (b4 .if1 .left), ne-eqb _ _ (c .before .before .if2 .left))
     (c .after-decision .ensures ∙ ap (afterDecision (b4 .before .before .before .args .node)) (c .before .decide .ensures))
 

@@ -26,6 +26,7 @@ mul-if3 c = search needs
 read-slots-requires : tie.Need-read-slots-requires
 read-slots-requires c κs =
     let b4 = c .before .before .before .before in
+    let b4 = b4 in
     let b8 = b4 .before .before .before .before in
     let b12 = b8 .before .before .before .before in
     let d = b12 .args .node in
@@ -35,6 +36,7 @@ read-slots-requires c κs =
 choose-requires : tie.Need-choose-requires
 choose-requires c κs =
     let b4 = c .before .before .before .before in
+    let b4 = b4 in
     let b8 = b4 .before .before .before .before in
     let b12 = b8 .before .before .before .before in
     let b16 = b12 .before .before .before .before in
@@ -49,6 +51,7 @@ returns : tie.Need-returns
 unfolding askOf
 returns c =
     let b4 = c .before .before .before .before in
+    let b4 = b4 in
     let b8 = b4 .before .before .before .before in
     let b12 = b8 .before .before .before .before in
     let b16 = b12 .before .before .before .before in

@@ -25,6 +25,7 @@ count-supporting-requires c κs = search needs
 returns-2 : tie.Need-returns-2
 returns-2 c =
     let b4 = c .before .before .before .before in
+    let b4 = b4 in
     let a = b4 .before .args in
     let vote : ℕ → ℕ = λ q. getD (now (a .votes)) q 0 in
     let stamp : ℕ → ℕ = λ q. getD (now (a .stamps)) q 0 in
@@ -34,6 +35,7 @@ returns-2 c =
 returns-3 : tie.Need-returns-3
 returns-3 c =
     let b4 = c .before .before .before .before in
+    let b4 = b4 in
     let a = b4 .before .args in
     let vote : ℕ → ℕ = λ q. getD (now (a .votes)) q 0 in
     let stamp : ℕ → ℕ = λ q. getD (now (a .stamps)) q 0 in

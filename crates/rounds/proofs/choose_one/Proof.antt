@@ -1,7 +1,6 @@
 use mathlib.Core.Path.{sym, _∙_}
 use borrow.Author.Needs.{needs}
 use denote.Ref.{now}
-use Rattle.ballot.specs.Selection.{answer}
 use Rattle.crew.specs.Thresholds.{one}
 use Rattle.rounds.proofs.Choosing.{selection-marked, enough-one}
 use Rattle.rounds.proofs.Ruling.{backed-one-slot}
@@ -15,6 +14,9 @@ cast-n c = search needs
 bound-requires : tie.Need-bound-requires
 bound-requires c κs = search needs
 
+count-marks-requires : tie.Need-count-marks-requires
+count-marks-requires c κs = search needs
+
 mark-above-requires : tie.Need-mark-above-requires
 mark-above-requires c κs = search needs
 
@@ -23,9 +25,6 @@ backing-of-requires c κs = search needs
 
 mul-answer-below-three : tie.Need-mul-answer-below-three
 mul-answer-below-three c = search needs
-
-count-marks-requires : tie.Need-count-marks-requires
-count-marks-requires c κs = search needs
 
 answer-below-three-requires : tie.Need-answer-below-three-requires
 answer-below-three-requires c κs = search needs
@@ -36,11 +35,11 @@ returns c =
     let a = b4 .before .before .before .args in
     let crew = a .crew in
     let read = columns (now (a .present)) (now (a .votes)) (now (a .stamps)) (now (a .histories)) in
-    let marks = rw (b4 .before .bound .ensures .0) at (b4 .mark-above .ensures) in
-    let slots = rw (← b4 .before .bound .ensures .0) at (enough-one crew read (crew .n) (c .before .count-marks .result) (c .before .count-marks .ensures .0)) in
-    selection-marked crew read (crew .n) one (b4 .mark-above .result) _ _ _
+    let marks = rw (b4 .before .bound .ensures .0) at (c .before .before .before .mark-above .ensures) in
+    let slots = rw (← b4 .before .bound .ensures .0) at (enough-one crew read (crew .n) (b4 .count-marks .result) (b4 .count-marks .ensures .0)) in
+    selection-marked crew read (crew .n) one (c .before .before .before .mark-above .result) _ _ _
     (λ q less. marks q less ∙ sym (backed-one-slot crew read (crew .n) q))
-    (c .answer-below-three .ensures .0) (c .before .before .backing-of .ensures) slots
+    (c .answer-below-three .ensures .0) (c .before .backing-of .ensures) slots
 
 pub choose-one-spec : {M : Type 1} → statement M
 choose-one-spec =
@@ -48,9 +47,9 @@ choose-one-spec =
     (tie.spec
     cast-n
     bound-requires
+    count-marks-requires
     mark-above-requires
     backing-of-requires
     mul-answer-below-three
-    count-marks-requires
     answer-below-three-requires
     returns)

@@ -38,6 +38,7 @@ answer-three-requires c κs = search needs
 returns : tie.Need-returns
 returns c =
     let b4 = c .before .before .before .before in
+    let b4 = b4 in
     let b8 = b4 .before .before .before .before in
     let b12 = b8 .before .before .before .before in
     let a = b12 .args in

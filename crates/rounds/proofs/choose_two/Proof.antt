@@ -17,6 +17,9 @@ cast-b c = search needs
 bound-requires : tie.Need-bound-requires
 bound-requires c κs = search needs
 
+count-marks-requires : tie.Need-count-marks-requires
+count-marks-requires c κs = search needs
+
 mark-above-requires : tie.Need-mark-above-requires
 mark-above-requires c κs = search needs
 
@@ -29,9 +32,6 @@ backing-of-requires c κs = search needs
 add-answer-below-three : tie.Need-add-answer-below-three
 add-answer-below-three c = search needs
 
-count-marks-requires : tie.Need-count-marks-requires
-count-marks-requires c κs = search needs
-
 answer-below-three-requires : tie.Need-answer-below-three-requires
 answer-below-three-requires c κs = search needs
 
@@ -42,12 +42,12 @@ returns c =
     let a = b8 .before .before .args in
     let crew = a .crew in
     let read = columns (now (a .present)) (now (a .votes)) (now (a .stamps)) (now (a .histories)) in
-    let above = rw (b4 .before .before .before .bound .ensures .0) at (b4 .before .before .mark-above .ensures) in
-    let slots = rw (← b4 .before .before .before .bound .ensures .0) at (enough-two crew read (crew .n) (c .before .count-marks .result) (c .before .count-marks .ensures .0)) in
-    selection-marked crew read (crew .n) two (b4 .mark-above2 .result) _ _ _
-    (λ q less. b4 .mark-above2 .ensures q less
-    ∙ sym (backed-two-slot crew read (crew .n) (b4 .before .before .mark-above .result) (λ k inside. above k inside ∙ sym (possible-slot crew read (crew .n) k)) q))
-    (c .answer-below-three .ensures .1) (c .before .before .backing-of .ensures) slots
+    let above = rw (b4 .before .before .before .bound .ensures .0) at (b4 .before .mark-above .ensures) in
+    let slots = rw (← b4 .before .before .before .bound .ensures .0) at (enough-two crew read (crew .n) (b4 .before .before .count-marks .result) (b4 .before .before .count-marks .ensures .0)) in
+    selection-marked crew read (crew .n) two (c .before .before .before .mark-above2 .result) _ _ _
+    (λ q less. c .before .before .before .mark-above2 .ensures q less
+    ∙ sym (backed-two-slot crew read (crew .n) (b4 .before .mark-above .result) (λ k inside. above k inside ∙ sym (possible-slot crew read (crew .n) k)) q))
+    (c .answer-below-three .ensures .1) (c .before .backing-of .ensures) slots
 
 pub choose-two-spec : {M : Type 1} → statement M
 choose-two-spec =
@@ -56,10 +56,10 @@ choose-two-spec =
     cast-n
     cast-b
     bound-requires
+    count-marks-requires
     mark-above-requires
     mark-above-requires-2
     backing-of-requires
     add-answer-below-three
-    count-marks-requires
     answer-below-three-requires
     returns)

@@ -30,6 +30,7 @@ returns : tie.Need-returns
 unfolding decision
 returns c =
     let b4 = c .before .before .before .before in
+    let b4 = b4 in
     let a = b4 .before .before .before .args in
     let crew = a .crew in
     let class = classOf crew in

@@ -38,6 +38,7 @@ mul-histories c = search needs
 element-write-histories : tie.Need-element-write-histories Inv-loop μ-loop
 element-write-histories c =
     let b4 = c .before .before .before .before in
+    let b4 = b4 in
     let l = c .before .before .before .loop in
     let below = below-turn (now (b4 .before .args .part)) (b4 .before .args .count) (l .i) (entryAs (c .before .entry-at .result)) (c .before .entry-at .ensures)
     (c .before .before .loop-test .taken) (b4 .before .pre .1) 64 (l .inv .2) in
@@ -52,6 +53,7 @@ loop-less c = search needs
 loop-again : tie.Need-loop-again Inv-loop μ-loop
 loop-again c =
     let b4 = c .before .before .before .before in
+    let b4 = b4 in
     let l = c .before .before .before .loop in
     let below = below-turn (now (b4 .before .args .part)) (b4 .before .args .count) (l .i) (entryAs (c .before .entry-at .result)) (c .before .entry-at .ensures)
     (c .before .before .loop-test .taken) (b4 .before .pre .1) 64 (l .inv .2) in (

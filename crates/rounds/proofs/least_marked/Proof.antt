@@ -45,6 +45,7 @@ loop-less c = search needs
 loop-again : tie.Need-loop-again Inv-loop μ-loop
 loop-again c =
     let b4 = c .before .before .before .before in
+    let b4 = b4 in
     let a = b4 .before .args in
     let number : ℕ → ℕ = λ k. getD (now (a .votes)) k 0 in
     let small = c .lower-of .ensures .1 in (

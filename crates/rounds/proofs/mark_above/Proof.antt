@@ -51,6 +51,7 @@ loop-less c = search needs
 loop-again : tie.Need-loop-again Inv-loop μ-loop
 loop-again c =
     let b4 = c .before .before .before .before in
+    let b4 = b4 in
     let a = b4 .before .before .before .args in
     let l = b4 .before .before .loop in
     let test = above (now (a .present)) (now (a .marks)) (now (a .votes)) (now (a .stamps)) (a .n) (a .threshold) (a .stamped) in (

@@ -48,6 +48,7 @@ loop-less c = search needs
 loop-again : tie.Need-loop-again Inv-loop μ-loop
 loop-again c =
     let b4 = c .before .before .before .before in
+    let b4 = b4 in
     let a = b4 .before .before .args in
     let l = b4 .before .loop in
     let test = listedAbove (now (a .marks)) (now (a .present)) (now (a .votes)) (now (a .stamps)) (now (a .histories)) (a .n) (a .threshold) in (

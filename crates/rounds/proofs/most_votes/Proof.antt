@@ -47,6 +47,7 @@ loop-less c = search needs
 loop-again : tie.Need-loop-again Inv-loop μ-loop
 loop-again c =
     let b4 = c .before .before .before .before in
+    let b4 = b4 in
     let a = b4 .before .before .args in
     let votes = now (a .votes) in
     let number : ℕ → ℕ = λ k. tally (supporting (now (a .present)) votes (now (a .stamps)) (getD votes k 0) 0) (a .n) in

@@ -44,6 +44,7 @@ cast-lay-entries c = search needs
 lay-entries-requires : tie.Need-lay-entries-requires
 lay-entries-requires c κs =
     let b4 = c .before .before .before .before in
+    let b4 = b4 in
     let slot = now (b4 .before .before .before .args .slot) in
     let heard = sym (ap (λ r. saidAs r slot) (c .before .before .before .heard .given .1)) ∙ b4 .before .hear .ensures in
     let shown = heard-shown slot (b4 .before .before .before .args .run) (b4 .before .before .before .args .phase) (b4 .before .before .before .args .round) _ _ _ heard in (

@@ -38,6 +38,7 @@ returns : tie.Need-returns
 unfolding takeOf
 returns c =
     let b4 = c .before .before .before .before in
+    let b4 = b4 in
     let b8 = b4 .before .before .before .before in
     let b12 = b8 .before .before .before .before in
     let b16 = b12 .before .before .before .before in
