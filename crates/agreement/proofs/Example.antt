@@ -20,7 +20,7 @@ use Rattle.message.specs.Bounds.{entriesOk}
 use Rattle.message.specs.Encoding.{entryBytes, encode}
 use Rattle.message.specs.Reading.{entriesIn, bodyAt, tested, readOf}
 use Rattle.message.specs.Writing.{listed}
-use Rattle.ballot.specs.Count.{tally, count, gather}
+use Rattle.ballot.specs.Count.{tally, countIf, gather}
 use Rattle.ballot.specs.Ballot.{Ballot, lists, sameBallot}
 use Rattle.ballot.specs.Least.{least, leastOf}
 use Rattle.ballot.specs.Selection.{possible, backed, backing, enough, selection, leading, mostVoted, anyPlan, taken}
@@ -99,7 +99,7 @@ pub drill-decides : (p : ℕ) → p < 3
     → (recordAt drill p 1 .result ≡ 0) × (recordAt drill p 2 .result ≡ 0) × (standing drill p ≡ 5)
 unfolding
     acceptOf startOf begun made recordOf callsOf recordAt afterCalls
-    takeOf sound emptyFrom afterRound ballotAt readOf tested bodyAt entriesIn entriesOk count gather
+    takeOf sound emptyFrom afterRound ballotAt readOf tested bodyAt entriesIn entriesOk countIf gather
     lists least leastOf possible backed backing enough selection leading mostVoted anyPlan taken
     valid validated decides decision
 drill-decides =
@@ -133,7 +133,7 @@ Goes p j =
 goes : (p : ℕ) → p < 3 → (j : ℕ) → j < 3 → Goes p j
 unfolding
     acceptOf startOf begun made recordOf callsOf recordAt afterCalls takenInbox
-    takeOf sound emptyFrom afterRound ballotAt readOf tested bodyAt entriesIn entriesOk count gather
+    takeOf sound emptyFrom afterRound ballotAt readOf tested bodyAt entriesIn entriesOk countIf gather
     lists least leastOf possible backed backing enough selection leading mostVoted anyPlan taken
     valid validated decides decision comingOf writeOf encode entryBytes listed
 goes =
@@ -150,7 +150,7 @@ goes =
 
 -- the honest nodes are 0, 1 and 2
 nobody-else : (q : ℕ) → 3 ≤ q → numbered q (made (drill .starts)) ≡ 0
-unfolding acceptOf startOf begun made count
+unfolding acceptOf startOf begun made countIf
 nobody-else q h = simp (ne-eqb 0 q (λ e. omega arith), ne-eqb 1 q (λ e. omega arith), ne-eqb 2 q (λ e. omega arith))
 
 honest-three : (p : ℕ) → T (honest drill p) → p < 3
@@ -160,14 +160,14 @@ honest-three p h = elim (decLt p 3) [
 ]
 
 one-each : (q : ℕ) → numbered q (made (drill .starts)) ≤ 1
-unfolding acceptOf startOf begun made count
+unfolding acceptOf startOf begun made countIf
 one-each q = elim (decLt q 3) [
   | yes l ↦ three (λ q. numbered q (made (drill .starts)) ≤ 1) (omega arith) (omega arith) (omega arith) q l
   | no l ↦ omega (arith, nobody-else q (omega arith))
 ]
 
 one-liar : tally (λ q. not (honest drill q)) 4 ≤ 1
-unfolding acceptOf startOf begun made count tally
+unfolding acceptOf startOf begun made countIf tally
 one-liar = omega arith
 
 one-crew : Every (λ d. (d .crew ≡ crew) × (d .run ≡ 1)) (made (drill .starts))
@@ -240,7 +240,7 @@ AllHeard p j = (q : ℕ) → q < 3 → ballotAt (recordAt drill p j) (box j) q �
 all-heard : (p : ℕ) → p < 3 → (j : ℕ) → j < 3 → AllHeard p j
 unfolding
     acceptOf startOf begun made recordOf callsOf recordAt afterCalls
-    takeOf sound emptyFrom afterRound ballotAt readOf tested bodyAt entriesIn entriesOk count gather
+    takeOf sound emptyFrom afterRound ballotAt readOf tested bodyAt entriesIn entriesOk countIf gather
     lists least leastOf possible backed backing enough selection leading mostVoted anyPlan taken
     valid validated decides decision
 all-heard =
@@ -259,12 +259,12 @@ all-heard =
 same-heard : (p : ℕ) → p < 3 → heard drill p 0 ≡ ballot 0 ∷ ballot 0 ∷ ballot 0 ∷ []
 unfolding
     acceptOf startOf begun made recordOf callsOf recordAt takenInbox
-    takeOf sound emptyFrom ballotAt readOf tested bodyAt entriesIn entriesOk count gather
+    takeOf sound emptyFrom ballotAt readOf tested bodyAt entriesIn entriesOk countIf gather
 same-heard = three (λ p. heard drill p 0 ≡ ballot 0 ∷ ballot 0 ∷ ballot 0 ∷ []) refl refl refl
 
 -- they are honest
 circle-honest : (p : ℕ) → p < 3 → T (honest drill p)
-unfolding acceptOf startOf begun made count
+unfolding acceptOf startOf begun made countIf
 circle-honest = three (λ p. T (honest drill p)) tt tt tt
 
 circle-wide : 4 ≤ tally circle 4 + 1 + 0
@@ -278,8 +278,8 @@ drill-good = record {
   listed = λ j e. omega arith;
   equal = λ j p q e first kp kq m.
       let start : 0 ≡ j = omega arith in
-      subst (λ j. count (sameBallot m) (heard drill p j) ≡ count (sameBallot m) (heard drill q j)) start
-      (ap (count (sameBallot m)) (same-heard p (ltb→lt p 3 kp) ∙ sym (same-heard q (ltb→lt q 3 kq))));
+      subst (λ j. countIf (sameBallot m) (heard drill p j) ≡ countIf (sameBallot m) (heard drill q j)) start
+      (ap (countIf (sameBallot m)) (same-heard p (ltb→lt p 3 kp) ∙ sym (same-heard q (ltb→lt q 3 kq))));
   counts = λ j p q e kp kq loud.
       let inside : j < 3 = omega arith in
       let hp = ltb→lt p 3 kp in

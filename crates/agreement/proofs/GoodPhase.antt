@@ -8,7 +8,7 @@ use native.Mathlib.Omega.{arith}
 use lib.Dec.{T}
 use Rattle.crew.specs.declared.Crew.{Crew}
 use Rattle.crew.specs.Thresholds.{classOf}
-use Rattle.ballot.specs.Count.{count}
+use Rattle.ballot.specs.Count.{countIf}
 use Rattle.ballot.specs.Ballot.{Ballot, inbox, sameBallot}
 use Rattle.ballot.proofs.Slots.{not-none}
 use Rattle.model.specs.Node.{number}
@@ -60,9 +60,9 @@ module _ (l : Listing) (crew : Crew) (run : ℕ) (pre : Premises l crew run) (ph
     wide = good .wide;
     listed = λ j e. held j e .0;
     equal = λ j e first p lp kp q lq kq m.
-        ap (count (sameBallot m)) (sym (same-heard j p e kp))
+        ap (countIf (sameBallot m)) (sym (same-heard j p e kp))
         ∙ good .equal j p q (place-is j e .0) (place-is j e .1 ∙ ap number first) kp kq m
-        ∙ ap (count (sameBallot m)) (same-heard j q e kq);
+        ∙ ap (countIf (sameBallot m)) (same-heard j q e kq);
     counts = λ j e p lp kp q lq kq loud. speaks j p q e kp kq loud;
   }
 

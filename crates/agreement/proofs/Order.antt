@@ -9,7 +9,7 @@ use lib.ListN.{length}
 use lib.Dec.{ltb, eqb}
 use Rattle.wire.specs.Outcome.{accepted, require}
 use Rattle.crew.specs.Thresholds.{classOf}
-use Rattle.ballot.specs.Count.{count}
+use Rattle.ballot.specs.Count.{countIf}
 use Rattle.ballot.specs.Ballot.{Ballot, sameBallot}
 use Rattle.ballot.proofs.Counting.{Same}
 use Rattle.ballot.proofs.Order.{same-inboxes, selection-same, taken-same, validated-same, decision-same}
@@ -20,7 +20,7 @@ use Rattle.rounds.specs.Taking.{afterSelection, afterValidation, afterDecision,
 use Rattle.rounds.specs.Asking.{askOf}
 
 module _ (d : Node) (left right : List ℕ) (long : length left ≡ length right)
-    (each : (m : Ballot) → count (sameBallot m) (ballots d left) ≡ count (sameBallot m) (ballots d right)) where
+    (each : (m : Ballot) → countIf (sameBallot m) (ballots d left) ≡ countIf (sameBallot m) (ballots d right)) where
   same : Same (ballots d left) (ballots d right)
   same = same-inboxes (ballots d left) (ballots d right) each
 

@@ -20,7 +20,7 @@ use Rattle.message.specs.Bounds.{phaseOk, planOk, entriesOk, bodyOk, BodyFits}
 use Rattle.message.specs.Reading.{readOf}
 use Rattle.message.proofs.ReadLaws.{read-passes}
 use Rattle.codec.proofs.Read.{encode-of-read}
-use Rattle.ballot.specs.Count.{count}
+use Rattle.ballot.specs.Count.{countIf}
 use Rattle.ballot.specs.Ballot.{Ballot, votes}
 use Rattle.ballot.proofs.Counting.{count-le}
 use Rattle.ballot.proofs.Least.{Voted}
@@ -85,7 +85,7 @@ slot-fits d inbox bytes q m e =
 abbrev tooLarge : Ballot → Bool
 tooLarge m = leb (256 ^ 2) (m .vote)
 
-inbox-fits : (d : Node) (inbox : List ℕ) → AreBytes inbox → count tooLarge (ballots d inbox) ≡ 0
+inbox-fits : (d : Node) (inbox : List ℕ) → AreBytes inbox → countIf tooLarge (ballots d inbox) ≡ 0
 inbox-fits d inbox bytes = no-slot-counts (d .crew) (ballotAt d inbox) tooLarge λ q l m e t.
     omega (tests, slot-fits d inbox bytes q m e)
 

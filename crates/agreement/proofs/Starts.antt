@@ -7,7 +7,7 @@ use native.Mathlib.Omega.{arith}
 use lib.Dec.{eqb}
 use borrow.Author.Tests.{eqb-true}
 use Rattle.wire.specs.Outcome.{Outcome, accepted, refused}
-use Rattle.ballot.specs.Count.{bit, count}
+use Rattle.ballot.specs.Count.{bit, countIf}
 use Rattle.node.specs.declared.Node.{Node}
 use Rattle.agreement.specs.Statement.{Start, answerTo, withRecord, made, numbered, recordOf, Every}
 
@@ -22,7 +22,7 @@ pub record MadeBy (P : Start → Type 0) (Q : Node → Type 0) (q : ℕ) (d : No
 module _ (P : Start → Type 0) (Q : Node → Type 0) (q : ℕ) where
   pub started : (ss : List Start) → Every P ss → Every Q (made ss) → 0 < numbered q (made ss)
       → MadeBy P Q q (recordOf q (made ss))
-  unfolding made recordOf count
+  unfolding made recordOf countIf
   started [] each records h = absurd (omega arith)
   started (s ∷ ss) each records h = go (answerTo s) refl records h (started ss (each .1))
     where

@@ -15,7 +15,7 @@ use Rattle.wire.specs.Bytes.{AreBytes}
 use Rattle.crew.specs.declared.Crew.{Crew}
 use Rattle.crew.specs.Acceptance.{acceptOf}
 use Rattle.crew.specs.Thresholds.{classOf}
-use Rattle.ballot.specs.Count.{tally, count, holds}
+use Rattle.ballot.specs.Count.{tally, countIf, holds}
 use Rattle.ballot.specs.Ballot.{Ballot, votes, sameBallot}
 use Rattle.ballot.specs.Decision.{fresh}
 use Rattle.node.specs.declared.Node.{Node}
@@ -69,7 +69,7 @@ made (s ∷ ss) = withRecord (answerTo s) (made ss)
 
 -- how many of the records have this own number
 abbrev pub numbered : ℕ → List Node → ℕ
-numbered q ds = count (λ d. eqb (d .own) q) ds
+numbered q ds = countIf (λ d. eqb (d .own) q) ds
 
 -- 01: "The honest nodes are those whose records these starts gave; the other numbers below n are the nodes that are not
 -- honest."
@@ -271,7 +271,7 @@ pub record Good (l : Listing) (crew : Crew) (phase : ℕ) (circle : ℕ → Bool
   pub listed : (j : ℕ) → phaseAt crew j ≡ phase → j < length (l .rounds)
   -- 01: "In round 1 all of them have the same counting messages, each in as many slots of one inbox as of another"
   pub equal : (j p q : ℕ) → phaseAt crew j ≡ phase → roundAt crew j ≡ 1 → T (circle p) → T (circle q)
-      → (m : Ballot) → count (sameBallot m) (heard l p j) ≡ count (sameBallot m) (heard l q j)
+      → (m : Ballot) → countIf (sameBallot m) (heard l p j) ≡ countIf (sameBallot m) (heard l q j)
   -- 01: "and every circle node's slot counts in each. In rounds 2 and 3 the slot of every circle node that is not
   -- silent counts in every circle node's inbox." In round 1 no node is silent.
   pub counts : (j p q : ℕ) → phaseAt crew j ≡ phase → T (circle p) → T (circle q) → (Silent l q j → ⊥)

@@ -6,7 +6,7 @@ use Prim.Native.Nat.{ℕ}
 use Rattle.wire.specs.Entry.{Entry}
 use Rattle.crew.specs.declared.Crew.{Crew}
 use Rattle.crew.specs.Thresholds.{classOf}
-use Rattle.ballot.specs.Count.{count}
+use Rattle.ballot.specs.Count.{countIf}
 use Rattle.ballot.specs.Ballot.{Ballot, lists}
 use Rattle.ballot.specs.Least.{least, leastOf}
 use Rattle.ballot.specs.Selection.{possible, backed, backing, enough, selection}
@@ -117,6 +117,6 @@ answered (validate crew ballots) = settled (validated crew ballots)
 answered (decide crew phase ballots) = settled (decision (classOf crew) crew phase ballots)
 
 board-holds : map (λ e. answered (e .question)) board ≡ map (λ e. e .answer) board
-unfolding count lists least leastOf possible backed backing enough selection leading mostVoted anyPlan taken
+unfolding countIf lists least leastOf possible backed backing enough selection leading mostVoted anyPlan taken
     valid validated decides decision
 board-holds = refl

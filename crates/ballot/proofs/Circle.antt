@@ -12,7 +12,7 @@ use lib.Dec.{T}
 use Rattle.wire.proofs.Tests.{tests}
 use Rattle.crew.specs.declared.Crew.{Crew}
 use Rattle.crew.specs.Thresholds.{one, two, three, anyAbove}
-use Rattle.ballot.specs.Count.{tally, count}
+use Rattle.ballot.specs.Count.{tally, countIf}
 use Rattle.ballot.specs.Ballot.{Ballot, inbox, stamped, lists}
 use Rattle.ballot.specs.Selection.{supports, possible, backed, enough, selection}
 use Rattle.ballot.proofs.Counting.{tally-peak, length-count}
@@ -46,7 +46,7 @@ module _ (crew : Crew) (slots : Slots) (circle : ℕ → Bool) (wide : crew .n �
       (unique : EachFrom circle crew slots λ m. EachFrom circle crew slots λ o.
       m .stamp ≡ o .stamp → 0 < m .stamp → m .vote ≡ o .vote)
       (listed : EachFrom circle crew slots λ m.
-      0 < m .stamp → crew .b < count (lists (m .vote) (m .stamp)) (inbox crew slots)) where
+      0 < m .stamp → crew .b < countIf (lists (m .vote) (m .stamp)) (inbox crew slots)) where
     -- a ballot of the circle with its highest stamp is backed, unless that stamp is 0 and 'any' is answered
     highest : (q : ℕ) → q < crew .n → T (circle q) → (m : Ballot) → slots q ≡ some m
         → EachFrom circle crew slots (λ o. o .stamp ≤ m .stamp) → Dec (0 < m .stamp)

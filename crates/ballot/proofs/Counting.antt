@@ -11,7 +11,7 @@ use native.Mathlib.Decide.{ℕ-discrete, decLe, decLt}
 use lib.ListN.{length}
 use lib.Dec.{T, ltb}
 use Rattle.wire.proofs.Tests.{tests}
-use Rattle.ballot.specs.Count.{bit, tally, count, holds, push, gather}
+use Rattle.ballot.specs.Count.{bit, tally, countIf, holds, push, gather}
 
 -- One test.
 
@@ -187,40 +187,40 @@ tally-peak p g (suc n) h = go (p n) refl h (decLt 0 (tally p n)) (tally-peak p g
 -- Elements of a list.
 
 module _ {A : Type 0} where
-  pub count-le : (p r : A → Bool) (l : List A) → ((a : A) → T (p a) → T (r a)) → count p l ≤ count r l
-  unfolding count
+  pub count-le : (p r : A → Bool) (l : List A) → ((a : A) → T (p a) → T (r a)) → countIf p l ≤ countIf r l
+  unfolding countIf
   count-le p r [] h = omega arith
   count-le p r (x ∷ l) h = go (p x) (r x) (h x) (count-le p r l h)
     where
-      go : (a b : Bool) → (T a → T b) → count p l ≤ count r l → bit a + count p l ≤ bit b + count r l
+      go : (a b : Bool) → (T a → T b) → countIf p l ≤ countIf r l → bit a + countIf p l ≤ bit b + countIf r l
       go true true f i = omega arith
       go true false f i = absurd (f tt)
       go false b f i = omega arith
 
-  pub count-none : (p : A → Bool) (l : List A) → ((a : A) → T (p a) → ⊥) → count p l ≡ 0
-  unfolding count
+  pub count-none : (p : A → Bool) (l : List A) → ((a : A) → T (p a) → ⊥) → countIf p l ≡ 0
+  unfolding countIf
   count-none p [] h = refl
   count-none p (x ∷ l) h = omega (arith, bit-F (p x) (h x), count-none p l h)
 
-  pub count-not : (p : A → Bool) (l : List A) → count p l + count (λ a. not (p a)) l ≡ length l
-  unfolding count
+  pub count-not : (p : A → Bool) (l : List A) → countIf p l + countIf (λ a. not (p a)) l ≡ length l
+  unfolding countIf
   count-not p [] = refl
   count-not p (x ∷ l) = go (p x) (count-not p l)
     where
       rest : ℕ
-      rest = count (λ a. not (p a)) l
+      rest = countIf (λ a. not (p a)) l
 
-      go : (a : Bool) → count p l + rest ≡ length l → bit a + count p l + (bit (not a) + rest) ≡ suc (length l)
+      go : (a : Bool) → countIf p l + rest ≡ length l → bit a + countIf p l + (bit (not a) + rest) ≡ suc (length l)
       go true i = omega arith
       go false i = omega arith
 
-  pub count-append : (p : A → Bool) (l k : List A) → count p (l ++ k) ≡ count p l + count p k
-  unfolding count
+  pub count-append : (p : A → Bool) (l k : List A) → countIf p (l ++ k) ≡ countIf p l + countIf p k
+  unfolding countIf
   count-append p [] k = omega arith
   count-append p (x ∷ l) k = omega (arith, count-append p l k)
 
-  pub length-count : (l : List A) → length l ≡ count (λ a. true) l
-  unfolding count
+  pub length-count : (l : List A) → length l ≡ countIf (λ a. true) l
+  unfolding countIf
   length-count [] = refl
   length-count (x ∷ l) = omega (arith, length-count l)
 
@@ -229,11 +229,11 @@ module _ {A : Type 0} where
 
   -- a is in the list, and g is nowhere larger
   abbrev pub Peak : (A → ℕ) → List A → A → Type 0
-  Peak g l a = (count (λ k. ltb (g a) (g k)) l ≡ 0) × ((p : A → Bool) → T (p a) → 0 < count p l)
+  Peak g l a = (countIf (λ k. ltb (g a) (g k)) l ≡ 0) × ((p : A → Bool) → T (p a) → 0 < countIf p l)
 
   -- a list that is not empty has such an element
   pub count-peak : (g : A → ℕ) (x : A) (l : List A) → (a : A) × Peak g (x ∷ l) a
-  unfolding count
+  unfolding countIf
   count-peak g x [] = (x, (omega (arith, not-above g x x (omega arith)), λ p t. omega (arith, bit-T (p x) t)))
   count-peak g x (y ∷ l) = let r = count-peak g y l in go (r .0) (r .1) (decLe (g x) (g (r .0)))
     where
@@ -245,18 +245,18 @@ module _ {A : Type 0} where
 
   -- The same elements, each as often, in whatever order: every count is the same.
   abbrev pub Same : List A → List A → Type 0
-  Same l k = (p : A → Bool) → count p l ≡ count p k
+  Same l k = (p : A → Bool) → countIf p l ≡ countIf p k
 
   -- Slots: what is counted in the list of the slots is counted over their numbers.
 
-  count-push : (p : A → Bool) (o : Option A) (l : List A) → count p (push o l) ≡ bit (holds p o) + count p l
-  unfolding count
+  count-push : (p : A → Bool) (o : Option A) (l : List A) → countIf p (push o l) ≡ bit (holds p o) + countIf p l
+  unfolding countIf
   count-push p none l = omega arith
   count-push p (some a) l = refl
 
   pub count-gather : (p : A → Bool) (slots : ℕ → Option A) (n : ℕ)
-      → count p (gather slots n) ≡ tally (λ q. holds p (slots q)) n
-  unfolding count tally gather
+      → countIf p (gather slots n) ≡ tally (λ q. holds p (slots q)) n
+  unfolding countIf tally gather
   count-gather p slots zero = refl
   count-gather p slots (suc n) =
       omega (arith, count-push p (slots n) (gather slots n), count-gather p slots n)

@@ -10,7 +10,7 @@ use lib.Dec.{T, eqb→eq}
 use Rattle.wire.proofs.Tests.{tests}
 use Rattle.crew.specs.declared.Crew.{Crew}
 use Rattle.crew.specs.Thresholds.{Class, one, two, three}
-use Rattle.ballot.specs.Count.{count}
+use Rattle.ballot.specs.Count.{countIf}
 use Rattle.ballot.specs.Ballot.{Ballot, votes}
 use Rattle.ballot.specs.Decision.{fresh, decides, decision}
 use Rattle.ballot.proofs.Tests.{and-T}
@@ -41,7 +41,7 @@ module _ (class : Class) (crew : Crew) (phase : ℕ) (ballots : List Ballot) whe
 
   module _ (quorum : 0 < crew .d) (v : ℕ) (d : T (decides class crew phase ballots v)) where
     -- a plan that decides is a slot's vote
-    pub decides-voted : 0 < count (votes v) ballots
+    pub decides-voted : 0 < countIf (votes v) ballots
     unfolding decides
     decides-voted =
         omega (
@@ -56,7 +56,7 @@ module _ (class : Class) (crew : Crew) (phase : ℕ) (ballots : List Ballot) whe
     decision-least = leastOf-least (decides class crew phase ballots) ballots v decides-voted d
 
     -- and where no slot votes 0, it is a plan
-    pub decision-plan : count (votes 0) ballots ≡ 0 → decision class crew phase ballots ≢ 0
+    pub decision-plan : countIf (votes 0) ballots ≡ 0 → decision class crew phase ballots ≢ 0
     unfolding decision
     decision-plan z e =
         let wins = count-le (votes v) (λ m. decides class crew phase ballots (m .vote)) ballots λ m x.
@@ -65,5 +65,5 @@ module _ (class : Class) (crew : Crew) (phase : ℕ) (ballots : List Ballot) whe
           arith,
           decides-voted,
           leastOf-some (decides class crew phase ballots) ballots (omega (arith, decides-voted)),
-          ap (λ x. count (votes x) ballots) e,
+          ap (λ x. countIf (votes x) ballots) e,
         )

@@ -10,7 +10,7 @@ use native.Mathlib.Omega.{arith}
 use native.Mathlib.Decide.{decLe, decLt}
 use lib.Dec.{T, ltb, eqb→eq, eqb-refl}
 use Rattle.wire.proofs.Tests.{tests}
-use Rattle.ballot.specs.Count.{bit, count}
+use Rattle.ballot.specs.Count.{bit, countIf}
 use Rattle.ballot.specs.Ballot.{Ballot, votes}
 use Rattle.ballot.specs.Least.{lower, least, orZero, leastOf}
 use Rattle.ballot.proofs.Tests.{and-T, T-and, T-dec}
@@ -24,11 +24,11 @@ abbrev pub belowVote : (Ballot → Bool) → ℕ → Ballot → Bool
 belowVote p v m = p m && ltb (m .vote) v
 
 pub data Least (p : Ballot → Bool) (ballots : List Ballot) : Option ℕ → Type 0 where
-  nowhere : count p ballots ≡ 0 → Least p ballots none
-  found : (v : ℕ) → 0 < count (withVote p v) ballots → count (belowVote p v) ballots ≡ 0 → Least p ballots (some v)
+  nowhere : countIf p ballots ≡ 0 → Least p ballots none
+  found : (v : ℕ) → 0 < countIf (withVote p v) ballots → countIf (belowVote p v) ballots ≡ 0 → Least p ballots (some v)
 
 pub least-is : (p : Ballot → Bool) (ballots : List Ballot) → Least p ballots (least p ballots)
-unfolding count least
+unfolding countIf least
 least-is p [] = nowhere refl
 least-is p (m ∷ ms) = go (p m) refl (least p ms) (least-is p ms)
   where
@@ -41,14 +41,14 @@ least-is p (m ∷ ms) = go (p m) refl (least p ms) (least-is p ms)
     own : p m ≡ true → bit (withVote p (m .vote) m) ≡ 1
     own e = on (votes (m .vote) m) e (eqb-refl (m .vote))
 
-    low : (v w : ℕ) → w ≤ v → count (belowVote p w) ms ≤ count (belowVote p v) ms
+    low : (v w : ℕ) → w ≤ v → countIf (belowVote p w) ms ≤ countIf (belowVote p v) ms
     low v w h = count-le (belowVote p w) (belowVote p v) ms λ k t.
         let d = and-T (p k) (ltb (k .vote) w) t in T-and (p k) (ltb (k .vote) v) (d .0) (omega tests)
 
     under : (v : ℕ) → v ≤ m .vote → bit (belowVote p v m) ≡ 0
     under v h = bit-F (belowVote p v m) λ t. let d = and-T (p m) (ltb (m .vote) v) t in omega tests
 
-    lowest : (v : ℕ) → p m ≡ true → 0 < count (withVote p v) ms → count (belowVote p v) ms ≡ 0 → Dec (m .vote ≤ v)
+    lowest : (v : ℕ) → p m ≡ true → 0 < countIf (withVote p v) ms → countIf (belowVote p v) ms ≡ 0 → Dec (m .vote ≤ v)
         → Least p (m ∷ ms) (lower (m .vote) (some v))
     lowest v e i z (yes l) =
         let x : lower (m .vote) (some v) ≡ some (m .vote) = ap some (omega arith) in
@@ -68,11 +68,11 @@ least-is p (m ∷ ms) = go (p m) refl (least p ms) (least-is p ms)
 
 -- a vote that passes is a vote
 pub withVote-votes : (p : Ballot → Bool) (v : ℕ) (ballots : List Ballot)
-    → count (withVote p v) ballots ≤ count (votes v) ballots
+    → countIf (withVote p v) ballots ≤ countIf (votes v) ballots
 withVote-votes p v ballots = count-le (withVote p v) (votes v) ballots (λ m t. and-T (p m) (votes v m) t .1)
 
 pub withVote-passes : (p : Ballot → Bool) (v : ℕ) (ballots : List Ballot)
-    → count (withVote p v) ballots ≤ count p ballots
+    → countIf (withVote p v) ballots ≤ countIf p ballots
 withVote-passes p v ballots = count-le (withVote p v) p ballots (λ m t. and-T (p m) (votes v m) t .0)
 
 -- The least vote does not depend on the order.
@@ -81,12 +81,12 @@ pub least-same : (p : Ballot → Bool) (l k : List Ballot) → Same l k → leas
 least-same p l k s = go (least p l) (least p k) (least-is p l) (least-is p k)
   where
     less : (v w : ℕ) (ballots : List Ballot) → v < w
-        → count (withVote p v) ballots ≤ count (belowVote p w) ballots
+        → countIf (withVote p v) ballots ≤ countIf (belowVote p w) ballots
     less v w ballots h = count-le (withVote p v) (belowVote p w) ballots λ m t.
         let x = and-T (p m) (votes v m) t in T-and (p m) (ltb (m .vote) w) (x .0) (omega tests)
 
-    meet : (v w : ℕ) → 0 < count (withVote p v) l → count (belowVote p v) l ≡ 0
-        → 0 < count (withVote p w) k → count (belowVote p w) k ≡ 0 → Dec (v < w) → Dec (w < v) → v ≡ w
+    meet : (v w : ℕ) → 0 < countIf (withVote p v) l → countIf (belowVote p v) l ≡ 0
+        → 0 < countIf (withVote p w) k → countIf (belowVote p w) k ≡ 0 → Dec (v < w) → Dec (w < v) → v ≡ w
     meet v w a b c d (yes h) x = omega (arith, less v w k h, s (withVote p v))
     meet v w a b c d (no h) (yes x) = omega (arith, less w v l x, s (withVote p w))
     meet v w a b c d (no h) (no x) = omega arith
@@ -106,17 +106,17 @@ leastOf-same f g l k s h =
 
 -- 0, or some ballot's vote
 abbrev pub Voted : ℕ → List Ballot → Type 0
-Voted v ballots = (v ≡ 0) ⊎ (0 < count (votes v) ballots)
+Voted v ballots = (v ≡ 0) ⊎ (0 < countIf (votes v) ballots)
 
 module _ (f : ℕ → Bool) (ballots : List Ballot) where
   abbrev test : Ballot → Bool
   test m = f (m .vote)
 
   -- a ballot that votes for a plan that passes is there
-  voter-passes : (v : ℕ) → T (f v) → count (votes v) ballots ≤ count test ballots
+  voter-passes : (v : ℕ) → T (f v) → countIf (votes v) ballots ≤ countIf test ballots
   voter-passes v t = count-le (votes v) test ballots λ m x. rw (eqb→eq (m .vote) v x) t
 
-  passes : (w : ℕ) → 0 < count (withVote test w) ballots → T (f w)
+  passes : (w : ℕ) → 0 < countIf (withVote test w) ballots → T (f w)
   passes w h = elim (T-dec (f w)) [
     | inl t ↦ t
     | inr t ↦ absurd (omega (
@@ -143,16 +143,16 @@ module _ (f : ℕ → Bool) (ballots : List Ballot) where
       go (some v) (found _ i z) = inr (omega (arith, withVote-votes test v ballots))
 
   -- where a ballot passes, the least is a ballot's vote
-  pub leastOf-some : 0 < count test ballots → 0 < count (votes (leastOf f ballots)) ballots
+  pub leastOf-some : 0 < countIf test ballots → 0 < countIf (votes (leastOf f ballots)) ballots
   unfolding leastOf
   leastOf-some h = go (least test ballots) (least-is test ballots)
     where
-      go : (o : Option ℕ) → Least test ballots o → 0 < count (votes (orZero o)) ballots
+      go : (o : Option ℕ) → Least test ballots o → 0 < countIf (votes (orZero o)) ballots
       go none (nowhere z) = absurd (omega arith)
       go (some v) (found _ i z) = omega (arith, withVote-votes test v ballots)
 
   -- the least is not above any vote that passes
-  pub leastOf-least : (v : ℕ) → 0 < count (votes v) ballots → T (f v) → leastOf f ballots ≤ v
+  pub leastOf-least : (v : ℕ) → 0 < countIf (votes v) ballots → T (f v) → leastOf f ballots ≤ v
   unfolding leastOf
   leastOf-least v i t = go (least test ballots) (least-is test ballots)
     where
@@ -168,7 +168,7 @@ module _ (f : ℕ → Bool) (ballots : List Ballot) where
       ]
 
   -- the only vote that passes is the least
-  pub leastOf-only : (v : ℕ) → 0 < count (votes v) ballots → T (f v) → ((w : ℕ) → T (f w) → w ≡ v)
+  pub leastOf-only : (v : ℕ) → 0 < countIf (votes v) ballots → T (f v) → ((w : ℕ) → T (f w) → w ≡ v)
       → leastOf f ballots ≡ v
   unfolding leastOf
   leastOf-only v i t u = go (least test ballots) (least-is test ballots)

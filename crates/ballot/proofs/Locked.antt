@@ -12,7 +12,7 @@ use lib.Dec.{T, leb, eqb→eq, T-not}
 use Rattle.wire.proofs.Tests.{tests}
 use Rattle.crew.specs.declared.Crew.{Crew}
 use Rattle.crew.specs.Thresholds.{Class, one, two, three, E}
-use Rattle.ballot.specs.Count.{tally, count}
+use Rattle.ballot.specs.Count.{tally, countIf}
 use Rattle.ballot.specs.Ballot.{Ballot, inbox, votes, stamped, lists}
 use Rattle.ballot.specs.Selection.{supports, possible, backed, enough, selection, anyPlan, takenOn, taken}
 use Rattle.ballot.specs.Selection.{nobody, plan, nothing, answer}
@@ -47,28 +47,28 @@ module _ (crew : Crew) (reach : crew .d + crew .b + crew .f ≤ crew .n) (slots 
 
   -- at most E ballots come from outside the lock
   pub outside-lock-at-most-E : (p : Ballot → Bool) → ((m : Ballot) → m .vote ≡ v → t ≤ m .stamp → T (p m) → ⊥)
-      → count p (inbox crew slots) ≤ E crew
+      → countIf p (inbox crew slots) ≤ E crew
   outside-lock-at-most-E p h =
       outside-core-at-most-E crew slots p (omega arith) (lock .core) (lock .ample) λ q l k m e.
       let d = lock .says q l k m e in h m (d .0) (d .1)
 
   -- Class 1: a rival has at most E slots; where more than 2E count, v has more than E.
 
-  rivals-one : count (otherVote (backed one crew ballots) v) ballots ≡ 0
+  rivals-one : countIf (otherVote (backed one crew ballots) v) ballots ≡ 0
   unfolding backed
   rivals-one = count-none _ ballots λ m h.
       let d = and-T (backed one crew ballots m) (not (votes v m)) h in
       omega (tests, outside-lock-at-most-E (votes (m .vote)) (λ k e _ x. omega tests))
 
-  backs-one : T (enough one crew ballots) → 0 < count (backed one crew ballots) ballots
+  backs-one : T (enough one crew ballots) → 0 < countIf (backed one crew ballots) ballots
   unfolding enough backed
   backs-one h =
       let others = outside-lock-at-most-E (λ m. not (votes v m)) (λ k e _ x. omega tests) in
-      let many : E crew < count (votes v) ballots = omega (tests, count-not (votes v) ballots) in
+      let many : E crew < countIf (votes v) ballots = omega (tests, count-not (votes v) ballots) in
       omega (
         tests,
         count-le (votes v) (backed one crew ballots) ballots λ m x.
-            omega (tests, ap (λ w. count (votes w) ballots) (eqb→eq (m .vote) v x)),
+            omega (tests, ap (λ w. countIf (votes w) ballots) (eqb→eq (m .vote) v x)),
       )
 
   pub lock-taken-one : Takes v one crew (inbox crew slots)
@@ -90,7 +90,7 @@ module _ (crew : Crew) (reach : crew .d + crew .b + crew .f ≤ crew .n) (slots 
 
     -- Class 2: a rival backed by more than b possible slots would have an honest one, with a stamp below t.
 
-    rivals-two : count (otherVote (backed two crew ballots) v) ballots ≡ 0
+    rivals-two : countIf (otherVote (backed two crew ballots) v) ballots ≡ 0
     unfolding backed
     rivals-two = count-none _ ballots λ m h.
         let d = and-T (backed two crew ballots m) (not (votes v m)) h in
@@ -119,13 +119,13 @@ module _ (crew : Crew) (reach : crew .d + crew .b + crew .f ≤ crew .n) (slots 
               ]),
         )
 
-    backs-two : T (enough two crew ballots) → 0 < count (backed two crew ballots) ballots
+    backs-two : T (enough two crew ballots) → 0 < countIf (backed two crew ballots) ballots
     unfolding enough backed
     backs-two h =
         let mine : Ballot → Bool = λ m. votes v m && leb t (m .stamp) in
         let others = outside-lock-at-most-E (λ m. not (mine m)) λ k e l x.
         T-not (mine k) x (T-and (votes v k) (leb t (k .stamp)) (omega tests) (omega tests)) in
-        let many : crew .b < count mine ballots = omega (tests, count-not mine ballots) in
+        let many : crew .b < countIf mine ballots = omega (tests, count-not mine ballots) in
         let possibles = count-le mine (λ k. possible crew ballots k && votes v k) ballots λ k x.
         let d = and-T (votes v k) (leb t (k .stamp)) x in
         let its : T (possible crew ballots k) = core-possible (omega tests) k (omega tests) (omega tests) in
@@ -136,7 +136,7 @@ module _ (crew : Crew) (reach : crew .d + crew .b + crew .f ≤ crew .n) (slots 
               let d = and-T (votes v m) (leb t (m .stamp)) x in
               omega (
                 tests,
-                ap (λ w. count (λ k. possible crew ballots k && votes w k) ballots) (eqb→eq (m .vote) v (d .0)),
+                ap (λ w. countIf (λ k. possible crew ballots k && votes w k) ballots) (eqb→eq (m .vote) v (d .0)),
               ),
         )
 
@@ -146,7 +146,7 @@ module _ (crew : Crew) (reach : crew .d + crew .b + crew .f ≤ crew .n) (slots 
     -- Class 3: what an honest ballot lists at a phase after t is v, so a rival is listed after t by at most b slots.
 
     module _ (listed : EachFrom honest crew slots (λ m. (w x : ℕ) → T (lists w x m) → t < x → w ≡ v)) where
-      rivals-three : count (otherVote (backed three crew ballots) v) ballots ≡ 0
+      rivals-three : countIf (otherVote (backed three crew ballots) v) ballots ≡ 0
       rivals-three = count-none _ ballots λ m h.
           let d = and-T (backed three crew ballots m) (not (votes v m)) h in
           let e = backed-three crew ballots m (d .0) in
@@ -173,7 +173,7 @@ module _ (crew : Crew) (reach : crew .d + crew .b + crew .f ≤ crew .n) (slots 
           let others = liars-at-most-b crew slots (λ m. not (votes v m)) honest few λ q l y k o x.
           elim (rest q l y k o) [ inl w ↦ omega tests | inr w ↦ omega arith ] in
           let zeros = count-le (stamped 0) (λ m. true) ballots (λ m x. tt) in
-          let leader : crew .b < count (votes v) ballots
+          let leader : crew .b < countIf (votes v) ballots
           = omega (tests, length-count ballots, count-not (votes v) ballots) in
           any-leader crew ballots v leader λ w d.
           omega (tests, count-le (votes w) (λ m. not (votes v m)) ballots (λ m x. omega tests))

@@ -10,7 +10,7 @@ use lib.Dec.{T, eqb, eqb→eq, eqb-refl}
 use Rattle.wire.specs.Entry.{Entry}
 use Rattle.crew.specs.declared.Crew.{Crew}
 use Rattle.crew.specs.Thresholds.{Class, one, two, three}
-use Rattle.ballot.specs.Count.{bit, count}
+use Rattle.ballot.specs.Count.{bit, countIf}
 use Rattle.ballot.specs.Ballot.{Ballot, sameEntry, sameEntries, sameBallot}
 use Rattle.ballot.specs.Least.{least}
 use Rattle.ballot.specs.Selection.{possible, backed, besides, backing, enough, answer, selection}
@@ -30,24 +30,24 @@ module _ {A : Type 0} (same : A → A → Bool) (sound : (a b : A) → T (same a
   without x [] = []
   without x (y ∷ l) = cond (same x y) l (y ∷ without x l)
 
-  take-out : (p : A → Bool) (x : A) (l : List A) → 0 < count (same x) l
-      → count p l ≡ bit (p x) + count p (without x l)
-  unfolding without count
+  take-out : (p : A → Bool) (x : A) (l : List A) → 0 < countIf (same x) l
+      → countIf p l ≡ bit (p x) + countIf p (without x l)
+  unfolding without countIf
   take-out p x [] h = absurd (omega arith)
   take-out p x (y ∷ l) h = go (same x y) refl h (take-out p x l)
     where
-      go : (b : Bool) → same x y ≡ b → 0 < bit b + count (same x) l
-          → (0 < count (same x) l → count p l ≡ bit (p x) + count p (without x l))
-          → bit (p y) + count p l ≡ bit (p x) + count p (cond b l (y ∷ without x l))
+      go : (b : Bool) → same x y ≡ b → 0 < bit b + countIf (same x) l
+          → (0 < countIf (same x) l → countIf p l ≡ bit (p x) + countIf p (without x l))
+          → bit (p y) + countIf p l ≡ bit (p x) + countIf p (cond b l (y ∷ without x l))
       go true e h rec = omega (arith, ap (λ z. bit (p z)) (sound x y (rw e tt)))
       go false e h rec = omega (arith, rec (omega arith))
 
-  same-counts : (l k : List A) → ((a : A) → count (same a) l ≡ count (same a) k) → Same l k
-  unfolding count
+  same-counts : (l k : List A) → ((a : A) → countIf (same a) l ≡ countIf (same a) k) → Same l k
+  unfolding countIf
   same-counts [] [] h p = refl
   same-counts [] (y ∷ k) h p = absurd (omega (arith, h y, bit-T (same y y) (self y)))
   same-counts (x ∷ l) k h p =
-      let here : 0 < count (same x) k = omega (arith, h x, bit-T (same x x) (self x)) in
+      let here : 0 < countIf (same x) k = omega (arith, h x, bit-T (same x x) (self x)) in
       let rest = same-counts l (without x k) (λ a. omega (arith, h a, take-out (same a) x k here)) p in
       omega (arith, take-out p x k here)
 
@@ -93,7 +93,7 @@ ballot-self a =
     (entries-self (a .entries)))
 
 -- 01: "the same counting messages, each in as many slots of one as of the other"
-pub same-inboxes : (l k : List Ballot) → ((m : Ballot) → count (sameBallot m) l ≡ count (sameBallot m) k) → Same l k
+pub same-inboxes : (l k : List Ballot) → ((m : Ballot) → countIf (sameBallot m) l ≡ countIf (sameBallot m) k) → Same l k
 same-inboxes l k h = same-counts sameBallot ballot-sound ballot-self l k h
 
 -- The three rules.

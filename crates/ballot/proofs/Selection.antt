@@ -14,7 +14,7 @@ use borrow.Author.Tests.{eqb-true, eqb-false}
 use Rattle.wire.proofs.Tests.{tests}
 use Rattle.crew.specs.declared.Crew.{Crew}
 use Rattle.crew.specs.Thresholds.{Class, one, two, three}
-use Rattle.ballot.specs.Count.{count}
+use Rattle.ballot.specs.Count.{countIf}
 use Rattle.ballot.specs.Ballot.{Ballot, votes, lists}
 use Rattle.ballot.specs.Least.{least}
 use Rattle.ballot.specs.Selection.{supports, possible, backed, Backing, nobody, sole, several, besides, backing}
@@ -30,10 +30,10 @@ abbrev pub otherVote : (Ballot → Bool) → ℕ → Ballot → Bool
 otherVote p v m = p m && not (votes v m)
 
 pub data Backs (p : Ballot → Bool) (ballots : List Ballot) : Backing → Type 0 where
-  by-none : count p ballots ≡ 0 → Backs p ballots nobody
-  by-one : (v : ℕ) → 0 < count (withVote p v) ballots → count (otherVote p v) ballots ≡ 0
+  by-none : countIf p ballots ≡ 0 → Backs p ballots nobody
+  by-one : (v : ℕ) → 0 < countIf (withVote p v) ballots → countIf (otherVote p v) ballots ≡ 0
       → Backs p ballots (sole v)
-  by-more : (v : ℕ) → 0 < count (withVote p v) ballots → 0 < count (otherVote p v) ballots
+  by-more : (v : ℕ) → 0 < countIf (withVote p v) ballots → 0 < countIf (otherVote p v) ballots
       → Backs p ballots several
 
 module _ (p : Ballot → Bool) (ballots : List Ballot) where
@@ -42,9 +42,9 @@ module _ (p : Ballot → Bool) (ballots : List Ballot) where
   backing-is = go (least p ballots) (least-is p ballots)
     where
       others : ℕ → ℕ
-      others v = count (otherVote p v) ballots
+      others v = countIf (otherVote p v) ballots
 
-      split : (v : ℕ) (a : Bool) → eqb (others v) 0 ≡ a → 0 < count (withVote p v) ballots
+      split : (v : ℕ) (a : Bool) → eqb (others v) 0 ≡ a → 0 < countIf (withVote p v) ballots
           → Backs p ballots (cond a (sole v) several)
       split v true e i = by-one v i (eqb-true (others v) 0 e)
       split v false e i = by-more v i (omega (arith, eqb-false (others v) 0 e))
@@ -55,23 +55,23 @@ module _ (p : Ballot → Bool) (ballots : List Ballot) where
 
   -- none or only v
   abbrev OnlyBacks : ℕ → Backing → Type 0
-  OnlyBacks v b = ((b ≡ nobody) × (count p ballots ≡ 0)) ⊎ (b ≡ sole v)
+  OnlyBacks v b = ((b ≡ nobody) × (countIf p ballots ≡ 0)) ⊎ (b ≡ sole v)
 
   -- where no other plan than v is backed, v alone is, or none
-  backing-only : (v : ℕ) → count (otherVote p v) ballots ≡ 0 → OnlyBacks v (backing p ballots)
+  backing-only : (v : ℕ) → countIf (otherVote p v) ballots ≡ 0 → OnlyBacks v (backing p ballots)
   backing-only v h = go (backing p ballots) backing-is
     where
-      rival : (w : ℕ) → w ≢ v → count (withVote p w) ballots ≤ count (otherVote p v) ballots
+      rival : (w : ℕ) → w ≢ v → countIf (withVote p w) ballots ≤ countIf (otherVote p v) ballots
       rival w d = count-le (withVote p w) (otherVote p v) ballots λ m t.
           let x = and-T (p m) (votes w m) t in T-and (p m) (not (votes v m)) (x .0) (omega tests)
 
-      same : (w : ℕ) → 0 < count (withVote p w) ballots → w ≡ v
+      same : (w : ℕ) → 0 < countIf (withVote p w) ballots → w ≡ v
       same w i = elim (ℕ-discrete w v) [ yes d ↦ d | no d ↦ omega (arith, rival w d) ]
 
       go : (b : Backing) → Backs p ballots b → OnlyBacks v b
       go nobody (by-none z) = inl (refl, z)
       go (sole w) (by-one _ i z) = inr (ap sole (same w i))
-      go several (by-more w i j) = absurd (omega (arith, ap (λ x. count (otherVote p x) ballots) (same w i)))
+      go several (by-more w i j) = absurd (omega (arith, ap (λ x. countIf (otherVote p x) ballots) (same w i)))
 
 -- Who supports a ballot.
 
@@ -87,12 +87,12 @@ module _ (m k : Ballot) where
 
 -- class 3: what it is for a ballot's vote to be backed
 pub backed-three : (crew : Crew) (ballots : List Ballot) (m : Ballot) → T (backed three crew ballots m)
-    → T (possible crew ballots m) × (crew .b < count (lists (m .vote) (m .stamp)) ballots)
+    → T (possible crew ballots m) × (crew .b < countIf (lists (m .vote) (m .stamp)) ballots)
 unfolding backed
 backed-three crew ballots m h = let d = and-T (possible crew ballots m) _ h in (d .0, omega tests)
 
 pub back-three : (crew : Crew) (ballots : List Ballot) (m : Ballot) → T (possible crew ballots m)
-    → crew .b < count (lists (m .vote) (m .stamp)) ballots → T (backed three crew ballots m)
+    → crew .b < countIf (lists (m .vote) (m .stamp)) ballots → T (backed three crew ballots m)
 unfolding backed
 back-three crew ballots m p l = T-and (possible crew ballots m) _ p (omega tests)
 
@@ -100,10 +100,10 @@ back-three crew ballots m p l = T-and (possible crew ballots m) _ p (omega tests
 
 module _ (class : Class) (crew : Crew) (ballots : List Ballot) where
   -- where no other plan than v is backed, the answer is v, or none is backed and it goes by how many slots count
-  pub selection-only : (v : ℕ) → count (otherVote (backed class crew ballots) v) ballots ≡ 0
+  pub selection-only : (v : ℕ) → countIf (otherVote (backed class crew ballots) v) ballots ≡ 0
       → (selection class crew ballots ≡ plan v)
       ⊎ ((selection class crew ballots ≡ answer class nobody (enough class crew ballots))
-      × (count (backed class crew ballots) ballots ≡ 0))
+      × (countIf (backed class crew ballots) ballots ≡ 0))
   unfolding selection
   selection-only v only = elim (backing-only (backed class crew ballots) ballots v only) [
     | inl r ↦ inr (ap (λ b. answer class b (enough class crew ballots)) (r .0), r .1)
@@ -111,8 +111,8 @@ module _ (class : Class) (crew : Crew) (ballots : List Ballot) where
   ]
 
   -- where only v is backed, and it is wherever slots enough count, the answer is v or 'none'
-  pub selection-finds : (v : ℕ) → count (otherVote (backed class crew ballots) v) ballots ≡ 0
-      → (T (enough class crew ballots) → 0 < count (backed class crew ballots) ballots)
+  pub selection-finds : (v : ℕ) → countIf (otherVote (backed class crew ballots) v) ballots ≡ 0
+      → (T (enough class crew ballots) → 0 < countIf (backed class crew ballots) ballots)
       → (selection class crew ballots ≡ plan v) ⊎ (selection class crew ballots ≡ nothing)
   selection-finds v only backs = elim (selection-only v only) [
     | inl e ↦ inl e
@@ -144,7 +144,7 @@ enough-answers class crew ballots h =
     go three several true h = tt
 
 -- class 3: one backed plan is enough, and so are more
-pub backed-answers : (crew : Crew) (ballots : List Ballot) → 0 < count (backed three crew ballots) ballots
+pub backed-answers : (crew : Crew) (ballots : List Ballot) → 0 < countIf (backed three crew ballots) ballots
     → Answers (selection three crew ballots)
 unfolding selection
 backed-answers crew ballots h =
@@ -160,7 +160,7 @@ backed-answers crew ballots h =
 
 -- a plan that is answered is some ballot's vote
 abbrev VotedChoice : List Ballot → Choice → Type 0
-VotedChoice ballots (plan v) = 0 < count (votes v) ballots
+VotedChoice ballots (plan v) = 0 < countIf (votes v) ballots
 VotedChoice ballots any = Unit {0}
 VotedChoice ballots nothing = Unit {0}
 
@@ -194,12 +194,12 @@ module _ (class : Class) (crew : Crew) (ballots : List Ballot) where
       go nothing h = inl refl
 
   -- where selection answers, slots count and none votes 0, a plan is taken
-  pub taken-plan : 0 < length ballots → count (votes 0) ballots ≡ 0 → Answers (selection class crew ballots)
+  pub taken-plan : 0 < length ballots → countIf (votes 0) ballots ≡ 0 → Answers (selection class crew ballots)
       → taken class crew ballots ≢ 0
   unfolding taken
   taken-plan some-slot no-zero = go (selection class crew ballots) selection-voted
     where
       go : (c : Choice) → VotedChoice ballots c → Answers c → takenOn crew ballots c ≢ 0
-      go (plan v) h a = λ e. omega (arith, ap (λ w. count (votes w) ballots) e)
+      go (plan v) h a = λ e. omega (arith, ap (λ w. countIf (votes w) ballots) e)
       go any h a = any-plan crew ballots some-slot no-zero
       go nothing h a = absurd a

@@ -9,7 +9,7 @@ use native.Mathlib.Omega.{arith}
 use lib.Dec.{T, not-T}
 use Rattle.crew.specs.declared.Crew.{Crew}
 use Rattle.crew.specs.Thresholds.{E}
-use Rattle.ballot.specs.Count.{tally, count, holds}
+use Rattle.ballot.specs.Count.{tally, countIf, holds}
 use Rattle.ballot.specs.Ballot.{Ballot, inbox}
 use Rattle.ballot.proofs.Tests.{holds-T, T-holds}
 use Rattle.ballot.proofs.Counting.{Implies, tally-le, tally-has, tally-none, tally-meet, tally-apart, nobody-of}
@@ -49,7 +49,7 @@ FewLiars crew honest = tally (λ q. not (honest q)) (crew .n) ≤ crew .b
 
 module _ (crew : Crew) (slots : Slots) (p : Ballot → Bool) where
   pub slot-counts : (q : ℕ) → q < crew .n → (m : Ballot) → slots q ≡ some m → T (p m)
-      → 0 < count p (inbox crew slots)
+      → 0 < countIf p (inbox crew slots)
   slot-counts q l m e t =
       omega (
         arith,
@@ -58,7 +58,7 @@ module _ (crew : Crew) (slots : Slots) (p : Ballot → Bool) where
       )
 
   pub no-slot-counts : ((q : ℕ) → q < crew .n → (m : Ballot) → slots q ≡ some m → T (p m) → ⊥)
-      → count p (inbox crew slots) ≡ 0
+      → countIf p (inbox crew slots) ≡ 0
   no-slot-counts h =
       omega (
         arith,
@@ -70,7 +70,7 @@ module _ (crew : Crew) (slots : Slots) (p : Ballot → Bool) where
 
   -- what no honest ballot passes, at most b slots pass
   pub liars-at-most-b : (honest : ℕ → Bool) → FewLiars crew honest → EachFrom honest crew slots (λ m. T (p m) → ⊥)
-      → count p (inbox crew slots) ≤ crew .b
+      → countIf p (inbox crew slots) ≤ crew .b
   liars-at-most-b honest few h =
       omega (
         arith,
@@ -81,7 +81,7 @@ module _ (crew : Crew) (slots : Slots) (p : Ballot → Bool) where
 
   -- what no ballot of a core of D − b senders passes, at most E slots pass
   pub outside-core-at-most-E : crew .d ≤ crew .n → (core : ℕ → Bool) → crew .d ≤ tally core (crew .n) + crew .b
-      → EachFrom core crew slots (λ m. T (p m) → ⊥) → count p (inbox crew slots) ≤ E crew
+      → EachFrom core crew slots (λ m. T (p m) → ⊥) → countIf p (inbox crew slots) ≤ E crew
   outside-core-at-most-E reach core ample h =
       omega (
         arith,
@@ -94,7 +94,7 @@ module _ (crew : Crew) (slots : Slots) (p : Ballot → Bool) where
   -- what every ballot of a circle of n − b − f senders passes, as many slots pass
   pub circle-passes : (circle : ℕ → Bool) → crew .n ≤ tally circle (crew .n) + crew .b + crew .f
       → ((q : ℕ) → q < crew .n → T (circle q) → (m : Ballot) × (slots q ≡ some m))
-      → EachFrom circle crew slots (λ m. T (p m)) → crew .n ≤ count p (inbox crew slots) + crew .b + crew .f
+      → EachFrom circle crew slots (λ m. T (p m)) → crew .n ≤ countIf p (inbox crew slots) + crew .b + crew .f
   circle-passes circle wide present h =
       omega (
         arith,
@@ -109,7 +109,7 @@ pub overlap : (crew : Crew) (honest : ℕ → Bool) → FewLiars crew honest →
     (p r : Ballot → Bool)
     → Implies (crew .n) (λ q. holds p (left q)) senders → Implies (crew .n) (λ q. holds r (right q)) senders
     → ((q : ℕ) → q < crew .n → T (honest q) → T (holds p (left q)) → T (holds r (right q)) → ⊥)
-    → count p (inbox crew left) + count r (inbox crew right) ≤ tally senders (crew .n) + crew .b
+    → countIf p (inbox crew left) + countIf r (inbox crew right) ≤ tally senders (crew .n) + crew .b
 overlap crew honest few senders left right p r in-left in-right apart =
     omega (
       arith,

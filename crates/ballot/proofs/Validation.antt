@@ -11,7 +11,7 @@ use lib.Dec.{T}
 use Rattle.wire.proofs.Tests.{tests}
 use Rattle.crew.specs.declared.Crew.{Crew}
 use Rattle.crew.specs.Thresholds.{validAbove}
-use Rattle.ballot.specs.Count.{tally, count, holds}
+use Rattle.ballot.specs.Count.{tally, countIf, holds}
 use Rattle.ballot.specs.Ballot.{Ballot, inbox, votes}
 use Rattle.ballot.specs.Validation.{validates, valid, validated}
 use Rattle.ballot.proofs.Tests.{holds-T}
@@ -26,7 +26,7 @@ module _ (crew : Crew) where
 
   -- a plan that is validated stands in c slots with 2c > n + b
   pub validated-slots : (ballots : List Ballot) → validated crew ballots ≢ 0
-      → validAbove crew < 2 * count (votes (validated crew ballots)) ballots
+      → validAbove crew < 2 * countIf (votes (validated crew ballots)) ballots
   unfolding validated valid
   validated-slots ballots d = omega (tests, leastOf-passes (valid crew ballots) ballots d)
 
@@ -37,7 +37,7 @@ module _ (crew : Crew) where
   -- two plans that validators vote for, and no honest one for both: not both are valid
   valid-apart : (honest : ℕ → Bool) → FewLiars crew honest → (phase : ℕ) (left right : Slots) (v w : ℕ)
       → ((q : ℕ) → q < crew .n → T (honest q) → T (holds (votes v) (left q)) → T (holds (votes w) (right q)) → ⊥)
-      → count (votes v) (inbox crew left) + count (votes w) (inbox crew right) ≤ validAbove crew
+      → countIf (votes v) (inbox crew left) + countIf (votes w) (inbox crew right) ≤ validAbove crew
   valid-apart honest few phase left right v w apart =
       omega (
         arith,
@@ -65,7 +65,7 @@ module _ (crew : Crew) where
       ]
 
   -- a plan in slots enough is the one that is validated
-  pub valid-validated : (phase : ℕ) (slots : Slots) (v : ℕ) → validAbove crew < 2 * count (votes v) (inbox crew slots)
+  pub valid-validated : (phase : ℕ) (slots : Slots) (v : ℕ) → validAbove crew < 2 * countIf (votes v) (inbox crew slots)
       → validated crew (inbox crew slots) ≡ v
   unfolding validated valid
   valid-validated phase slots v many =
@@ -77,7 +77,7 @@ module _ (crew : Crew) where
 
       -- no slot votes for both
       rival : (w : ℕ) → w ≢ v
-          → count (votes v) (inbox crew slots) + count (votes w) (inbox crew slots) ≤ validAbove crew
+          → countIf (votes v) (inbox crew slots) + countIf (votes w) (inbox crew slots) ≤ validAbove crew
       rival w d = valid-apart all-of nobody-lies phase slots slots v w λ q lq hq s t.
           let m = holds-T (votes v) (slots q) s in
           let o = holds-T (votes w) (slots q) t in

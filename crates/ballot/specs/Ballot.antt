@@ -8,9 +8,9 @@ use Prim.Native.Nat.{ℕ}
 use lib.Dec.{ltb, eqb}
 use Rattle.wire.specs.Entry.{Entry}
 use Rattle.crew.specs.declared.Crew.{Crew}
-use Rattle.ballot.specs.Count.{count, gather}
+use Rattle.ballot.specs.Count.{countIf, gather}
 
--- the plan voted for, its stamp and, in round 1 of class 3, the entries of the sender's history
+-- the plan voted for, its stamp, and the entries that stand in a selection
 pub record Ballot : Type 0 where
   pub vote : ℕ
   pub stamp : ℕ
@@ -31,7 +31,7 @@ isEntry phase plan e = eqb (e .phase) phase && eqb (e .plan) plan
 
 -- the ballot lists v at phase t
 unfoldable pub lists : ℕ → ℕ → Ballot → Bool
-lists v t m = ltb 0 (count (isEntry t v) (m .entries))
+lists v t m = ltb 0 (countIf (isEntry t v) (m .entries))
 
 -- Two ballots say the same.
 -- 01: "Two inboxes with the same counting messages, each in as many slots of one as of the other, give the same

@@ -16,9 +16,9 @@ tally p (suc n) = bit (p n) + tally p n
 
 module _ {A : Type 0} where
   -- how many elements of the list pass the test
-  unfoldable pub count : (A → Bool) → List A → ℕ
-  count p [] = 0
-  count p (x ∷ xs) = bit (p x) + count p xs
+  unfoldable pub countIf : (A → Bool) → List A → ℕ
+  countIf p [] = 0
+  countIf p (x ∷ xs) = bit (p x) + countIf p xs
 
   -- the test, on a slot that may be empty
   abbrev pub holds : (A → Bool) → Option A → Bool

@@ -5,7 +5,7 @@ use Prim.Native.Nat.{ℕ}
 use lib.Dec.{leb}
 use Rattle.crew.specs.declared.Crew.{Crew}
 use Rattle.crew.specs.Thresholds.{Class, one, two, three}
-use Rattle.ballot.specs.Count.{count}
+use Rattle.ballot.specs.Count.{countIf}
 use Rattle.ballot.specs.Ballot.{Ballot, votes, stamped}
 use Rattle.ballot.specs.Least.{leastOf}
 
@@ -17,7 +17,7 @@ fresh three phase m = stamped phase m
 
 -- 01: "plans in at least D slots"
 unfoldable pub decides : Class → Crew → ℕ → List Ballot → ℕ → Bool
-decides class crew phase ballots v = leb (crew .d) (count (λ m. fresh class phase m && votes v m) ballots)
+decides class crew phase ballots v = leb (crew .d) (countIf (λ m. fresh class phase m && votes v m) ballots)
 
 -- 01: "If there are any and result is 0, result becomes the least": the least, 0 where there are none
 unfoldable pub decision : Class → Crew → ℕ → List Ballot → ℕ

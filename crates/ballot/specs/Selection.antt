@@ -8,7 +8,7 @@ use lib.ListN.{length}
 use lib.Dec.{ltb, eqb}
 use Rattle.crew.specs.declared.Crew.{Crew}
 use Rattle.crew.specs.Thresholds.{Class, one, two, three, E, anyAbove}
-use Rattle.ballot.specs.Count.{count}
+use Rattle.ballot.specs.Count.{countIf}
 use Rattle.ballot.specs.Ballot.{Ballot, votes, stamped, lists}
 use Rattle.ballot.specs.Least.{least, leastOf}
 
@@ -18,17 +18,17 @@ supports m k = votes (m .vote) k || ltb (k .stamp) (m .stamp)
 
 -- 01: "a slot is possible if more than E slots have its vote or a stamp below its own"
 unfoldable pub possible : Crew → List Ballot → Ballot → Bool
-possible crew ballots m = ltb (E crew) (count (supports m) ballots)
+possible crew ballots m = ltb (E crew) (countIf (supports m) ballots)
 
 -- The ballot's vote is backed; in class 3 it is backed through this ballot's stamp.
 -- 01, class 1: "backed are the plans voted by more than E slots"
 -- 01, class 2: "backed are votes of more than b possible slots"
 -- 01, class 3: "backed is the vote v of a possible slot with stamp t where more than b slots list v at phase t"
 unfoldable pub backed : Class → Crew → List Ballot → Ballot → Bool
-backed one crew ballots m = ltb (E crew) (count (votes (m .vote)) ballots)
-backed two crew ballots m = ltb (crew .b) (count (λ k. possible crew ballots k && votes (m .vote) k) ballots)
+backed one crew ballots m = ltb (E crew) (countIf (votes (m .vote)) ballots)
+backed two crew ballots m = ltb (crew .b) (countIf (λ k. possible crew ballots k && votes (m .vote) k) ballots)
 backed three crew ballots m =
-    possible crew ballots m && ltb (crew .b) (count (lists (m .vote) (m .stamp)) ballots)
+    possible crew ballots m && ltb (crew .b) (countIf (lists (m .vote) (m .stamp)) ballots)
 
 -- how many plans are backed: none, exactly one, or more
 pub data Backing : Type 0 where
@@ -39,7 +39,7 @@ pub data Backing : Type 0 where
 -- a plan backed through several ballots counts once: the least one, and whether there is another
 abbrev pub besides : (Ballot → Bool) → List Ballot → Option ℕ → Backing
 besides p ballots none = nobody
-besides p ballots (some v) = cond (eqb (count (λ m. p m && not (votes v m)) ballots) 0) (sole v) several
+besides p ballots (some v) = cond (eqb (countIf (λ m. p m && not (votes v m)) ballots) 0) (sole v) several
 
 -- the votes of the ballots that pass a test
 unfoldable pub backing : (Ballot → Bool) → List Ballot → Backing
@@ -55,7 +55,7 @@ pub data Choice : Type 0 where
 unfoldable pub enough : Class → Crew → List Ballot → Bool
 enough one crew ballots = ltb (anyAbove one crew) (length ballots)
 enough two crew ballots = ltb (anyAbove two crew) (length ballots)
-enough three crew ballots = ltb (anyAbove three crew) (count (stamped 0) ballots)
+enough three crew ballots = ltb (anyAbove three crew) (countIf (stamped 0) ballots)
 
 -- 01: "'any' if .., else 'none'"
 abbrev pub anyIf : Bool → Choice
@@ -78,7 +78,7 @@ selection class crew ballots = answer class (backing (backed class crew ballots)
 -- no vote has more slots than v
 unfoldable pub leading : List Ballot → ℕ → Bool
 leading ballots v =
-    eqb (count (λ k. ltb (count (votes v) ballots) (count (votes (k .vote)) ballots)) ballots) 0
+    eqb (countIf (λ k. ltb (countIf (votes v) ballots) (countIf (votes (k .vote)) ballots)) ballots) 0
 
 -- the vote of most slots, the least plan on a tie
 unfoldable pub mostVoted : List Ballot → ℕ

@@ -5,7 +5,7 @@ use Prim.Native.Nat.{ℕ, _*_}
 use lib.Dec.{ltb}
 use Rattle.crew.specs.declared.Crew.{Crew}
 use Rattle.crew.specs.Thresholds.{validAbove}
-use Rattle.ballot.specs.Count.{count}
+use Rattle.ballot.specs.Count.{countIf}
 use Rattle.ballot.specs.Ballot.{Ballot, votes}
 use Rattle.ballot.specs.Least.{leastOf}
 
@@ -16,7 +16,7 @@ validates crew phase q = true
 
 -- 01: "If a plan stands in c slots with 2c > n + b"
 unfoldable pub valid : Crew → List Ballot → ℕ → Bool
-valid crew ballots v = ltb (validAbove crew) (2 * count (votes v) ballots)
+valid crew ballots v = ltb (validAbove crew) (2 * countIf (votes v) ballots)
 
 -- the plan that is validated, 0 where none is; in n slots no two plans are valid
 unfoldable pub validated : Crew → List Ballot → ℕ

@@ -4,7 +4,7 @@ use mathlib.Core.Bool.{cond}
 use lib.Dec.{eqb}
 use Rattle.crew.specs.declared.Crew.{Crew}
 
--- the algorithm's three classes
+-- The algorithm's three classes. Only accepted crews come to the rules, so a class is 1, 2 or 3 there.
 pub data Class : Type 0 where
   one two three : Class
 
@@ -16,7 +16,8 @@ abbrev pub E : Crew → ℕ
 E crew = crew .n - crew .d + crew .b
 
 -- 'any' asks for more slots than this.
--- 01: class 1 "'any' if more than 2E slots count", class 2 "if more than E + b slots count", class 3 "if more than E slots have stamp 0"
+-- 01: class 1 "'any' if more than 2E slots count", class 2 "if more than E + b slots count", class 3 "if more than E
+-- slots have stamp 0"
 abbrev pub anyAbove : Class → Crew → ℕ
 anyAbove one crew = 2 * E crew
 anyAbove two crew = E crew + crew .b

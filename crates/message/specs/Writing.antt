@@ -1,6 +1,6 @@
 -- What writing the fields of a message answers, and what it leaves in the lent buffer.
--- 01: "9 buffer shorter than the message"; "no lent byte is written"; "Bytes after a written message keep their values."
--- Fields that break a bound are refused first, with the number that reading them would get, 13.
+-- 01: "9 buffer shorter than the message"; "no lent byte is written"; "Bytes after a written message keep their
+-- values." Fields that break a bound are refused first, with 13.
 use Prim.Native.Nat.{ℕ, zero, suc, _+_}
 use mathlib.Core.Bool.{cond}
 use mathlib.Core.List.{List, [], _∷_, _++_}
@@ -23,7 +23,8 @@ writeOf m buffer =
     (require (leb (sizeOf (m .body)) (length buffer)) 9
     (accepted (sizeOf (m .body))))
 
--- the whole buffer afterwards: the message at its front and the bytes after it as they were; as it was where writing refuses
+-- The whole buffer afterwards: the message at its front and the bytes after it as they were; as it was where writing
+-- refuses.
 abbrev pub bufferAfter : Message → List ℕ → Outcome ℕ → List ℕ
 bufferAfter m buffer (accepted size) = encode m ++ drop size buffer
 bufferAfter m buffer (refused number) = buffer
@@ -52,7 +53,7 @@ abbrev pub selectionOf : ℕ → ℕ → ℕ → ℕ → List ℕ → ℕ → Me
 selectionOf run phase vote stamp history phases =
     record { run = run; phase = phase; body = selection vote stamp (listed history 0 phases) }
 
--- entries stand below the message's phase, so no more phases than that are looked at
+-- Entries stand below the message's phase: to look at more phases than that is refused with 13, whatever stands there.
 abbrev pub writeSelectionOf : ℕ → ℕ → ℕ → ℕ → List ℕ → ℕ → List ℕ → Outcome ℕ
 writeSelectionOf run phase vote stamp history phases buffer =
     require (leb phases phase) 13 (writeOf (selectionOf run phase vote stamp history phases) buffer)

@@ -43,7 +43,7 @@ ghost use Rattle.message.specs.Writing.{
 };
 
 // The layout. 01: "Header of 9 bytes: length (2, counting every byte of the message), kind (2), run (4), phase (1)."
-pub const HEADER: usize = 9;
+const HEADER: usize = 9;
 
 const LENGTH_AT: usize = 0;
 
@@ -76,8 +76,8 @@ const DECISION_LENGTH: u16 = 12;
 
 const SELECTION_LENGTH: u16 = 13;
 
-// The last phase of a run, and so the most entries of a history.
-pub const LAST_PHASE: u8 = 63;
+// The last phase of a run. A message lists entries of earlier phases only, so no more of them than this.
+const LAST_PHASE: u8 = 63;
 
 // Why reading refuses; `number` in specs/Reading.antt has 01's numbers.
 pub enum Refusal {
@@ -323,7 +323,7 @@ pub fn read(s: &[u8]) -> Reading
 }
 
 // The bytes of a selection's entries where reading it has told how many there are, as a part of the slice: nothing is
-// read again. Its place is free where it is empty, as it is where the slice is too short for so many.
+// read again. Empty where the slice is too short for so many. Its contents are promised, not its place.
 pub fn entries_counted(s: &[u8], count: u8) -> &[u8]
     ensures { λ r. ⌜ now r ≡ entriesCounted (now (s .entry)) count ⌝ }
 {
@@ -335,7 +335,7 @@ pub fn entries_counted(s: &[u8], count: u8) -> &[u8]
     }
 }
 
-// The bytes of the entries that reading finds, as a part of the slice. Its place is free where it is empty.
+// The bytes of the entries that reading finds, as a part of the slice. Its contents are promised, not its place.
 pub fn entries(s: &[u8]) -> &[u8]
     ensures { λ r. ⌜ now r ≡ entriesPartOf (now (s .entry)) (readOf (now (s .entry))) ⌝ }
 {
@@ -491,7 +491,7 @@ fn put_entries(buf: &mut [u8], history: [u16; 64], phases: u8)
 }
 
 // Writes a selection with the non-empty entries among the first `phases` of a history, where 0 is an empty entry.
-// Fields that break a bound are refused, and more phases than come before the message's; then a buffer that is too short.
+// Fields that break a bound are refused, and more phases than the message's own; then a buffer that is too short.
 pub fn write_selection(
     buf: &mut [u8],
     run: u32,

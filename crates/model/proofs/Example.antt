@@ -9,7 +9,7 @@ use Prim.Native.Nat.{ℕ, zero, suc, _<_}
 use native.Mathlib.Omega.{arith}
 use lib.Dec.{T, ltb}
 use Rattle.crew.specs.Acceptance.{acceptOf}
-use Rattle.ballot.specs.Count.{tally, count, gather}
+use Rattle.ballot.specs.Count.{tally, countIf, gather}
 use Rattle.ballot.specs.Ballot.{Ballot, lists}
 use Rattle.ballot.specs.Least.{least, leastOf}
 use Rattle.ballot.specs.Selection.{possible, backed, backing, enough, selection}
@@ -40,12 +40,12 @@ abbrev resultsAfter : ℕ → List ℕ
 resultsAfter j = map (λ q. state drill j .node q .result) (0 ∷ 1 ∷ 2 ∷ [])
 
 drill-results : map resultsAfter (1 ∷ 2 ∷ 3 ∷ []) ≡ (0 ∷ 0 ∷ 0 ∷ []) ∷ (0 ∷ 0 ∷ 0 ∷ []) ∷ (5 ∷ 5 ∷ 5 ∷ []) ∷ []
-unfolding state count gather lists least leastOf possible backed backing enough selection leading mostVoted anyPlan
+unfolding state countIf gather lists least leastOf possible backed backing enough selection leading mostVoted anyPlan
     taken valid validated decides decision entriesBelow
 drill-results = refl
 
 says-speech : (j q : ℕ) → j < 3 → saying (class drill) (drill .crew) (state drill j) q ≡ some (speech j)
-unfolding state count gather lists least leastOf possible backed backing enough selection leading mostVoted anyPlan
+unfolding state countIf gather lists least leastOf possible backed backing enough selection leading mostVoted anyPlan
     taken valid validated entriesBelow
 says-speech zero q l = refl
 says-speech (suc zero) q l = refl
@@ -73,6 +73,6 @@ drill-admissible = record {
 }
 
 drill-decides : DecidesAt drill 2 0 5
-unfolding state count gather lists least leastOf possible backed backing enough selection leading mostVoted anyPlan
+unfolding state countIf gather lists least leastOf possible backed backing enough selection leading mostVoted anyPlan
     taken valid validated decides
 drill-decides = ((omega arith, omega arith), (refl, tt))

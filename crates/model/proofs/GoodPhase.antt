@@ -12,7 +12,7 @@ use lib.Dec.{T, eqb, lt→ltb}
 use Rattle.wire.proofs.Tests.{tests}
 use Rattle.crew.specs.declared.Crew.{Crew}
 use Rattle.crew.specs.Thresholds.{Class, one, two, three, anyAbove, validAbove}
-use Rattle.ballot.specs.Count.{tally, count, holds}
+use Rattle.ballot.specs.Count.{tally, countIf, holds}
 use Rattle.ballot.specs.Ballot.{Ballot, inbox, votes, lists}
 use Rattle.ballot.specs.Selection.{selection, taken}
 use Rattle.ballot.specs.Validation.{validated}
@@ -39,7 +39,7 @@ Hears class crew circle i s = Each crew circle λ p. Each crew circle λ q. i p 
 -- all of the circle have the same counting messages, and in none of them is the plan 0
 pub record Alike (crew : Crew) (circle : ℕ → Bool) (i : Inboxes) : Type 0 where
   pub same : Each crew circle λ p. Each crew circle λ q. Same (inbox crew (i p)) (inbox crew (i q))
-  pub plans : Each crew circle (λ p. count (votes 0) (inbox crew (i p)) ≡ 0)
+  pub plans : Each crew circle (λ p. countIf (votes 0) (inbox crew (i p)) ≡ 0)
 
 -- the circle decides one plan with these inboxes
 abbrev pub CircleDecides : Class → Crew → (ℕ → Bool) → ℕ → Inboxes → Type 0
@@ -173,7 +173,7 @@ module _ (crew : Crew) (circle : ℕ → Bool) (wide : crew .n ≤ tally circle 
 
     -- those who let the stamp be validated are more than 2b + f, and at most b + f of them are outside the circle
     stamp-listed : Each crew circle λ q.
-        0 < nodes q .stamp → crew .b < count (lists (nodes q .vote) (nodes q .stamp)) (inbox crew (i p))
+        0 < nodes q .stamp → crew .b < countIf (lists (nodes q .vote) (nodes q .stamp)) (inbox crew (i p))
     unfolding spoken lists
     stamp-listed q lq kq pos =
         let hq = inside q lq kq in

@@ -15,7 +15,7 @@ use borrow.Author.Tests.{eqb-true, eqb-false}
 use Rattle.wire.proofs.Tests.{tests}
 use Rattle.wire.specs.Entry.{Entry}
 use Rattle.crew.specs.Thresholds.{Class, one, two, three}
-use Rattle.ballot.specs.Count.{count}
+use Rattle.ballot.specs.Count.{countIf}
 use Rattle.ballot.specs.Ballot.{Ballot, isEntry, lists}
 use Rattle.ballot.proofs.Tests.{and-T, T-and}
 use Rattle.ballot.proofs.Counting.{bit-T, bit-pos, count-append}
@@ -98,12 +98,12 @@ module _ (history : List ℕ) (phase v : ℕ) where
 
 -- A ballot lists what its node's history holds, and nothing else.
 
-entry-lists : (j v phase w : ℕ) → 0 < count (isEntry phase w) (entryOf j v) → (j ≡ phase) × (v ≡ w) × (v ≢ 0)
-unfolding count
+entry-lists : (j v phase w : ℕ) → 0 < countIf (isEntry phase w) (entryOf j v) → (j ≡ phase) × (v ≡ w) × (v ≢ 0)
+unfolding countIf
 entry-lists j v phase w h = elim (ifPlan-is v (it ∷ []) []) [
-  | inl z ↦ absurd (omega (arith, ap (count (isEntry phase w)) (z .1)))
+  | inl z ↦ absurd (omega (arith, ap (countIf (isEntry phase w)) (z .1)))
   | inr z ↦
-      let one = ap (count (isEntry phase w)) (z .1) in
+      let one = ap (countIf (isEntry phase w)) (z .1) in
       let d = and-T (eqb j phase) (eqb v w) (bit-pos (isEntry phase w it) (omega arith)) in
       (eqb→eq j phase (d .0), eqb→eq v w (d .1), z .0)
 ]
@@ -111,17 +111,17 @@ entry-lists j v phase w h = elim (ifPlan-is v (it ∷ []) []) [
     it : Entry
     it = record { phase = j; plan = v }
 
-below-lists : (history : List ℕ) (j phase w : ℕ) → 0 < count (isEntry phase w) (entriesBelow history j)
+below-lists : (history : List ℕ) (j phase w : ℕ) → 0 < countIf (isEntry phase w) (entriesBelow history j)
     → (getD history phase 0 ≡ w) × (w ≢ 0)
-unfolding entriesBelow count
+unfolding entriesBelow countIf
 below-lists history zero phase w h = absurd (omega arith)
-below-lists history (suc j) phase w h = go (decLt 0 (count (isEntry phase w) last)) (below-lists history j phase w)
+below-lists history (suc j) phase w h = go (decLt 0 (countIf (isEntry phase w) last)) (below-lists history j phase w)
   where
     last : List Entry
     last = entryOf j (getD history j 0)
 
-    go : Dec (0 < count (isEntry phase w) last)
-        → (0 < count (isEntry phase w) (entriesBelow history j) → (getD history phase 0 ≡ w) × (w ≢ 0))
+    go : Dec (0 < countIf (isEntry phase w) last)
+        → (0 < countIf (isEntry phase w) (entriesBelow history j) → (getD history phase 0 ≡ w) × (w ≢ 0))
         → (getD history phase 0 ≡ w) × (w ≢ 0)
     go (yes y) rec =
         let e = entry-lists j (getD history j 0) phase w y in
@@ -131,26 +131,26 @@ below-lists history (suc j) phase w h = go (decLt 0 (count (isEntry phase w) las
 pub said-lists : (class : Class) (history : List ℕ) (phase w x v t : ℕ)
     → T (lists w x (record { vote = v; stamp = t; entries = entriesSaid class history phase }))
     → (getD history x 0 ≡ w) × (w ≢ 0)
-unfolding lists count
+unfolding lists countIf
 said-lists one history phase w x v t h = absurd h
 said-lists two history phase w x v t h = absurd h
 said-lists three history phase w x v t h = below-lists history phase x w (ltb→lt 0 _ h)
 
 pub lists-below : (history : List ℕ) (j phase v : ℕ) → phase < j → getD history phase 0 ≡ v → v ≢ 0
-    → 0 < count (isEntry phase v) (entriesBelow history j)
-unfolding entriesBelow count
+    → 0 < countIf (isEntry phase v) (entriesBelow history j)
+unfolding entriesBelow countIf
 lists-below history zero phase v l e d = absurd (omega arith)
 lists-below history (suc j) phase v l e d = go (ℕ-discrete phase j) (λ h. lists-below history j phase v h e d)
   where
     it : ℕ → Entry
     it x = record { phase = j; plan = x }
 
-    sum : count (isEntry phase v) (entriesBelow history j ++ entryOf j (getD history j 0))
-        ≡ count (isEntry phase v) (entriesBelow history j) + count (isEntry phase v) (entryOf j (getD history j 0))
+    sum : countIf (isEntry phase v) (entriesBelow history j ++ entryOf j (getD history j 0))
+        ≡ countIf (isEntry phase v) (entriesBelow history j) + countIf (isEntry phase v) (entryOf j (getD history j 0))
     sum = count-append (isEntry phase v) (entriesBelow history j) (entryOf j (getD history j 0))
 
-    go : Dec (phase ≡ j) → (phase < j → 0 < count (isEntry phase v) (entriesBelow history j))
-        → 0 < count (isEntry phase v) (entriesBelow history j ++ entryOf j (getD history j 0))
+    go : Dec (phase ≡ j) → (phase < j → 0 < countIf (isEntry phase v) (entriesBelow history j))
+        → 0 < countIf (isEntry phase v) (entriesBelow history j ++ entryOf j (getD history j 0))
     go (no y) rec = omega (arith, sum, rec (omega arith))
     go (yes y) rec =
         let same : getD history j 0 ≡ v = ap (λ x. getD history x 0) (sym y) ∙ e in
@@ -159,7 +159,7 @@ lists-below history (suc j) phase v l e d = go (ℕ-discrete phase j) (λ h. lis
           | inr z ↦ omega (
             arith,
             sum,
-            ap (count (isEntry phase v)) (z .1),
+            ap (countIf (isEntry phase v)) (z .1),
             bit-T (isEntry phase v (it (getD history j 0)))
                 (T-and (eqb j phase) (eqb (getD history j 0) v) (omega tests) (omega tests)),
           )

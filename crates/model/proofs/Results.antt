@@ -7,7 +7,7 @@ use native.Mathlib.Omega.{arith}
 use native.Mathlib.Decide.{ℕ-discrete}
 use lib.Dec.{T, eqb→eq}
 use Rattle.crew.proofs.Facts.{accepts, quorum-positive}
-use Rattle.ballot.specs.Count.{count}
+use Rattle.ballot.specs.Count.{countIf}
 use Rattle.ballot.specs.Ballot.{Ballot, inbox, votes}
 use Rattle.ballot.specs.Decision.{decision}
 use Rattle.ballot.proofs.Slots.{no-slot-counts}
@@ -24,7 +24,7 @@ module _ (run : Run) (ok : Admissible run) (p : ℕ) (lp : p < run .crew .n) (hp
   quorum : 0 < run .crew .d
   quorum = quorum-positive (accepts (run .crew) (ok .crew-accepted))
 
-  pub no-zero-votes : (j : ℕ) → Held run j → count (votes 0) (inbox (run .crew) (run .rounds j p)) ≡ 0
+  pub no-zero-votes : (j : ℕ) → Held run j → countIf (votes 0) (inbox (run .crew) (run .rounds j p)) ≡ 0
   no-zero-votes j h = no-slot-counts (run .crew) (run .rounds j p) (votes 0) λ q lq m e t.
       ok .plans j h p lp hp q lq m e (eqb→eq (m .vote) 0 t)
 
@@ -32,7 +32,7 @@ module _ (run : Run) (ok : Admissible run) (p : ℕ) (lp : p < run .crew .n) (hp
   pub decided-plan : (j v : ℕ) → DecidesAt run j p v → v ≢ 0
   decided-plan j v d e =
       let voted = decides-voted (class run) (run .crew) (state run j .phase) (ballots j) quorum v (d .1 .1) in
-      omega (arith, no-zero-votes j (d .0), ap (λ x. count (votes x) (ballots j)) e)
+      omega (arith, no-zero-votes j (d .0), ap (λ x. countIf (votes x) (ballots j)) e)
 
   -- the plan decided in the first j rounds, or 0
   abbrev Result : ℕ → ℕ → Type 0

@@ -1,5 +1,6 @@
 -- A node as the rules see it: its record, what it says in a round, and what taking a round does to it.
 -- Document 01, 'Crew and node' and 'The three rounds'; source document 000, Algorithm 4.
+-- The engine's own records and turns (crates node and rounds) are proved to be these in crate agreement, proofs/Record.
 use mathlib.Core.Bool.{cond}
 use mathlib.Core.List.{List, [], _∷_, _++_}
 use mathlib.Core.Option.{Option, none, some}

@@ -10,7 +10,7 @@ use Rattle.wire.specs.Outcome.{accepted}
 use Rattle.crew.specs.declared.Crew.{Crew}
 use Rattle.crew.specs.Acceptance.{acceptOf}
 use Rattle.crew.specs.Thresholds.{Class, one, two, three, classOf}
-use Rattle.ballot.specs.Count.{tally, count}
+use Rattle.ballot.specs.Count.{tally, countIf}
 use Rattle.ballot.specs.Ballot.{Ballot, inbox, sameBallot}
 use Rattle.ballot.specs.Validation.{validated}
 use Rattle.ballot.specs.Decision.{decides}
@@ -149,8 +149,8 @@ pub record Good (run : Run) (phase : ℕ) (circle : ℕ → Bool) : Type 0 where
   -- 01: "In round 1 all of them have the same counting messages, each in as many slots of one inbox as of another"
   pub equal : (j : ℕ) → state run j .phase ≡ phase → state run j .round ≡ selecting
       → Each (run .crew) circle λ p. Each (run .crew) circle λ q. (m : Ballot)
-      → count (sameBallot m) (inbox (run .crew) (run .rounds j p))
-      ≡ count (sameBallot m) (inbox (run .crew) (run .rounds j q))
+      → countIf (sameBallot m) (inbox (run .crew) (run .rounds j p))
+      ≡ countIf (sameBallot m) (inbox (run .crew) (run .rounds j q))
   -- 01: "every circle node's slot counts in each. In rounds 2 and 3 the slot of every circle node that is not silent
   -- counts in every circle node's inbox." In round 1 nobody is silent
   pub counts : (j : ℕ) → state run j .phase ≡ phase → Each (run .crew) circle λ p. Each (run .crew) circle λ q.

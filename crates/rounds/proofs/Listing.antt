@@ -14,7 +14,7 @@ use borrow.Author.Tests.{leb-true, leb-false, ltb-true, eqb-true, le-leb, lt-ltb
 use Rattle.wire.specs.Entry.{Entry}
 use Rattle.wire.proofs.Tests.{both-true}
 use Rattle.message.specs.Writing.{entryOf, listed}
-use Rattle.ballot.specs.Count.{bit, count}
+use Rattle.ballot.specs.Count.{bit, countIf}
 use Rattle.ballot.specs.Ballot.{isEntry, lists}
 use Rattle.ballot.proofs.Counting.{count-append}
 use Rattle.rounds.specs.Columns.{Columns, rowOf}
@@ -38,14 +38,14 @@ outside from n t b none = go (leb from t) (ltb t (from + n)) refl refl
     go false high e h = refl
 
 entry-other : (from t v x : ℕ) (full : Bool) → from ≢ t
-    → count (isEntry t v) (cond full (record { phase = from; plan = x } ∷ []) []) ≡ 0
-unfolding count
+    → countIf (isEntry t v) (cond full (record { phase = from; plan = x } ∷ []) []) ≡ 0
+unfolding countIf
 entry-other from t v x true other = rw (ne-eqb from t other)
 entry-other from t v x false other = refl
 
 entry-here : (t v x : ℕ) (full : Bool) → leb 1 x ≡ full
-    → count (isEntry t v) (cond full (record { phase = t; plan = x } ∷ []) []) ≡ bit (leb 1 v && eqb x v)
-unfolding count
+    → countIf (isEntry t v) (cond full (record { phase = t; plan = x } ∷ []) []) ≡ bit (leb 1 v && eqb x v)
+unfolding countIf
 entry-here t v x full e = go (eqb x v) refl full e
   where
     flip : (b : Bool) → bit (b && false) ≡ 0
@@ -53,7 +53,7 @@ entry-here t v x full e = go (eqb x v) refl full e
     flip false = refl
 
     go : (same : Bool) → eqb x v ≡ same → (full : Bool) → leb 1 x ≡ full
-        → count (isEntry t v) (cond full (record { phase = t; plan = x } ∷ []) []) ≡ bit (leb 1 v && same)
+        → countIf (isEntry t v) (cond full (record { phase = t; plan = x } ∷ []) []) ≡ bit (leb 1 v && same)
     go true is true e = rw (eq-eqb t t refl, is, ← eqb-true x v is, e)
     go true is false e = rw (← eqb-true x v is, e)
     go false is true e = rw (eq-eqb t t refl, is) (sym (flip (leb 1 v)))
@@ -66,15 +66,15 @@ leb-step from t other = go (leb from t) refl
     go true e = le-leb (from + 1) t (omega (arith, leb-true from t e, other))
     go false e = lt-leb (from + 1) t (omega (arith, leb-false from t e))
 
-listed-counts : (h : List ℕ) (from n t v : ℕ) → count (isEntry t v) (listed h from n) ≡ bit (within h from n t v)
-unfolding listed count
+listed-counts : (h : List ℕ) (from n t v : ℕ) → countIf (isEntry t v) (listed h from n) ≡ bit (within h from n t v)
+unfolding listed countIf
 listed-counts h from zero t v = sym (outside from zero t (stands h t v) (λ a b. omega arith))
 listed-counts h from (suc n) t v =
     count-append (isEntry t v) (entryOf from (getD h from 0)) (listed h (from + 1) n)
-    ∙ ap (λ k. count (isEntry t v) (entryOf from (getD h from 0)) + k) (listed-counts h (from + 1) n t v)
+    ∙ ap (λ k. countIf (isEntry t v) (entryOf from (getD h from 0)) + k) (listed-counts h (from + 1) n t v)
     ∙ by-equality from t here other
   where
-    here : from ≡ t → count (isEntry t v) (entryOf from (getD h from 0)) + bit (within h (from + 1) n t v)
+    here : from ≡ t → countIf (isEntry t v) (entryOf from (getD h from 0)) + bit (within h (from + 1) n t v)
         ≡ bit (within h from (suc n) t v)
     here e =
         let low : leb from t ≡ true = le-leb from t (omega arith) in
@@ -83,7 +83,7 @@ listed-counts h from (suc n) t v =
         let head = entry-here t v (getD h t 0) (leb 1 (getD h t 0)) refl in
         rw (tail, low, high, e) (omega (arith, head))
 
-    other : from ≢ t → count (isEntry t v) (entryOf from (getD h from 0)) + bit (within h (from + 1) n t v)
+    other : from ≢ t → countIf (isEntry t v) (entryOf from (getD h from 0)) + bit (within h (from + 1) n t v)
         ≡ bit (within h from (suc n) t v)
     other e =
         let head = entry-other from t v (getD h from 0) (leb 1 (getD h from 0)) e in

@@ -9,7 +9,7 @@ use native.Mathlib.Omega.{arith}
 use lib.Dec.{leb, ltb, eqb}
 use lib.ListN.{length, getD}
 use borrow.Author.Tests.{le-ltb}
-use Rattle.ballot.specs.Count.{tally, count, gather, push, holds}
+use Rattle.ballot.specs.Count.{tally, countIf, gather, push, holds}
 use Rattle.ballot.specs.Ballot.{Ballot, votes, stamped}
 use Rattle.ballot.specs.Least.{lower, least}
 use Rattle.ballot.specs.Selection.{Backing, besides, backing}
@@ -41,7 +41,7 @@ module _ (read : Columns) where
   -- a count of ballots is a tally of slots
   pub count-polled : (n : ℕ) (p : Ballot → Bool) (test : ℕ → Bool)
       → ((q : ℕ) → q < n → (marked (read .present) q && p (rowOf read q)) ≡ test q)
-      → count p (polled read n) ≡ tally test n
+      → countIf p (polled read n) ≡ tally test n
   count-polled n p test same =
       count-gather p (slotOf read) n ∙ tally-same (onSlot p) test n (λ q less. on-slot p q ∙ same q less)
 
@@ -55,19 +55,19 @@ module _ (read : Columns) where
 
   -- votes and stamps among the slots that are present
   pub supports-polled : (n vote below : ℕ)
-      → count (λ k. votes vote k || ltb (k .stamp) below) (polled read n)
+      → countIf (λ k. votes vote k || ltb (k .stamp) below) (polled read n)
       ≡ tally (supporting (read .present) (read .votes) (read .stamps) vote below) n
   supports-polled n vote below = count-polled n (λ k. votes vote k || ltb (k .stamp) below) _ (λ q less. refl)
 
   pub votes-polled : (n vote : ℕ)
-      → count (votes vote) (polled read n) ≡ tally (supporting (read .present) (read .votes) (read .stamps) vote 0) n
+      → countIf (votes vote) (polled read n) ≡ tally (supporting (read .present) (read .votes) (read .stamps) vote 0) n
   votes-polled n vote =
       count-polled n (votes vote) _
       (λ q less. ap (λ b. marked (read .present) q && b) (sym (never (votes vote (rowOf read q)) (getD (read .stamps) q 0))))
 
   -- votes among the slots that pass a test, which marks single out
   pub marked-polled : (n vote : ℕ) (p : Ballot → Bool) (marks : List Bool) → Marks marks n (onSlot p)
-      → count (λ k. p k && votes vote k) (polled read n) ≡ tally (supporting marks (read .votes) (read .stamps) vote 0) n
+      → countIf (λ k. p k && votes vote k) (polled read n) ≡ tally (supporting marks (read .votes) (read .stamps) vote 0) n
   marked-polled n vote p marks are =
       count-polled n (λ k. p k && votes vote k) _
       (λ q less.
@@ -92,7 +92,7 @@ module _ (read : Columns) where
   unfolding backing
   backing-polled n p = ap (besides p (polled read n)) (least-polled n p) ∙ go (leastMarked (onSlot p) voteAt n)
     where
-      others : (v : ℕ) → count (λ m. p m && not (votes v m)) (polled read n)
+      others : (v : ℕ) → countIf (λ m. p m && not (votes v m)) (polled read n)
           ≡ tally (λ q. onSlot p q && not (eqb (voteAt q) v)) n
       others v =
           count-polled n (λ m. p m && not (votes v m)) _

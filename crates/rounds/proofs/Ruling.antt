@@ -23,7 +23,7 @@ use borrow.Author.Tests.{
 }
 use Rattle.crew.specs.declared.Crew.{Crew}
 use Rattle.crew.specs.Thresholds.{Class, one, two, three, E, anyAbove, validAbove}
-use Rattle.ballot.specs.Count.{bit, tally, count}
+use Rattle.ballot.specs.Count.{bit, tally, countIf}
 use Rattle.ballot.specs.Ballot.{Ballot, votes, stamped, lists}
 use Rattle.ballot.specs.Least.{least, leastOf, orZero}
 use Rattle.ballot.specs.Selection.{supports, possible, backed, enough, leading, mostVoted}
@@ -156,7 +156,7 @@ module _ (crew : Crew) (read : Columns) (n : ℕ) where
   pub counting : length ballots ≡ tally (marked (read .present)) n
   counting = length-polled read n
 
-  pub unstamped : count (stamped 0) ballots ≡ tally (stampedWith (read .present) (read .stamps) 0) n
+  pub unstamped : countIf (stamped 0) ballots ≡ tally (stampedWith (read .present) (read .stamps) 0) n
   unstamped = count-polled read n (stamped 0) _ (λ q less. refl)
 
   -- the least vote that passes a test of plans, where marks single out the slots with such votes
@@ -221,7 +221,7 @@ module _ (crew : Crew) (read : Columns) (n : ℕ) where
   leads : (v : ℕ) → leading ballots v ≡ leb most (votesFor v)
   unfolding leading
   leads v =
-      ap (λ k. eqb k 0) (count-polled read n (λ k. ltb (count (votes v) ballots) (count (votes (k .vote)) ballots))
+      ap (λ k. eqb k 0) (count-polled read n (λ k. ltb (countIf (votes v) ballots) (countIf (votes (k .vote)) ballots))
       (λ q. here q (ltb (votesFor v) (votesFor (voteAt read q))))
       (λ q less. ap₂ (λ a b. here q (ltb a b)) (votes-polled read n v) (votes-polled read n (voteAt read q))))
       ∙ highest-within (marked (read .present)) (λ q. votesFor (voteAt read q)) (votesFor v) n

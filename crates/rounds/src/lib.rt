@@ -95,9 +95,8 @@ pub struct Asked {
 const SLOT: usize = 202;
 // The columns have a place for each node of the largest crew.
 const SLOTS: usize = 32;
-// A history has a place for each phase 0 to 63.
-const PHASES: usize = 64;
 
+// The histories have a place for each slot and phase.
 const PLACES: usize = 2048;
 
 // What a slot says to a node: a ballot, of its history only how many entries it has, or nothing where it does not count.
@@ -119,7 +118,7 @@ fn hear(slot: &[u8], run: u32, phase: u8, round: u8) -> Said
             stamp,
             count,
         } => {
-            let counts = (its_run == run) & (1 == round) & (its_phase == phase);
+            let counts = (its_run == run) & (Node::SELECTION == round) & (its_phase == phase);
             if counts {
                 return Said::Ballot { vote, stamp, count };
             }
@@ -130,7 +129,7 @@ fn hear(slot: &[u8], run: u32, phase: u8, round: u8) -> Said
             phase: its_phase,
             plan,
         } => {
-            let counts = (its_run == run) & (2 == round) & (its_phase == phase);
+            let counts = (its_run == run) & (Node::VALIDATION == round) & (its_phase == phase);
             if counts {
                 return Said::Ballot {
                     vote: plan,
@@ -146,7 +145,7 @@ fn hear(slot: &[u8], run: u32, phase: u8, round: u8) -> Said
             vote,
             stamp,
         } => {
-            let counts = (its_run == run) & (3 == round) & (its_phase == phase);
+            let counts = (its_run == run) & (Node::DECISION == round) & (its_phase == phase);
             if counts {
                 return Said::Ballot {
                     vote,
@@ -201,7 +200,7 @@ fn read_slot(
     stamps[q] = stamp;
     lay_entries(
         histories,
-        PHASES * q,
+        Node::PHASES * q,
         message::entries_counted(slot, count),
         count as usize,
     );
@@ -291,8 +290,8 @@ fn lists(histories: &[u16; 2048], q: usize, phase: u8, plan: u16) -> bool
     requires { ⌜ q < 32 ⌝ }
     ensures { λ r. ⌜ r ≡ (ltb phase 64 && (leb 1 plan && eqb (getD (now (histories .entry)) (64 * q + phase) 0) plan)) ⌝ }
 {
-    if phase < 64 {
-        (1 <= plan) & (histories[PHASES * q + phase as usize] == plan)
+    if phase < Node::SPENT {
+        (1 <= plan) & (histories[Node::PHASES * q + phase as usize] == plan)
     } else {
         false
     }
@@ -712,7 +711,7 @@ fn after_selection(node: Node, plan: u16) -> Node
     let phase = node.phase as usize;
     next.round = round_after_selection(node.crew.class);
     next.select = plan;
-    if plan == 0 {
+    if plan == Node::NO_PLAN {
         return next;
     }
     next.vote = plan;
@@ -726,7 +725,7 @@ fn after_validation(node: Node, plan: u16) -> Node
 {
     let mut next = node;
     next.round = Node::DECISION;
-    if plan == 0 {
+    if plan == Node::NO_PLAN {
         next.vote = node.base;
         return next;
     }
@@ -744,7 +743,7 @@ fn after_decision(node: Node, plan: u16) -> Node
     let mut next = node;
     next.phase = node.phase + 1;
     next.round = Node::SELECTION;
-    if node.result == 0 {
+    if node.result == Node::NO_PLAN {
         next.result = plan;
         return next;
     }
