@@ -12,7 +12,7 @@ use lib.Dec.{T, leb, leb→le, le→leb, ltb→lt}
 use Rattle.wire.specs.Outcome.{accepted}
 use Rattle.crew.specs.declared.Crew.{Crew}
 use Rattle.crew.specs.Thresholds.{classOf}
-use Rattle.ballot.specs.Count.{tally, countIf, holds}
+use Rattle.ballot.specs.Count.{tally, holds}
 use Rattle.ballot.specs.Ballot.{inbox}
 use Rattle.ballot.specs.Decision.{decides}
 use Rattle.ballot.proofs.Counting.{count-gather}

@@ -37,7 +37,8 @@ any-leader crew ballots v more h =
 
     -- every slot of v beats a rival
     beaten : (w : ℕ) → w ≢ v
-        → countIf (votes v) ballots ≤ countIf (λ k. ltb (countIf (votes w) ballots) (countIf (votes (k .vote)) ballots)) ballots
+        → countIf (votes v) ballots ≤ countIf
+        (λ k. ltb (countIf (votes w) ballots) (countIf (votes (k .vote)) ballots)) ballots
     beaten w e = count-le (votes v) _ ballots λ k x.
         omega (tests, h w e, ap (λ y. countIf (votes y) ballots) (eqb→eq (k .vote) v x))
 

@@ -1,17 +1,16 @@
 -- What is read is, byte for byte, what its fields are written as, and keeps the bounds: law 2 of the codec.
 -- Assumes nothing.
 use mathlib.Core.Path.{_≡_, refl, sym, ap, _∙_, subst}
-use mathlib.Core.Bool.{Bool, true, _&&_}
-use mathlib.Core.List.{List, [], _∷_, _++_, append-assoc}
+use mathlib.Core.Bool.{true, _&&_}
+use mathlib.Core.List.{List, _∷_, _++_}
 use mathlib.Core.Logic.{_⊎_, inl, inr}
-use Prim.Native.Nat.{ℕ, zero, suc, _+_, _*_, _^_, _≤_, _<_}
+use Prim.Native.Nat.{ℕ, zero, suc, _+_, _*_, _≤_}
 use native.Mathlib.Omega.{arith}
-use lib.Dec.{leb, eqb}
+use lib.Dec.{leb}
 use lib.ListN.{length, getD, drop, length-drop}
 use lib.Seq.{drop-cons, drop-drop, getD-drop}
 use borrow.Author.Tests.{leb-true}
 use Rattle.wire.specs.Outcome.{accepted}
-use Rattle.wire.specs.Entry.{Entry}
 use Rattle.wire.specs.Bytes.{numberAt, bytesOf, AreBytes}
 use Rattle.wire.proofs.Tests.{both-true}
 use Rattle.wire.proofs.Numbers.{bytes-of-number, number-small}
@@ -32,7 +31,7 @@ use Rattle.message.specs.Reading.{
   readOf,
 }
 use Rattle.message.proofs.EntryLaws.{entries-count}
-use Rattle.message.proofs.ReadLaws.{Passes, read-passes, framed-long}
+use Rattle.message.proofs.ReadLaws.{read-passes, framed-long}
 
 module _ (s : List ℕ) (bytes : AreBytes s) where
   -- the header's bytes are those of its fields

@@ -1,4 +1,5 @@
--- The encoding is unique: two messages never share one, and all slices that are read to a message begin with the same bytes.
+-- The encoding is unique: two messages never share one, and all slices that are read to a message begin with the
+-- same bytes.
 -- 01: "Fields within the bounds have one encoding, this layout; demand 2's written form of a read message is it."
 -- Assumes nothing.
 use mathlib.Core.Path.{_≡_, sym, ap, _∙_}
@@ -32,6 +33,7 @@ front s m bytes e =
     ∙ take-at (encode m) _ _ (encode-length m)
 
 -- one message has one encoding
-pub one-encoding : (m : Message) (s t : List ℕ) → AreBytes s → AreBytes t → readOf s ≡ accepted m → readOf t ≡ accepted m
+pub one-encoding : (m : Message) (s t : List ℕ) → AreBytes s → AreBytes t → readOf s ≡ accepted m → readOf t
+    ≡ accepted m
     → take (sizeOf (m .body)) s ≡ take (sizeOf (m .body)) t
 one-encoding m s t s-bytes t-bytes s-read t-read = front s m s-bytes s-read ∙ sym (front t m t-bytes t-read)

@@ -13,7 +13,8 @@ record Example : Type 0 where
   outcome : Outcome (Unit {0})
 
 abbrev example : ℕ → ℕ → ℕ → ℕ → ℕ → Outcome (Unit {0}) → Example
-example class n b f d outcome = record { crew = record { class = class; n = n; b = b; f = f; d = d }; outcome = outcome }
+example class n b f d outcome = record
+    { crew = record { class = class; n = n; b = b; f = f; d = d }; outcome = outcome }
 
 abbrev board : List Example
 board =

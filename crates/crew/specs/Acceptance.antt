@@ -1,6 +1,6 @@
 -- When a crew is accepted: document 01, 'Crew and node' and 'What each operation turns down'.
 use Prim.Native.Nat.{ℕ, _+_, _*_}
-use mathlib.Core.Bool.{Bool, true, false, cond, _&&_}
+use mathlib.Core.Bool.{Bool, cond, _&&_}
 use lib.Dec.{leb, ltb, eqb}
 use Rattle.wire.specs.Outcome.{Outcome, accepted, refused, require}
 use Rattle.crew.specs.declared.Crew.{Crew}

@@ -36,7 +36,8 @@ entries-take (suc k) (suc (suc (suc n))) [] room long = absurd (omega arith)
 entries-take (suc k) (suc (suc (suc n))) (a ∷ []) room long = absurd (omega arith)
 entries-take (suc k) (suc (suc (suc n))) (a ∷ b ∷ []) room long = absurd (omega arith)
 entries-take (suc k) (suc (suc (suc n))) (a ∷ b ∷ c ∷ s) room long =
-    ap (λ es. record { phase = a; plan = numberAt 2 (a ∷ b ∷ c ∷ s) 1 } ∷ es) (entries-take k n s (omega arith) (omega arith))
+    ap (λ es. record { phase = a; plan = numberAt 2 (a ∷ b ∷ c ∷ s) 1 } ∷ es)
+    (entries-take k n s (omega arith) (omega arith))
 
 -- A turn of the loop: entry i has been read, `whole` is what all entries answer, and those from i on answer it too.
 module _ (count i least phase entry-phase : ℕ) (plan-ok : Bool) (s : List ℕ) (whole : Bool)

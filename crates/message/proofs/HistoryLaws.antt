@@ -1,4 +1,5 @@
--- The entries listed from a history: how many bytes they take, that they keep their bounds, and what the loops over them go by.
+-- The entries listed from a history: how many bytes they take, that they keep their bounds, and what the loops over
+-- them go by.
 -- Assumes nothing.
 use mathlib.Core.Path.{_≡_, refl, ap, sym, _∙_}
 use mathlib.Core.Bool.{Bool, true, false, cond}
@@ -9,7 +10,7 @@ use native.Mathlib.Omega.{arith}
 use lib.Dec.{leb}
 use lib.ListN.{length, getD, set, length-append}
 use lib.Seq.{sets}
-use borrow.Author.Tests.{le-leb, lt-ltb, leb-true}
+use borrow.Author.Tests.{le-leb, lt-ltb}
 use Rattle.wire.specs.Entry.{Entry}
 use Rattle.message.specs.Bounds.{entriesOk}
 use Rattle.message.specs.Encoding.{entryBytes}
@@ -48,7 +49,8 @@ listed-count history from (suc count) =
     )
 
 -- an entry in front of others that keep their bounds
-entry-ok : (from plan least phase : ℕ) (full : Bool) (others : List Entry) → leb 1 plan ≡ full → least ≤ from → from < phase
+entry-ok : (from plan least phase : ℕ) (full : Bool) (others : List Entry) → leb 1 plan ≡ full → least ≤ from
+    → from < phase
     → ((low : ℕ) → low ≤ from + 1 → entriesOk low phase others ≡ true)
     → entriesOk least phase (cond full (record { phase = from; plan = plan } ∷ []) [] ++ others) ≡ true
 unfolding entriesOk
@@ -62,12 +64,14 @@ pub listed-ok : (history : List ℕ) (from count least phase : ℕ) → least �
 unfolding entriesOk listed
 listed-ok history from zero least phase a b = refl
 listed-ok history from (suc count) least phase a b =
-    entry-ok from (getD history from 0) least phase (leb 1 (getD history from 0)) (listed history (from + 1) count) refl a
+    entry-ok from (getD history from 0) least phase (leb 1 (getD history from 0)) (listed history (from + 1) count)
+    refl a
     (omega arith) (λ low h. listed-ok history (from + 1) count low phase h (omega arith))
 
 -- A turn of a loop over the phases: phase j is done, those after it are left.
 module _ (history : List ℕ) (j phases : ℕ) (more : j < phases) where
-  pub listed-turn : listed history j (phases - j) ≡ entryOf j (getD history j 0) ++ listed history (j + 1) (phases - (j + 1))
+  pub listed-turn : listed history j (phases - j)
+      ≡ entryOf j (getD history j 0) ++ listed history (j + 1) (phases - (j + 1))
   unfolding listed
   listed-turn = let left : phases - j ≡ suc (phases - (j + 1)) = omega arith in ap (listed history j) left
 
@@ -90,7 +94,8 @@ sets-append (x ∷ xs) ys l i =
     sets-append xs ys (set l i x) (suc i)
     ∙ ap (λ (k : ℕ). sets (sets (set l i x) (suc i) xs) k ys) (suc-add i (length xs) ∙ sym (add-suc i (length xs)))
 
--- A turn of the loop that writes the entries: what is left still fits, and the stores that are left end in the same buffer.
+-- A turn of the loop that writes the entries: what is left still fits, and the stores that are left end in the same
+-- buffer.
 module _ (history : List ℕ) (j phases place : ℕ) (more : j < phases) where
   pub room-turn : (n : ℕ) → place + length (entryBytes (listed history j (phases - j))) ≤ n
       → place + length (entryBytes (entryOf j (getD history j 0)))

@@ -1,9 +1,9 @@
 -- What the writers' tests and stores amount to: the whole buffer is the message and the bytes after it, or untouched.
 -- Assumes nothing.
-use mathlib.Core.Path.{_≡_, refl, sym, ap, _∙_}
+use mathlib.Core.Path.{_≡_, refl}
 use mathlib.Core.Bool.{Bool, true, false, _&&_}
 use mathlib.Core.List.{List, _++_}
-use Prim.Native.Nat.{ℕ, _+_, _*_, _≤_, _<_}
+use Prim.Native.Nat.{ℕ, _+_, _≤_, _<_}
 use native.Mathlib.Nat.{zero-add}
 use native.Mathlib.Omega.{arith}
 use lib.Dec.{leb, ltb}
@@ -105,5 +105,6 @@ module _ (run phase vote stamp : ℕ) (history : List ℕ) (phases : ℕ) where
         go : (b : Bool) → leb phases phase ≡ b → b && (phaseOk phase && (planOk vote && ltb stamp phase)) ≡ false
             → (refused 13 ≡ writeSelectionOf run phase vote stamp history phases buffer)
             × (buffer ≡ selectionBufferOf run phase vote stamp history phases buffer)
-        go true h e = rw h (out-of-bounds message buffer (broken (phaseOk phase) (planOk vote && ltb stamp phase) _ _ e))
+        go true h e = rw h (out-of-bounds message buffer
+            (broken (phaseOk phase) (planOk vote && ltb stamp phase) _ _ e))
         go false h e = (rw h, rw h)

@@ -1,6 +1,6 @@
 -- The bounds that a message's fields keep: document 01, 'Messages'.
--- 01: "Bounds: phase 1 to 63; plans not 0; stamp below the phase in kind 1, at most the phase in kind 3; entries whose phases
--- rise strictly and are below the message's phase."
+-- 01: "Bounds: phase 1 to 63; plans not 0; stamp below the phase in kind 1, at most the phase in kind 3; entries
+-- whose phases rise strictly and are below the message's phase."
 use Prim.Native.Nat.{ℕ, _+_, _^_, _<_}
 use mathlib.Core.Bool.{Bool, true, _&&_}
 use mathlib.Core.List.{List, [], _∷_}

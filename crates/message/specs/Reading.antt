@@ -52,8 +52,8 @@ framed s = leb 9 (length s) && leb 9 (lengthAt s) && leb (lengthAt s) (length s)
 abbrev pub kindKnown : List ℕ → Bool
 kindKnown s = leb 1 (kindAt s) && leb (kindAt s) 3
 
--- 01: "12 length not that of the kind (kind 1: under 13, or not 13 + 3k for the k that stands there, k above 63 included);
--- 13 a bound broken, or k above 63." No length under 13 is 13 + 3k, so one test says both halves of 12.
+-- 01: "12 length not that of the kind (kind 1: under 13, or not 13 + 3k for the k that stands there, k above 63
+-- included); 13 a bound broken, or k above 63." No length under 13 is 13 + 3k, so one test says both halves of 12.
 unfoldable pub tested : List ℕ → Body → Outcome Message
 tested s body =
     require (eqb (lengthAt s) (sizeOf body)) 12

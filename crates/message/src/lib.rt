@@ -3,7 +3,6 @@
 // specs/Bounds.antt; that reading and writing undo each other is proved in crate codec.
 ghost use mathlib.Core.Path.{_≡_};
 ghost use Prim.Native.Nat.{_+_, _*_, _<_, _≤_};
-ghost use lib.Dec.{leb};
 ghost use lib.ListN.{length, getD, drop};
 ghost use lib.Seq.{sets};
 ghost use Rattle.wire.specs.Outcome.{require};
@@ -12,7 +11,6 @@ ghost use Rattle.message.specs.Bounds.{phaseOk, planOk, entriesOk, withi
 ghost use Rattle.message.specs.Encoding.{header, entryBytes};
 ghost use Rattle.message.specs.Reading.{
   lengthAt,
-  kindAt,
   messageWith,
   entriesIn,
   selectionAt,
@@ -32,7 +30,6 @@ ghost use Rattle.message.specs.Reading.{
 ghost use Rattle.message.specs.Writing.{
   entryOf,
   listed,
-  selectionOf,
   validationOf,
   decisionOf,
   writeOf,

@@ -12,7 +12,7 @@ use Rattle.wire.proofs.Tests.{tests}
 use Rattle.crew.specs.declared.Crew.{Crew}
 use Rattle.crew.specs.Thresholds.{one}
 use Rattle.crew.proofs.Facts.{High}
-use Rattle.ballot.specs.Count.{tally, countIf, holds}
+use Rattle.ballot.specs.Count.{tally, holds}
 use Rattle.ballot.specs.Ballot.{Ballot, inbox, votes}
 use Rattle.ballot.specs.Selection.{taken}
 use Rattle.ballot.specs.Decision.{decides}

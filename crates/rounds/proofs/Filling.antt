@@ -1,8 +1,8 @@
 -- What the walk over the slots goes by: one slot more in the columns.
 -- Assumes nothing.
-use mathlib.Core.Path.{_≡_, refl, ap, _∙_}
+use mathlib.Core.Path.{_≡_}
 use mathlib.Core.Option.{Option}
-use Prim.Native.Nat.{ℕ, suc, _+_}
+use Prim.Native.Nat.{ℕ, _+_}
 use native.Mathlib.Numerals.{add-one}
 use Rattle.ballot.specs.Ballot.{Ballot}
 use Rattle.rounds.specs.Columns.{Columns, put, filled}

@@ -3,8 +3,8 @@
 use mathlib.Core.Path.{_≡_, refl, sym, ap, _∙_, subst}
 use mathlib.Core.Bool.{Bool, true, false, cond, _&&_}
 use mathlib.Core.List.{List, [], _∷_}
-use mathlib.Core.Option.{Option, none, some}
-use Prim.Native.Nat.{ℕ, zero, suc, _+_, _*_, _<_, _≤_, min}
+use mathlib.Core.Option.{none, some}
+use Prim.Native.Nat.{ℕ, zero, suc, _+_, _*_, _<_, _≤_}
 use native.Mathlib.Omega.{arith}
 use lib.Dec.{leb, ltb}
 use lib.ListN.{length, take, drop, length-take, length-drop}
@@ -13,7 +13,7 @@ use Rattle.wire.specs.Outcome.{Outcome, accepted, refused}
 use Rattle.wire.specs.Entry.{Entry}
 use Rattle.wire.proofs.Tests.{both-true}
 use Rattle.message.specs.Fields.{Body, selection, validation, decision, Message}
-use Rattle.message.specs.Bounds.{phaseOk, planOk, bodyOk, entriesOk, within}
+use Rattle.message.specs.Bounds.{phaseOk, planOk, bodyOk, entriesOk}
 use Rattle.message.specs.Reading.{entriesIn, entriesCounted, readOf}
 use Rattle.message.proofs.EntryLaws.{entries-count, entries-take}
 use Rattle.message.proofs.ReadLaws.{read-passes, read-fits}
@@ -22,7 +22,8 @@ use Rattle.rounds.specs.Inbox.{isOf, ballotOf, counted}
 use Rattle.rounds.specs.Columns.{PhasesBelow}
 
 -- entries that keep their bounds in a message of some phase lie below that phase, and below any later one
-pub ok-below : (least phase later : ℕ) (es : List Entry) → phase ≤ later → entriesOk least phase es ≡ true → PhasesBelow later es
+pub ok-below : (least phase later : ℕ) (es : List Entry) → phase ≤ later → entriesOk least phase es ≡ true
+    → PhasesBelow later es
 unfolding entriesOk
 ok-below least phase later [] h ok = tt
 ok-below least phase later (e ∷ es) h ok =
@@ -58,7 +59,8 @@ shown-none slot zero e = record { long = omega arith; same = refl; below = tt }
 shown-none slot (suc count) e = absurd (omega arith)
 
 -- a message of a selection that was read shows its entries
-selection-shown : (slot : List ℕ) (m : Message) (vote stamp : ℕ) (entries : List Entry) (count : ℕ) → readOf slot ≡ accepted m
+selection-shown : (slot : List ℕ) (m : Message) (vote stamp : ℕ) (entries : List Entry) (count : ℕ) → readOf slot
+    ≡ accepted m
     → m .body ≡ selection vote stamp entries → entries ≡ entriesIn count (drop 13 slot) → Shown slot count
 selection-shown slot m vote stamp entries count read is same =
     let long : length entries ≡ count = ap length same ∙ entries-count count (drop 13 slot) in
@@ -68,7 +70,8 @@ selection-shown slot m vote stamp entries count read is same =
     let last : m .phase ≤ 63 = leb-true _ _ (both-true (leb 1 (m .phase)) (leb (m .phase) 63) (parts .0) .1) in
     let scalars = planOk vote && ltb stamp (m .phase) && leb (length entries) 63 in
     let rising = both-true scalars (entriesOk 0 (m .phase) entries) (rw is at (parts .1)) .1 in
-    shown-some slot count (omega arith) (subst (PhasesBelow 64) same (ok-below 0 (m .phase) 64 entries (omega arith) rising))
+    shown-some slot count (omega arith)
+    (subst (PhasesBelow 64) same (ok-below 0 (m .phase) 64 entries (omega arith) rising))
 
 no-entries : (count : ℕ) (slot : List ℕ) → entriesIn count (drop 13 slot) ≡ [] → count ≡ 0
 no-entries count slot e = sym (entries-count count (drop 13 slot)) ∙ ap length e

@@ -13,7 +13,7 @@ use Rattle.wire.specs.Outcome.{Outcome, accepted, refused}
 use Rattle.wire.specs.Entry.{Entry}
 use Rattle.wire.proofs.Tests.{both-true}
 use Rattle.message.specs.Fields.{Body, selection, validation, decision, Message}
-use Rattle.message.specs.Bounds.{phaseOk, planOk, bodyOk, entriesOk, within}
+use Rattle.message.specs.Bounds.{phaseOk, planOk, bodyOk, entriesOk}
 use Rattle.message.specs.Reading.{readOf}
 use Rattle.message.proofs.ReadLaws.{read-passes}
 use Rattle.ballot.specs.Ballot.{Ballot}
@@ -75,7 +75,8 @@ unfolding ballotAt
 polled-inbox d bytes read room is =
     let slots : ℕ → Option Ballot = λ q. counted (d .run) (d .phase) (d .round) (readOf (slotAt bytes q)) in
     let listable : Listable slots = λ q m e. heard-listable (d .run) (d .phase) (d .round) (slotAt bytes q) m e in
-    rw is (gather-same (slotOf (filled slots (d .crew .n))) slots (d .crew .n) (columns-mean slots listable (d .crew .n) room))
+    rw is (gather-same (slotOf (filled slots (d .crew .n))) slots (d .crew .n)
+    (columns-mean slots listable (d .crew .n) room))
 
 -- what a sound record's crew promises to the functions that run over the columns
 pub sound-sizes : (d : Node) → sound d ≡ true

@@ -1,18 +1,18 @@
--- What a row of the histories lists: the entries listed from it, counted by phase and plan, are the places that hold the plan.
+-- What a row of the histories lists: the entries listed from it, counted by phase and plan, are the places that hold
+-- the plan.
 -- Assumes nothing.
 use mathlib.Core.Path.{_≡_, refl, sym, ap, _∙_}
 use mathlib.Core.Bool.{Bool, true, false, cond, _&&_}
-use mathlib.Core.List.{List, [], _∷_, _++_}
+use mathlib.Core.List.{List, [], _∷_}
 use mathlib.Core.Logic.{_≢_}
 use Prim.Native.Nat.{ℕ, zero, suc, _+_, _*_, _<_, _≤_}
 use native.Mathlib.Nat.{zero-add}
 use native.Mathlib.Omega.{arith}
-use lib.Dec.{T, leb, ltb, eqb}
+use lib.Dec.{leb, ltb, eqb}
 use lib.ListN.{getD, drop}
 use lib.Seq.{getD-drop}
 use borrow.Author.Tests.{leb-true, leb-false, ltb-true, eqb-true, le-leb, lt-ltb, lt-leb, eq-eqb, ne-eqb}
 use Rattle.wire.specs.Entry.{Entry}
-use Rattle.wire.proofs.Tests.{both-true}
 use Rattle.message.specs.Writing.{entryOf, listed}
 use Rattle.ballot.specs.Count.{bit, countIf}
 use Rattle.ballot.specs.Ballot.{isEntry, lists}

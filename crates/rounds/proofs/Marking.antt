@@ -1,10 +1,10 @@
 -- What the loops that mark slots, and those that look for the least vote and the highest count, go by.
 -- Assumes nothing.
-use mathlib.Core.Path.{_≡_, refl, sym, ap, _∙_, subst}
+use mathlib.Core.Path.{_≡_, refl, _∙_}
 use mathlib.Core.Bool.{Bool, true, false, cond, _&&_}
 use mathlib.Core.List.{List}
 use mathlib.Core.Option.{Option, none, some}
-use Prim.Native.Nat.{ℕ, zero, suc, _+_, _<_, _≤_, min, max}
+use Prim.Native.Nat.{ℕ, _+_, _<_, _≤_, min, max}
 use native.Mathlib.Numerals.{add-one}
 use native.Mathlib.Omega.{arith}
 use lib.Dec.{ltb}
@@ -12,7 +12,7 @@ use lib.ListN.{length, getD, set}
 use lib.Seq.{getD-set-same, getD-set-other}
 use borrow.Author.Tests.{ltb-true, ltb-false}
 use Rattle.ballot.specs.Least.{lower, orZero}
-use Rattle.rounds.specs.Marks.{Marks, marked, leastMarked, highest}
+use Rattle.rounds.specs.Marks.{Marks, leastMarked, highest}
 use Rattle.rounds.proofs.Rows.{by-equality}
 
 -- one slot more is marked
@@ -74,7 +74,8 @@ module _ (test : ℕ → Bool) (number : ℕ → ℕ) where
   highest-turn q best is = rw (add-one q) (go (test q) (ltb best (number q)) refl)
     where
       go : (here higher : Bool) → ltb best (number q) ≡ higher
-          → cond (here && higher) (number q) best ≡ cond here (max (number q) (highest test number q)) (highest test number q)
+          → cond (here && higher) (number q) best
+          ≡ cond here (max (number q) (highest test number q)) (highest test number q)
       go false higher e = is
       go true true e = omega (arith, ltb-true best (number q) e)
       go true false e = omega (arith, ltb-false best (number q) e)

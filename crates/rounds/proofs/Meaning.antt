@@ -1,17 +1,16 @@
 -- The columns mean the slots: what they say of a slot that was read is the ballot of that slot.
 -- Assumes nothing.
 use mathlib.Core.Path.{_≡_, refl, sym, ap, ap₂, _∙_}
-use mathlib.Core.Bool.{Bool, true, false, cond}
+use mathlib.Core.Bool.{true, false}
 use mathlib.Core.List.{List}
 use mathlib.Core.Option.{Option, none, some}
-use mathlib.Core.Logic.{_≢_, _⊎_, inl, inr}
+use mathlib.Core.Logic.{_≢_}
 use Prim.Native.Nat.{ℕ, zero, suc, _+_, _*_, _<_, _≤_}
 use native.Mathlib.Omega.{arith}
-use lib.Dec.{eqb}
 use lib.ListN.{length, getD, set, drop, replicate, length-set, length-replicate}
 use lib.Seq.{getD-drop, getD-set-same, getD-set-other}
 use Rattle.message.specs.Bounds.{entriesOk}
-use Rattle.message.specs.Writing.{entryOf, listed}
+use Rattle.message.specs.Writing.{listed}
 use Rattle.ballot.specs.Count.{gather, push}
 use Rattle.ballot.specs.Ballot.{Ballot}
 use Rattle.rounds.specs.Columns.{Columns, columns, PhasesBelow, laid, put, filled, slotOf, empty}

@@ -1,18 +1,19 @@
--- The ballots of the columns, counted: a count of ballots is a tally of marked slots, and so is every rule made of counts.
+-- The ballots of the columns, counted: a count of ballots is a tally of marked slots, and so is every rule made of
+-- counts.
 -- Assumes nothing.
 use mathlib.Core.Path.{_≡_, refl, sym, ap, ap₂, _∙_}
 use mathlib.Core.Bool.{Bool, true, false, not, cond, _&&_, _||_, and-assoc}
 use mathlib.Core.List.{List}
 use mathlib.Core.Option.{Option, none, some}
-use Prim.Native.Nat.{ℕ, zero, suc, _+_, _*_, _<_, _≤_}
+use Prim.Native.Nat.{ℕ, zero, suc, _<_}
 use native.Mathlib.Omega.{arith}
-use lib.Dec.{leb, ltb, eqb}
+use lib.Dec.{ltb, eqb}
 use lib.ListN.{length, getD}
 use borrow.Author.Tests.{le-ltb}
 use Rattle.ballot.specs.Count.{tally, countIf, gather, push, holds}
-use Rattle.ballot.specs.Ballot.{Ballot, votes, stamped}
+use Rattle.ballot.specs.Ballot.{Ballot, votes}
 use Rattle.ballot.specs.Least.{lower, least}
-use Rattle.ballot.specs.Selection.{Backing, besides, backing}
+use Rattle.ballot.specs.Selection.{besides, backing}
 use Rattle.ballot.proofs.Counting.{count-gather, length-count}
 use Rattle.rounds.specs.Columns.{Columns, rowOf, slotOf, polled}
 use Rattle.rounds.specs.Marks.{Marks, marked, supporting, leastMarked, besidesMarked, backingMarked}
@@ -47,7 +48,8 @@ module _ (read : Columns) where
 
   pub length-polled : (n : ℕ) → length (polled read n) ≡ tally (marked (read .present)) n
   length-polled n =
-      length-count (polled read n) ∙ count-polled n (λ m. true) (marked (read .present)) (λ q less. both (marked (read .present) q))
+      length-count (polled read n) ∙ count-polled n (λ m. true) (marked (read .present))
+      (λ q less. both (marked (read .present) q))
     where
       both : (b : Bool) → (b && true) ≡ b
       both true = refl
@@ -63,11 +65,13 @@ module _ (read : Columns) where
       → countIf (votes vote) (polled read n) ≡ tally (supporting (read .present) (read .votes) (read .stamps) vote 0) n
   votes-polled n vote =
       count-polled n (votes vote) _
-      (λ q less. ap (λ b. marked (read .present) q && b) (sym (never (votes vote (rowOf read q)) (getD (read .stamps) q 0))))
+      (λ q less. ap (λ b. marked (read .present) q && b)
+      (sym (never (votes vote (rowOf read q)) (getD (read .stamps) q 0))))
 
   -- votes among the slots that pass a test, which marks single out
   pub marked-polled : (n vote : ℕ) (p : Ballot → Bool) (marks : List Bool) → Marks marks n (onSlot p)
-      → countIf (λ k. p k && votes vote k) (polled read n) ≡ tally (supporting marks (read .votes) (read .stamps) vote 0) n
+      → countIf (λ k. p k && votes vote k) (polled read n)
+      ≡ tally (supporting marks (read .votes) (read .stamps) vote 0) n
   marked-polled n vote p marks are =
       count-polled n (λ k. p k && votes vote k) _
       (λ q less.
@@ -83,7 +87,8 @@ module _ (read : Columns) where
       go (marked (read .present) n) ∙ ap (λ o. cond (onSlot p n) (lower (voteAt n) o) o) (least-polled n p)
     where
       go : (b : Bool) → least p (push (cond b (some (rowOf read n)) none) (polled read n))
-          ≡ cond (holds p (cond b (some (rowOf read n)) none)) (lower (voteAt n) (least p (polled read n))) (least p (polled read n))
+          ≡ cond (holds p (cond b (some (rowOf read n)) none)) (lower (voteAt n) (least p (polled read n)))
+          (least p (polled read n))
       go true = refl
       go false = refl
 
@@ -110,7 +115,8 @@ pub least-same : (a b : ℕ → Bool) (vote : ℕ → ℕ) (n : ℕ) → ((q : �
 unfolding leastMarked
 least-same a b vote zero same = refl
 least-same a b vote (suc n) same =
-    ap₂ (λ here o. cond here (lower (vote n) o) o) (same n (omega arith)) (least-same a b vote n (λ q less. same q (omega arith)))
+    ap₂ (λ here o. cond here (lower (vote n) o) o) (same n (omega arith))
+    (least-same a b vote n (λ q less. same q (omega arith)))
 
 pub backing-same : (a b : ℕ → Bool) (vote : ℕ → ℕ) (n : ℕ) → ((q : ℕ) → q < n → a q ≡ b q)
     → backingMarked a vote n ≡ backingMarked b vote n

@@ -1,10 +1,10 @@
 -- A row of the histories: entries laid into an empty row are listed from it again, and other rows stay as they were.
 -- Assumes nothing.
-use mathlib.Core.Path.{_≡_, refl, sym, ap, ap₂, _∙_}
-use mathlib.Core.Bool.{Bool, true, false, cond, _&&_}
-use mathlib.Core.List.{List, [], _∷_, _++_}
+use mathlib.Core.Path.{_≡_, refl, sym, ap, _∙_}
+use mathlib.Core.Bool.{Bool, true, false, _&&_}
+use mathlib.Core.List.{List, [], _∷_}
 use mathlib.Core.Logic.{_≢_}
-use Prim.Native.Nat.{ℕ, zero, suc, _+_, _*_, _<_, _≤_}
+use Prim.Native.Nat.{ℕ, zero, suc, _+_, _<_, _≤_}
 use native.Mathlib.Omega.{arith}
 use lib.Dec.{leb, ltb, eqb}
 use lib.ListN.{length, getD, set, drop, length-set}
@@ -13,7 +13,7 @@ use borrow.Author.Tests.{leb-true, ltb-true, eqb-true, eqb-false, le-leb, lt-ltb
 use Rattle.wire.specs.Entry.{Entry}
 use Rattle.wire.proofs.Tests.{both-true}
 use Rattle.message.specs.Bounds.{planOk, entriesOk}
-use Rattle.message.specs.Writing.{entryOf, listed}
+use Rattle.message.specs.Writing.{listed}
 use Rattle.rounds.specs.Columns.{PhasesBelow, laid}
 
 -- no entry is laid at this place
@@ -32,10 +32,12 @@ laid-misses h row place (e ∷ es) m =
 pub laid-length : (h : List ℕ) (row : ℕ) (es : List Entry) → length (laid h row es) ≡ length h
 unfolding laid
 laid-length h row [] = refl
-laid-length h row (e ∷ es) = laid-length (set h (row + e .phase) (e .plan)) row es ∙ length-set h (row + e .phase) (e .plan)
+laid-length h row (e ∷ es) = laid-length (set h (row + e .phase) (e .plan)) row es
+    ∙ length-set h (row + e .phase) (e .plan)
 
 -- places before a row, and after it
-pub laid-before : (h : List ℕ) (row place : ℕ) (es : List Entry) → place < row → getD (laid h row es) place 0 ≡ getD h place 0
+pub laid-before : (h : List ℕ) (row place : ℕ) (es : List Entry) → place < row → getD (laid h row es) place 0
+    ≡ getD h place 0
 laid-before h row place es less = laid-misses h row place es (misses es)
   where
     misses : (es : List Entry) → Misses place row es
@@ -57,7 +59,8 @@ pub record Rising (least phase : ℕ) (e : Entry) (es : List Entry) : Type 0 whe
   pub full : leb 1 (e .plan) ≡ true
   pub rest : entriesOk (e .phase + 1) phase es ≡ true
 
-pub rising : (least phase : ℕ) (e : Entry) (es : List Entry) → entriesOk least phase (e ∷ es) ≡ true → Rising least phase e es
+pub rising : (least phase : ℕ) (e : Entry) (es : List Entry) → entriesOk least phase (e ∷ es) ≡ true
+    → Rising least phase e es
 unfolding entriesOk
 rising least phase e es ok =
     let first = leb least (e .phase) && ltb (e .phase) phase in
@@ -72,7 +75,8 @@ rising least phase e es ok =
     }
 
 -- entries from a phase on miss the places of the phases before it
-from-misses : (least phase row j : ℕ) (es : List Entry) → entriesOk least phase es ≡ true → j < least → Misses (row + j) row es
+from-misses : (least phase row j : ℕ) (es : List Entry) → entriesOk least phase es ≡ true → j < least
+    → Misses (row + j) row es
 from-misses least phase row j [] ok less = tt
 from-misses least phase row j (e ∷ es) ok less =
     let r = rising least phase e es ok in
@@ -137,7 +141,8 @@ listed-laid zero least row h (e ∷ es) sum long ok clear =
     absurd (omega (arith, r .from, r .below))
 listed-laid (suc count) least row h [] sum long ok clear =
     let empty = getD-drop row h least 0 ∙ clear least (omega arith) (omega arith) in
-    rw empty (listed-laid count (least + 1) row h [] (omega arith) long ok (λ j from below. clear j (omega arith) below))
+    rw empty (listed-laid count (least + 1) row h [] (omega arith) long ok
+    (λ j from below. clear j (omega arith) below))
 listed-laid (suc count) least row h (e ∷ es) sum long ok clear =
     let r = rising least 64 e es ok in
     by-equality (e .phase) least

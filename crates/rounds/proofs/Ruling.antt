@@ -1,7 +1,8 @@
--- The three rules on the columns: which slots are possible and backed, which plans are valid and which decide, as marks.
+-- The three rules on the columns: which slots are possible and backed, which plans are valid and which decide, as
+-- marks.
 -- Assumes nothing.
 use mathlib.Core.Path.{_≡_, refl, sym, ap, ap₂, _∙_, subst}
-use mathlib.Core.Bool.{Bool, true, false, not, cond, _&&_, _||_, and-assoc}
+use mathlib.Core.Bool.{Bool, true, false, cond, _&&_, and-assoc}
 use mathlib.Core.List.{List}
 use mathlib.Core.Option.{none}
 use Prim.Native.Nat.{ℕ, zero, suc, _+_, _-_, _*_, _/_, _<_, _≤_, max}
@@ -22,13 +23,13 @@ use borrow.Author.Tests.{
   ne-eqb,
 }
 use Rattle.crew.specs.declared.Crew.{Crew}
-use Rattle.crew.specs.Thresholds.{Class, one, two, three, E, anyAbove, validAbove}
+use Rattle.crew.specs.Thresholds.{Class, one, two, three, E, validAbove}
 use Rattle.ballot.specs.Count.{bit, tally, countIf}
 use Rattle.ballot.specs.Ballot.{Ballot, votes, stamped, lists}
 use Rattle.ballot.specs.Least.{least, leastOf, orZero}
-use Rattle.ballot.specs.Selection.{supports, possible, backed, enough, leading, mostVoted}
-use Rattle.ballot.specs.Validation.{valid, validated}
-use Rattle.ballot.specs.Decision.{fresh, decides, decision}
+use Rattle.ballot.specs.Selection.{supports, possible, backed, leading, mostVoted}
+use Rattle.ballot.specs.Validation.{valid}
+use Rattle.ballot.specs.Decision.{fresh, decides}
 use Rattle.rounds.specs.Columns.{Columns, rowOf, polled}
 use Rattle.rounds.specs.Marks.{
   Marks,
@@ -42,7 +43,6 @@ use Rattle.rounds.specs.Marks.{
   leastMarked,
   highest,
 }
-use Rattle.rounds.proofs.Tallies.{tally-same}
 use Rattle.rounds.proofs.Polling.{
   voteAt,
   onSlot,
@@ -78,7 +78,8 @@ highest-within test number bound (suc n) =
         by false e = lt-leb _ bound (omega (arith, leb-false h bound e))
 
     go : (here passes : Bool) → ltb bound (number n) ≡ passes → eqb rest 0 ≡ leb (highest test number n) bound
-        → eqb (bit (here && passes) + rest) 0 ≡ leb (cond here (max (number n) (highest test number n)) (highest test number n)) bound
+        → eqb (bit (here && passes) + rest) 0
+        ≡ leb (cond here (max (number n) (highest test number n)) (highest test number n)) bound
     go false passes e same = rw (zero-add rest) same
     go true true e same =
         ne-eqb (1 + rest) 0 (λ z. omega arith)
@@ -104,7 +105,8 @@ at-most-highest test number (suc n) q less t =
     earlier true h = omega arith
     earlier false h = h
 
-nobody-least : (test : ℕ → Bool) (vote : ℕ → ℕ) (n : ℕ) → ((q : ℕ) → q < n → test q ≡ false) → leastMarked test vote n ≡ none
+nobody-least : (test : ℕ → Bool) (vote : ℕ → ℕ) (n : ℕ) → ((q : ℕ) → q < n → test q ≡ false)
+    → leastMarked test vote n ≡ none
 unfolding leastMarked
 nobody-least test vote zero absent = refl
 nobody-least test vote (suc n) absent =
@@ -244,9 +246,11 @@ module _ (crew : Crew) (read : Columns) (n : ℕ) where
           → T (supporting (read .present) (read .votes) (read .stamps) (voteAt read q) 0 q)
       itself q e = rw (e, eq-eqb (voteAt read q) (voteAt read q) refl) tt
 
-      absent : (q : ℕ) → q < n → (b : Bool) → marked (read .present) q ≡ b → (b && leading ballots (voteAt read q)) ≡ false
+      absent : (q : ℕ) → q < n → (b : Bool) → marked (read .present) q ≡ b → (b && leading ballots (voteAt read q))
+          ≡ false
       absent q less false e = refl
       absent q less true e =
-          let own = tally-has (supporting (read .present) (read .votes) (read .stamps) (voteAt read q) 0) n q less (itself q e) in
+          let own = tally-has (supporting (read .present) (read .votes) (read .stamps) (voteAt read q) 0) n q less
+          (itself q e) in
           let bound = at-most-highest (marked (read .present)) (λ k. votesFor (voteAt read k)) n q less (rw e tt) in
           absurd (omega (arith, own, bound, none-voted))

@@ -1,5 +1,6 @@
 -- The columns of an inbox: its ballots by slot, read once from the raw bytes. The rules run over them.
--- A column of presence, one of votes, one of stamps, and the histories as one flat array with a place for each slot and phase.
+-- A column of presence, one of votes, one of stamps, and the histories as one flat array with a place for each slot
+-- and phase.
 -- Promises of private functions: no public contract cites this file.
 use Prim.Native.Nat.{ℕ, zero, suc, _+_, _*_, _<_}
 use mathlib.Core.Bool.{Bool, true, false, cond}

@@ -26,8 +26,8 @@ ballotOf (decision vote stamp) = record { vote = vote; stamp = stamp; entries = 
 abbrev pub isOf : ℕ → ℕ → ℕ → Message → Bool
 isOf run phase round m = eqb (m .run) run && eqb (kindOf (m .body)) round && eqb (m .phase) phase
 
--- 01: "A slot counts when reading it succeeds and its run, kind and phase are those of the node's coming round; a slot that
--- reading refuses is simply absent": the ballot of a slot that counts, by what reading it answers
+-- 01: "A slot counts when reading it succeeds and its run, kind and phase are those of the node's coming round; a
+-- slot that reading refuses is simply absent": the ballot of a slot that counts, by what reading it answers
 abbrev pub counted : ℕ → ℕ → ℕ → Outcome Message → Option Ballot
 counted run phase round (accepted m) = cond (isOf run phase round m) (some (ballotOf (m .body))) none
 counted run phase round (refused number) = none

@@ -1,9 +1,9 @@
--- Counts over the columns: marks single out slots, and the rules count marked slots. The functions that run over the columns
--- promise these numbers; proofs/ joins them to the rules of crate ballot.
+-- Counts over the columns: marks single out slots, and the rules count marked slots. The functions that run over the
+-- columns promise these numbers; proofs/ joins them to the rules of crate ballot.
 -- Promises of private functions: no public contract cites this file.
 use Prim.Native.Nat.{ℕ, zero, suc, _+_, _*_, _<_, max}
 use mathlib.Core.Path.{_≡_}
-use mathlib.Core.Bool.{Bool, true, false, not, cond, _&&_, _||_}
+use mathlib.Core.Bool.{Bool, false, not, cond, _&&_, _||_}
 use mathlib.Core.List.{List}
 use mathlib.Core.Option.{Option, none, some}
 use lib.ListN.{getD}

@@ -55,7 +55,8 @@ afterValidation d v = record {
   history = d .history;
 }
 
--- 01: "If there are any and result is 0, result becomes the least. A result stands for good. Phase rises by 1, round is 1."
+-- 01: "If there are any and result is 0, result becomes the least. A result stands for good. Phase rises by 1, round
+-- is 1."
 abbrev pub afterDecision : Node → ℕ → Node
 afterDecision d v = record {
   crew = d .crew;

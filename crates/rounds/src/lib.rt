@@ -1,17 +1,15 @@
 // Asking for the coming selection, and taking a round: from an inbox's bytes to the next record.
-// What each answers stands in specs/Asking.antt and specs/Taking.antt, what a slot says in specs/Inbox.antt. The slots are
-// read once, into columns (specs/Columns.antt); the rules run over those.
+// What each answers stands in specs/Asking.antt and specs/Taking.antt, what a slot says in specs/Inbox.antt. The
+// slots are read once, into columns (specs/Columns.antt); the rules run over those.
 use crew::Crew;
 use message::Reading;
 use node::Node;
 ghost use mathlib.Core.Path.{_≡_};
 ghost use mathlib.Core.Bool.{true, false, cond, _&&_};
 ghost use lib.Dec.{leb, ltb, eqb};
-ghost use mathlib.Core.Option.{Option, none, some};
 ghost use Prim.Native.Nat.{_+_, _*_, _<_, _≤_};
-ghost use lib.ListN.{length, set, drop};
+ghost use lib.ListN.{length};
 ghost use Rattle.message.specs.Reading.{readOf, entriesIn};
-ghost use Rattle.message.specs.Bounds.{entriesOk};
 ghost use Rattle.rounds.specs.Inbox.{slotAt, counted};
 ghost use Rattle.wire.specs.Outcome.{accepted, verdict, valueOr};
 ghost use Rattle.rounds.specs.Taking.{
@@ -70,8 +68,8 @@ pub enum Taking {
     Refused(Refusal),
 }
 
-// What taking a round answers. An enum holds no array, so the record stands beside the answer: the next one, or, where the
-// round is not taken, the one that was handed in.
+// What taking a round answers. An enum holds no array, so the record stands beside the answer: the next one, or,
+// where the round is not taken, the one that was handed in.
 pub struct Taken {
     pub answer: Taking,
     pub node: Node,
@@ -99,7 +97,8 @@ const SLOTS: usize = 32;
 // The histories have a place for each slot and phase.
 const PLACES: usize = 2048;
 
-// What a slot says to a node: a ballot, of its history only how many entries it has, or nothing where it does not count.
+// What a slot says to a node: a ballot, of its history only how many entries it has, or nothing where it does not
+// count.
 enum Said {
     Ballot { vote: u16, stamp: u8, count: u8 },
     Nothing,
@@ -288,7 +287,8 @@ fn count_marks(marks: &[bool; 32], n: usize) -> usize
 // Whether the slot lists the plan at a phase.
 fn lists(histories: &[u16; 2048], q: usize, phase: u8, plan: u16) -> bool
     requires { ⌜ q < 32 ⌝ }
-    ensures { λ r. ⌜ r ≡ (ltb phase 64 && (leb 1 plan && eqb (getD (now (histories .entry)) (64 * q + phase) 0) plan)) ⌝ }
+    ensures { λ r. ⌜ r ≡ (ltb phase 64 &&
+        (leb 1 plan && eqb (getD (now (histories .entry)) (64 * q + phase) 0) plan)) ⌝ }
 {
     if phase < Node::SPENT {
         (1 <= plan) & (histories[Node::PHASES * q + phase as usize] == plan)
@@ -336,7 +336,8 @@ fn mark_above(
 ) -> [bool; 32]
     requires { ⌜ n ≤ 32 ⌝ }
     ensures { λ r. ⌜ Marks r n
-        (above (now (present .entry)) (now (marks .entry)) (now (votes .entry)) (now (stamps .entry)) n threshold stamped) ⌝ }
+        (above (now (present .entry)) (now (marks .entry)) (now (votes .entry)) (now (stamps .entry)) n threshold
+        stamped) ⌝ }
 {
     let mut out = [false; 32];
     let mut q = 0;
@@ -460,7 +461,8 @@ enum Choice {
 // Exactly one vote is backed where all marked slots have the least one.
 fn backing_of(marks: &[bool; 32], votes: &[u16; 32], stamps: &[u8; 32], n: usize) -> Backing
     requires { ⌜ n ≤ 32 ⌝ }
-    ensures { λ r. ⌜ backingAs r ≡ backingMarked (marked (now (marks .entry))) (λ q. getD (now (votes .entry)) q 0) n ⌝ }
+    ensures { λ r. ⌜ backingAs r ≡ backingMarked (marked (now (marks .entry))) (λ q. getD (now (votes .entry)) q 0)
+        n ⌝ }
 {
     let all = count_marks(marks, n);
     if all == 0 {
@@ -481,7 +483,8 @@ fn any_if(enough: bool) -> Choice
 
 // 01, classes 1 and 2: "Exactly one: that plan. Otherwise 'any' if .., else 'none'."
 fn answer_below_three(backing: Backing, enough: bool) -> Choice
-    ensures { λ r. ⌜ (choiceAs r ≡ answer one (backingAs backing) enough) × (choiceAs r ≡ answer two (backingAs backing) enough) ⌝ }
+    ensures { λ r. ⌜ (choiceAs r ≡ answer one (backingAs backing) enough)
+        × (choiceAs r ≡ answer two (backingAs backing) enough) ⌝ }
 {
     match backing {
         Backing::Sole(plan) => Choice::Plan(plan),
@@ -519,7 +522,8 @@ fn choose_one(
 ) -> Choice
     requires { ⌜ (crew .n ≤ 32) × (crew .d ≤ crew .n) ⌝ }
     ensures { λ r. ⌜ choiceAs r ≡ selection one crew
-        (polled (columns (now (present .entry)) (now (votes .entry)) (now (stamps .entry)) (now (histories .entry))) (crew .n)) ⌝ }
+        (polled (columns (now (present .entry)) (now (votes .entry)) (now (stamps .entry)) (now (histories .entry)))
+        (crew .n)) ⌝ }
 {
     let n = crew.n as usize;
     let e = bound(crew);
@@ -539,7 +543,8 @@ fn choose_two(
 ) -> Choice
     requires { ⌜ (crew .n ≤ 32) × (crew .d ≤ crew .n) ⌝ }
     ensures { λ r. ⌜ choiceAs r ≡ selection two crew
-        (polled (columns (now (present .entry)) (now (votes .entry)) (now (stamps .entry)) (now (histories .entry))) (crew .n)) ⌝ }
+        (polled (columns (now (present .entry)) (now (votes .entry)) (now (stamps .entry)) (now (histories .entry)))
+        (crew .n)) ⌝ }
 {
     let n = crew.n as usize;
     let b = crew.b as usize;
@@ -561,7 +566,8 @@ fn choose_three(
 ) -> Choice
     requires { ⌜ (crew .n ≤ 32) × (crew .d ≤ crew .n) ⌝ }
     ensures { λ r. ⌜ choiceAs r ≡ selection three crew
-        (polled (columns (now (present .entry)) (now (votes .entry)) (now (stamps .entry)) (now (histories .entry))) (crew .n)) ⌝ }
+        (polled (columns (now (present .entry)) (now (votes .entry)) (now (stamps .entry)) (now (histories .entry)))
+        (crew .n)) ⌝ }
 {
     let n = crew.n as usize;
     let b = crew.b as usize;
@@ -583,7 +589,8 @@ fn choose(
 ) -> Choice
     requires { ⌜ (crew .n ≤ 32) × (crew .d ≤ crew .n) ⌝ }
     ensures { λ r. ⌜ choiceAs r ≡ selection (classOf crew) crew
-        (polled (columns (now (present .entry)) (now (votes .entry)) (now (stamps .entry)) (now (histories .entry))) (crew .n)) ⌝ }
+        (polled (columns (now (present .entry)) (now (votes .entry)) (now (stamps .entry)) (now (histories .entry)))
+        (crew .n)) ⌝ }
 {
     if crew.class == 1 {
         return choose_one(crew, present, votes, stamps, histories);
@@ -604,7 +611,8 @@ fn any_plan(
 ) -> u16
     requires { ⌜ crew .n ≤ 32 ⌝ }
     ensures { λ r. ⌜ r ≡ anyPlan crew
-        (polled (columns (now (present .entry)) (now (votes .entry)) (now (stamps .entry)) (now (histories .entry))) (crew .n)) ⌝ }
+        (polled (columns (now (present .entry)) (now (votes .entry)) (now (stamps .entry)) (now (histories .entry)))
+        (crew .n)) ⌝ }
 {
     let n = crew.n as usize;
     let most = most_votes(present, votes, stamps, n);
@@ -625,7 +633,8 @@ fn select(
 ) -> u16
     requires { ⌜ (crew .n ≤ 32) × (crew .d ≤ crew .n) ⌝ }
     ensures { λ r. ⌜ r ≡ taken (classOf crew) crew
-        (polled (columns (now (present .entry)) (now (votes .entry)) (now (stamps .entry)) (now (histories .entry))) (crew .n)) ⌝ }
+        (polled (columns (now (present .entry)) (now (votes .entry)) (now (stamps .entry)) (now (histories .entry)))
+        (crew .n)) ⌝ }
 {
     let choice = choose(crew, present, votes, stamps, histories);
     match choice {
@@ -645,7 +654,8 @@ fn validate(
 ) -> u16
     requires { ⌜ crew .n ≤ 32 ⌝ }
     ensures { λ r. ⌜ r ≡ validated crew
-        (polled (columns (now (present .entry)) (now (votes .entry)) (now (stamps .entry)) (now (histories .entry))) (crew .n)) ⌝ }
+        (polled (columns (now (present .entry)) (now (votes .entry)) (now (stamps .entry)) (now (histories .entry)))
+        (crew .n)) ⌝ }
 {
     let n = crew.n as usize;
     let half = (n + crew.b as usize) / 2;
@@ -675,7 +685,8 @@ fn decide(
 ) -> u16
     requires { ⌜ (crew .n ≤ 32) × (1 ≤ crew .d) ⌝ }
     ensures { λ r. ⌜ r ≡ decision (classOf crew) crew phase
-        (polled (columns (now (present .entry)) (now (votes .entry)) (now (stamps .entry)) (now (histories .entry))) (crew .n)) ⌝ }
+        (polled (columns (now (present .entry)) (now (votes .entry)) (now (stamps .entry)) (now (histories .entry)))
+        (crew .n)) ⌝ }
 {
     let n = crew.n as usize;
     let fresh = mark_fresh(crew, phase, present, stamps);
@@ -735,7 +746,8 @@ fn after_validation(node: Node, plan: u16) -> Node
     next
 }
 
-// 01: "If there are any and result is 0, result becomes the least. A result stands for good. Phase rises by 1, round is 1."
+// 01: "If there are any and result is 0, result becomes the least. A result stands for good. Phase rises by 1, round
+// is 1."
 fn after_decision(node: Node, plan: u16) -> Node
     requires { ⌜ node .phase < 64 ⌝ }
     ensures { λ r. ⌜ r ≡ afterDecision node plan ⌝ }

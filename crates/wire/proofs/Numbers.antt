@@ -1,6 +1,7 @@
--- A number's bytes are read to the number, and the bytes that a number was read from are its bytes: once over the width.
+-- A number's bytes are read to the number, and the bytes that a number was read from are its bytes: once over the
+-- width.
 -- Assumes nothing.
-use mathlib.Core.Path.{_≡_, refl, ap, sym, _∙_}
+use mathlib.Core.Path.{_≡_, refl, ap}
 use mathlib.Core.List.{List, _∷_, _++_}
 use Prim.Native.Nat.{ℕ, zero, suc, _+_, _*_, _/_, _%_, _^_, _<_, _≤_}
 use native.Mathlib.Omega.{arith}
@@ -11,7 +12,8 @@ use lib.Seq.{drop-cons}
 use Rattle.wire.specs.Bytes.{numberAt, bytesOf, AreBytes}
 
 -- a byte more in front moves every place by one
-number-shift : (width byte : ℕ) (s : List ℕ) (place : ℕ) → numberAt width (byte ∷ s) (place + 1) ≡ numberAt width s place
+number-shift : (width byte : ℕ) (s : List ℕ) (place : ℕ) → numberAt width (byte ∷ s) (place + 1)
+    ≡ numberAt width s place
 number-shift zero byte s place = refl
 number-shift (suc width) byte s place =
     rw (number-shift width byte s (place + 1), add-one place)

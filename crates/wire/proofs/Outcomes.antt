@@ -4,7 +4,7 @@ use mathlib.Core.Path.{_≡_, refl}
 use mathlib.Core.Bool.{Bool, true, false}
 use Prim.Native.Nat.{ℕ}
 use native.Mathlib.Omega.{arith}
-use Rattle.wire.specs.Outcome.{Outcome, accepted, refused, require}
+use Rattle.wire.specs.Outcome.{Outcome, accepted, require}
 
 -- an accepted operation has passed its first test, and what comes after the test is accepted
 pub passed : {A : Type 0} (test : Bool) (number : ℕ) (next : Outcome A) {value : A}

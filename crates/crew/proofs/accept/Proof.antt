@@ -1,3 +1,4 @@
+-- `accept` meets its contract.
 use mathlib.Core.Path.{sym, _∙_}
 use borrow.Author.Needs.{needs}
 use Rattle.crew.specs.Acceptance.{acceptOf}

@@ -1,3 +1,4 @@
+-- `is_high_enough` meets its contract.
 use borrow.Author.Needs.{needs}
 use borrow.Author.Tests.{eq-eqb, ne-eqb}
 use Rattle.crew.proofs.is_high_enough.Statement.{statement}

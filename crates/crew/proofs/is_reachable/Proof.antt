@@ -1,3 +1,4 @@
+-- `is_reachable` meets its contract.
 use borrow.Author.Needs.{needs}
 use Rattle.crew.proofs.is_reachable.Statement.{statement}
 use Rattle.crew.proofs.is_reachable.Tie as tie

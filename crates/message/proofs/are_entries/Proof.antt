@@ -1,3 +1,5 @@
+-- `are_entries` meets its contract. The invariant: the entries from i on, with the least phase that the next may
+-- have, answer what all entries answer.
 use mathlib.Core.Path.{_≡_, _∙_, ap}
 use Prim.Native.Nat.{_≤_, _*_, _+_, _-_}
 use native.Mathlib.Nat.{sub-zero}
@@ -12,7 +14,8 @@ use Rattle.message.proofs.are_entries.Tie as tie
 abbrev Inv-loop : tie.InvT-loop
 Inv-loop s count phase least₀ i₀ least i =
     (i ≤ count)
-    × (entriesOk least phase (entriesIn (count - i) (drop (13 + 3 * i) s)) ≡ entriesOk 0 phase (entriesIn count (drop 13 s)))
+    × (entriesOk least phase (entriesIn (count - i) (drop (13 + 3 * i) s))
+    ≡ entriesOk 0 phase (entriesIn count (drop 13 s)))
 
 abbrev μ-loop : tie.MeasureT-loop
 μ-loop s count phase least₀ i₀ least i = count - i
@@ -55,7 +58,8 @@ loop-again c =
     let b4 = c .before .before .before .before in
     let b4 = b4 in (
       search needs,
-      entries-more _ _ _ _ _ _ _ _ (c .before .before .before .wide .ensures .0) (c .before .is-plan .ensures ∙ ap planOk (c .before .before .u16-at .ensures))
+      entries-more _ _ _ _ _ _ _ _ (c .before .before .before .wide .ensures .0)
+          (c .before .is-plan .ensures ∙ ap planOk (c .before .before .u16-at .ensures))
           (b4 .before .loop-test .taken) (b4 .before .before .loop .inv .1) (c .if1 .taken),
     )
 
@@ -63,7 +67,8 @@ returns : tie.Need-returns Inv-loop μ-loop
 returns c =
     let b4 = c .before .before .before .before in
     let b4 = b4 in
-    entries-stop _ _ _ _ _ _ _ _ (c .before .before .before .wide .ensures .0) (c .before .is-plan .ensures ∙ ap planOk (c .before .before .u16-at .ensures))
+    entries-stop _ _ _ _ _ _ _ _ (c .before .before .before .wide .ensures .0)
+    (c .before .is-plan .ensures ∙ ap planOk (c .before .before .u16-at .ensures))
     (b4 .before .loop-test .taken) (b4 .before .before .loop .inv .1) (c .if1 .left)
 
 returns-2 : tie.Need-returns-2 Inv-loop μ-loop

@@ -1,3 +1,5 @@
+-- `count_entries` meets its contract. The invariant: the count so far and the entries of the phases left make up the
+-- whole count.
 use mathlib.Core.Path.{_≡_}
 use Prim.Native.Nat.{_≤_, _+_, _-_}
 use native.Mathlib.Nat.{sub-zero}
@@ -46,13 +48,15 @@ loop-again : tie.Need-loop-again Inv-loop μ-loop
 loop-again c =
     omega (
       arith,
-      count-turn (c .before .before .before .args .t1) (c .before .before .loop .phase) (c .before .before .before .args .phases) (c .before .loop-test .taken),
+      count-turn (c .before .before .before .args .t1) (c .before .before .loop .phase)
+          (c .before .before .before .args .phases) (c .before .loop-test .taken),
       c .one-if-plan .ensures,
     )
 
 returns : tie.Need-returns Inv-loop μ-loop
 returns c =
-    let done = listed-end (c .before .before .args .t1) (c .before .loop .phase) (c .before .before .args .phases) (c .loop-test .left) in
+    let done = listed-end (c .before .before .args .t1) (c .before .loop .phase) (c .before .before .args .phases)
+    (c .loop-test .left) in
     omega (arith, simp done at (c .before .loop .inv .0))
 
 pub count-entries-spec : {M : Type 1} → statement M

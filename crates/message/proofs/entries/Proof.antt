@@ -1,3 +1,4 @@
+-- `entries` meets its contract.
 use mathlib.Core.Path.{sym, _∙_, ap}
 use borrow.Author.Needs.{needs}
 use borrow.Author.Tests.{le-leb}
@@ -46,17 +47,20 @@ returns c =
 returns-2 : tie.Need-returns-2
 returns-2 c =
     let b4 = c .before .before .before .before in
-    simp (sym (c .before .before .before .read .ensures) ∙ ap (λ r. answered r (now (b4 .before .args .s))) (c .before .enum-told .given .1))
+    simp (sym (c .before .before .before .read .ensures)
+    ∙ ap (λ r. answered r (now (b4 .before .args .s))) (c .before .enum-told .given .1))
 
 returns-3 : tie.Need-returns-3
 returns-3 c =
     let b4 = c .before .before .before .before in
-    simp (sym (c .before .before .before .read .ensures) ∙ ap (λ r. answered r (now (b4 .before .args .s))) (c .before .enum-told2 .given .1))
+    simp (sym (c .before .before .before .read .ensures)
+    ∙ ap (λ r. answered r (now (b4 .before .args .s))) (c .before .enum-told2 .given .1))
 
 returns-4 : tie.Need-returns-4
 returns-4 c =
     let b4 = c .before .before .before .before in
-    simp (sym (c .before .before .before .read .ensures) ∙ ap (λ r. answered r (now (b4 .before .args .s))) (c .before .enum-told3 .given .1))
+    simp (sym (c .before .before .before .read .ensures)
+    ∙ ap (λ r. answered r (now (b4 .before .args .s))) (c .before .enum-told3 .given .1))
 
 pub entries-spec : {M : Type 1} → statement M
 entries-spec =

@@ -1,3 +1,4 @@
+-- `entry_at` meets its contract.
 use borrow.Author.Tests.{lt-ltb, le-ltb}
 use borrow.Author.Needs.{needs}
 use Rattle.message.proofs.entry_at.Statement.{statement}

@@ -1,3 +1,4 @@
+-- `is_decision` meets its contract.
 use borrow.Author.Needs.{needs}
 use Rattle.message.proofs.is_decision.Statement.{statement}
 use Rattle.message.proofs.is_decision.Tie as tie

@@ -1,3 +1,4 @@
+-- `is_framed` meets its contract.
 use borrow.Author.Needs.{needs}
 use borrow.Author.Tests.{lt-leb, le-leb}
 use Rattle.message.proofs.is_framed.Statement.{statement}

@@ -1,3 +1,4 @@
+-- `is_selection` meets its contract.
 use borrow.Author.Needs.{needs}
 use Rattle.message.proofs.EntryLaws.{entries-count}
 use Rattle.message.proofs.is_selection.Statement.{statement}

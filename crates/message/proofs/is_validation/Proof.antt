@@ -1,3 +1,4 @@
+-- `is_validation` meets its contract.
 use borrow.Author.Needs.{needs}
 use Rattle.message.proofs.is_validation.Statement.{statement}
 use Rattle.message.proofs.is_validation.Tie as tie

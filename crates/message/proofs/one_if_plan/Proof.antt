@@ -1,3 +1,4 @@
+-- `one_if_plan` meets its contract.
 use mathlib.Core.Path.{sym, _∙_}
 use borrow.Author.Needs.{needs}
 use Rattle.message.proofs.one_if_plan.Statement.{statement}

@@ -1,3 +1,4 @@
+-- `put16` meets its contract.
 use native.Mathlib.Numerals.{add-one}
 use borrow.Author.Needs.{needs}
 use Rattle.message.proofs.put16.Statement.{statement}

@@ -1,3 +1,5 @@
+-- `put_entries` meets its contract. The invariant: laying the entries of the phases left at this place ends in the
+-- buffer with all entries.
 use mathlib.Core.Path.{_≡_, _∙_}
 use Prim.Native.Nat.{_≤_, _+_, _-_}
 use native.Mathlib.Nat.{sub-zero}
@@ -56,10 +58,12 @@ loop-again c =
     let l = b4 .before .loop in
     let e = c .before .before .put-entry in
     let kept : length (e .last .0) ≡ length (l .buf) = e .kept .0 in
-    let room = room-turn (b4 .before .before .before .args .t2) (l .phase) (b4 .before .before .before .args .phases) (l .place) (b4 .loop-test .taken) (length (l .buf)) (l .inv .1) in (
+    let room = room-turn (b4 .before .before .before .args .t2) (l .phase)
+    (b4 .before .before .before .args .phases) (l .place) (b4 .loop-test .taken) (length (l .buf)) (l .inv .1) in (
       kept ∙ l .inv .0,
       omega (arith, room, kept, e .ensures .0),
-      stores-turn (b4 .before .before .before .args .t2) (l .phase) (b4 .before .before .before .args .phases) (l .place) (b4 .loop-test .taken) (l .buf) _ _ _ (e .ensures .0)
+      stores-turn (b4 .before .before .before .args .t2) (l .phase) (b4 .before .before .before .args .phases)
+          (l .place) (b4 .loop-test .taken) (l .buf) _ _ _ (e .ensures .0)
           (e .ensures .1) (l .inv .2),
       omega arith,
     )
@@ -70,7 +74,8 @@ same-length c = search needs
 returns : tie.Need-returns Inv-loop μ-loop
 unfolding entryBytes
 returns c =
-    let done = listed-end (c .before .before .before .args .t2) (c .before .loop .phase) (c .before .before .before .args .phases) (c .loop-test .left) in
+    let done = listed-end (c .before .before .before .args .t2) (c .before .loop .phase)
+    (c .before .before .before .args .phases) (c .loop-test .left) in
     rw done at (c .before .loop .inv .2)
 
 pub put-entries-spec : {M : Type 1} → statement M

@@ -1,3 +1,4 @@
+-- `read_kind` meets its contract.
 use mathlib.Core.Path.{sym, _∙_}
 use borrow.Author.Needs.{needs}
 use denote.Ref.{now}
@@ -20,7 +21,8 @@ read-validation-requires c κs = search needs
 
 returns-2 : tie.Need-returns-2
 returns-2 c =
-    c .read-validation .ensures ∙ sym (kind-two _ (sym (c .before .before .before .u16-at .ensures) ∙ c .before .if2 .taken))
+    c .read-validation .ensures ∙ sym
+    (kind-two _ (sym (c .before .before .before .u16-at .ensures) ∙ c .before .if2 .taken))
 
 read-decision-requires : tie.Need-read-decision-requires
 read-decision-requires c κs = search needs
@@ -35,8 +37,10 @@ returns-4 c =
     let b4 = c .before .before .before .before in
     let b4 = b4 in
     sym (
-    kind-unknown (now (b4 .before .args .s)) (λ e. c .before .before .if1 .left (c .before .before .before .u16-at .ensures ∙ e))
-    (λ e. c .before .if2 .left (c .before .before .before .u16-at .ensures ∙ e)) (λ e. c .if3 .left (c .before .before .before .u16-at .ensures ∙ e)))
+    kind-unknown (now (b4 .before .args .s))
+    (λ e. c .before .before .if1 .left (c .before .before .before .u16-at .ensures ∙ e))
+    (λ e. c .before .if2 .left (c .before .before .before .u16-at .ensures ∙ e))
+    (λ e. c .if3 .left (c .before .before .before .u16-at .ensures ∙ e)))
 
 pub read-kind-spec : {M : Type 1} → statement M
 read-kind-spec =

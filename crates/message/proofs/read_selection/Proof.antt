@@ -1,3 +1,4 @@
+-- `read_selection` meets its contract.
 use mathlib.Core.Logic.{_≢_}
 use mathlib.Core.Path.{sym, _∙_, ap}
 use Prim.Native.Nat.{ℕ, _+_, _*_}
@@ -17,11 +18,8 @@ u16-at-requires c κs = search needs
 returns : tie.Need-returns
 unfolding tested
 returns c =
-    let short : c .before .u16-at .result ≢ 13 + 3 * getD (now (c .before .before .before .args .s)) 12 0 = (λ e. omega (
-      arith,
-      e,
-      c .if1 .taken,
-    )) in
+    let s = now (c .before .before .before .args .s) in
+    let short : c .before .u16-at .result ≢ 13 + 3 * getD s 12 0 = λ e. omega (arith, e, c .if1 .taken) in
     simp (tested, entries-count, ← c .before .u16-at .ensures, ne-eqb _ _ short)
 
 shared-slice-read-wide : tie.Need-shared-slice-read-wide
@@ -65,7 +63,8 @@ returns-2 c =
       entries-count,
       b4 .run-at .ensures,
       c .before .before .u16-at2 .ensures,
-      eq-eqb _ _ (sym (b8 .before .before .before .u16-at .ensures) ∙ b4 .before .before .before .if2 .taken ∙ ap (λ (k : ℕ). 13 + 3 * k) (b8 .wide .ensures .0)),
+      eq-eqb _ _ (sym (b8 .before .before .before .u16-at .ensures) ∙ b4 .before .before .before .if2 .taken
+          ∙ ap (λ (k : ℕ). 13 + 3 * k) (b8 .wide .ensures .0)),
       simp entries-count at (sym (b4 .before .before .is-selection .ensures) ∙ b4 .before .if3 .taken),
     )
 
@@ -77,7 +76,8 @@ returns-3 c =
     simp (
       tested,
       entries-count,
-      eq-eqb _ _ (sym (b4 .before .before .u16-at .ensures) ∙ c .before .before .if2 .taken ∙ ap (λ (k : ℕ). 13 + 3 * k) (c .before .before .before .wide .ensures .0)),
+      eq-eqb _ _ (sym (b4 .before .before .u16-at .ensures) ∙ c .before .before .if2 .taken
+          ∙ ap (λ (k : ℕ). 13 + 3 * k) (c .before .before .before .wide .ensures .0)),
       simp entries-count at (sym (c .before .is-selection .ensures) ∙ c .if3 .left),
     )
 

@@ -1,3 +1,4 @@
+-- `write_validation` meets its contract.
 use borrow.Author.Needs.{needs}
 use denote.Ref.{now}
 use Rattle.message.proofs.WriteLaws.{written, too-short, out-of-bounds}

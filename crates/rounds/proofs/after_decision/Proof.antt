@@ -1,3 +1,4 @@
+-- `after_decision` meets its contract.
 use borrow.Author.Needs.{needs}
 use borrow.Author.Tests.{eq-eqb, ne-eqb}
 use Rattle.rounds.proofs.after_decision.Statement.{statement}

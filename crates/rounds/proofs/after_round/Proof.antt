@@ -1,3 +1,4 @@
+-- `after_round` meets its contract.
 use mathlib.Core.Path.{_∙_, ap}
 use borrow.Author.Needs.{needs}
 use borrow.Author.Tests.{eq-eqb, ne-eqb}
@@ -16,7 +17,8 @@ unfolding afterRound
 returns c =
     let b4 = c .before .before .before .before in
     let b4 = b4 in
-    rw (eq-eqb _ _ (c .before .before .if1 .taken)) (c .after-selection .ensures ∙ ap (afterSelection (b4 .before .args .node)) (c .before .select .ensures))
+    rw (eq-eqb _ _ (c .before .before .if1 .taken))
+    (c .after-selection .ensures ∙ ap (afterSelection (b4 .before .args .node)) (c .before .select .ensures))
 
 validate-requires : tie.Need-validate-requires
 validate-requires c κs = search needs
@@ -30,7 +32,8 @@ returns-2 c =
     let b4 = c .before .before .before .before in
     let b4 = b4 in
     rw (ne-eqb _ _ (b4 .if1 .left), eq-eqb _ _ (c .before .before .if2 .taken))
-    (c .after-validation .ensures ∙ ap (afterValidation (b4 .before .before .before .args .node)) (c .before .validate .ensures))
+    (c .after-validation .ensures ∙ ap (afterValidation (b4 .before .before .before .args .node))
+    (c .before .validate .ensures))
 
 decide-requires : tie.Need-decide-requires
 decide-requires c κs = search needs
@@ -44,7 +47,8 @@ returns-3 c =
     let b4 = c .before .before .before .before in
     let b4 = b4 in
     rw (ne-eqb _ _ (b4 .if1 .left), ne-eqb _ _ (c .before .before .if2 .left))
-    (c .after-decision .ensures ∙ ap (afterDecision (b4 .before .before .before .args .node)) (c .before .decide .ensures))
+    (c .after-decision .ensures ∙ ap (afterDecision (b4 .before .before .before .args .node))
+    (c .before .decide .ensures))
 
 pub after-round-spec : {M : Type 1} → statement M
 after-round-spec =

@@ -1,3 +1,4 @@
+-- `after_validation` meets its contract.
 use borrow.Author.Tests.{eq-eqb, ne-eqb}
 use Rattle.rounds.proofs.after_validation.Statement.{statement}
 use Rattle.rounds.proofs.after_validation.Tie as tie

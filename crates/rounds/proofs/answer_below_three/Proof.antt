@@ -1,3 +1,4 @@
+-- `answer_below_three` meets its contract.
 use borrow.Author.Needs.{needs}
 use Rattle.rounds.proofs.answer_below_three.Statement.{statement}
 use Rattle.rounds.proofs.answer_below_three.Tie as tie

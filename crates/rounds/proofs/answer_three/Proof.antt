@@ -1,3 +1,4 @@
+-- `answer_three` meets its contract.
 use borrow.Author.Needs.{needs}
 use Rattle.rounds.proofs.answer_three.Statement.{statement}
 use Rattle.rounds.proofs.answer_three.Tie as tie

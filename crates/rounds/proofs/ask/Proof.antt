@@ -1,3 +1,4 @@
+-- `ask` meets its contract.
 use mathlib.Core.Bool.{true}
 use mathlib.Core.Path.{sym, _∙_, ap, refl}
 use lib.Dec.{eqb}
@@ -30,7 +31,8 @@ read-slots-requires c κs =
     let b8 = b4 .before .before .before .before in
     let b12 = b8 .before .before .before .before in
     let d = b12 .args .node in
-    let ok = sym (b8 .before .before .is-sound .ensures) ∙ both-true (b8 .before .before .is-sound .result) (eqb (d .round) 1) (b8 .if1 .taken) .0 in
+    let ok = sym (b8 .before .before .is-sound .ensures)
+    ∙ both-true (b8 .before .before .is-sound .result) (eqb (d .round) 1) (b8 .if1 .taken) .0 in
     (sound-sizes d ok .0, b4 .if3 .taken, refl)
 
 choose-requires : tie.Need-choose-requires
@@ -41,7 +43,8 @@ choose-requires c κs =
     let b12 = b8 .before .before .before .before in
     let b16 = b12 .before .before .before .before in
     let d = b16 .before .args .node in
-    let ok = sym (b12 .before .before .before .is-sound .ensures) ∙ both-true (b12 .before .before .before .is-sound .result) (eqb (d .round) 1) (b12 .before .if1 .taken) .0 in
+    let ok = sym (b12 .before .before .before .is-sound .ensures)
+    ∙ both-true (b12 .before .before .before .is-sound .result) (eqb (d .round) 1) (b12 .before .if1 .taken) .0 in
     (sound-sizes d ok .0, sound-sizes d ok .1)
 
 to-asking-requires : tie.Need-to-asking-requires
@@ -58,9 +61,13 @@ returns c =
     let d = b16 .before .before .before .args .node in
     let tests = rw (b16 .before .is-sound .ensures) at (b12 .before .before .before .if1 .taken) in
     let ok = both-true (sound d) (eqb (d .round) 1) tests .0 in
-    let heard = polled-inbox d (now (b16 .before .before .before .args .inbox)) _ (sound-sizes d ok .0) (b4 .before .before .read-slots .ensures) in
-    simp (tests, lt-ltb _ _ (b12 .before .if2 .taken), eq-eqb _ _ (b8 .before .before .before .if3 .taken))
-    (c .to-asking .ensures ∙ ap accepted (c .before .choose .ensures ∙ ap (selection (classOf (d .crew)) (d .crew)) heard), refl)
+    let heard = polled-inbox d (now (b16 .before .before .before .args .inbox)) _ (sound-sizes d ok .0)
+    (b4 .before .before .read-slots .ensures) in
+    simp (tests, lt-ltb _ _ (b12 .before .if2 .taken), eq-eqb _ _ (b8 .before .before .before .if3 .taken)) (
+      c .to-asking .ensures ∙ ap accepted
+          (c .before .choose .ensures ∙ ap (selection (classOf (d .crew)) (d .crew)) heard),
+      refl,
+    )
 
 refuse-ask-requires : tie.Need-refuse-ask-requires
 refuse-ask-requires c κs = search needs

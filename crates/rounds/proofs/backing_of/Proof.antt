@@ -1,3 +1,4 @@
+-- `backing_of` meets its contract.
 use mathlib.Core.Path.{sym, _∙_}
 use Prim.Native.Nat.{ℕ}
 use lib.ListN.{getD}
@@ -29,8 +30,10 @@ returns-2 c =
     let a = b4 .before .args in
     let vote : ℕ → ℕ = λ q. getD (now (a .votes)) q 0 in
     let stamp : ℕ → ℕ = λ q. getD (now (a .stamps)) q 0 in
-    backing-sole (marked (now (a .marks))) vote stamp (a .n) (c .before .before .least-marked .result) (b4 .count-marks .result)
-    (c .before .before .least-marked .ensures) (b4 .count-marks .ensures .0) (c .before .before .before .if1 .left) (sym (c .before .count-supporting .ensures .0) ∙ c .if2 .taken)
+    backing-sole (marked (now (a .marks))) vote stamp (a .n) (c .before .before .least-marked .result)
+    (b4 .count-marks .result)
+    (c .before .before .least-marked .ensures) (b4 .count-marks .ensures .0) (c .before .before .before .if1 .left)
+    (sym (c .before .count-supporting .ensures .0) ∙ c .if2 .taken)
 
 returns-3 : tie.Need-returns-3
 returns-3 c =
@@ -39,8 +42,10 @@ returns-3 c =
     let a = b4 .before .args in
     let vote : ℕ → ℕ = λ q. getD (now (a .votes)) q 0 in
     let stamp : ℕ → ℕ = λ q. getD (now (a .stamps)) q 0 in
-    backing-several (marked (now (a .marks))) vote stamp (a .n) (c .before .before .least-marked .result) (b4 .count-marks .result)
-    (c .before .before .least-marked .ensures) (b4 .count-marks .ensures .0) (c .before .before .before .if1 .left) (λ e. c .if2 .left (c .before .count-supporting .ensures .0 ∙ e))
+    backing-several (marked (now (a .marks))) vote stamp (a .n) (c .before .before .least-marked .result)
+    (b4 .count-marks .result)
+    (c .before .before .least-marked .ensures) (b4 .count-marks .ensures .0) (c .before .before .before .if1 .left)
+    (λ e. c .if2 .left (c .before .count-supporting .ensures .0 ∙ e))
 
 pub backing-of-spec : {M : Type 1} → statement M
 backing-of-spec =

@@ -1,3 +1,4 @@
+-- `choose` meets its contract.
 use borrow.Author.Needs.{needs}
 use borrow.Author.Tests.{eq-eqb, ne-eqb}
 use Rattle.rounds.proofs.choose.Statement.{statement}

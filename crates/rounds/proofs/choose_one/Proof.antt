@@ -1,3 +1,4 @@
+-- `choose_one` meets its contract.
 use mathlib.Core.Path.{sym, _∙_}
 use borrow.Author.Needs.{needs}
 use denote.Ref.{now}
@@ -36,7 +37,8 @@ returns c =
     let crew = a .crew in
     let read = columns (now (a .present)) (now (a .votes)) (now (a .stamps)) (now (a .histories)) in
     let marks = rw (b4 .before .bound .ensures .0) at (c .before .before .before .mark-above .ensures) in
-    let slots = rw (← b4 .before .bound .ensures .0) at (enough-one crew read (crew .n) (b4 .count-marks .result) (b4 .count-marks .ensures .0)) in
+    let slots = rw (← b4 .before .bound .ensures .0)
+    at (enough-one crew read (crew .n) (b4 .count-marks .result) (b4 .count-marks .ensures .0)) in
     selection-marked crew read (crew .n) one (c .before .before .before .mark-above .result) _ _ _
     (λ q less. marks q less ∙ sym (backed-one-slot crew read (crew .n) q))
     (c .answer-below-three .ensures .0) (c .before .backing-of .ensures) slots

@@ -1,3 +1,4 @@
+-- `choose_three` meets its contract.
 use mathlib.Core.Path.{sym, _∙_}
 use borrow.Author.Needs.{needs}
 use denote.Ref.{now}
@@ -47,7 +48,8 @@ returns c =
     let above = rw (b8 .before .bound .ensures .0) at (b8 .mark-above .ensures) in
     let slots =
     rw (← b8 .before .bound .ensures .0) at
-    (enough-three crew read (crew .n) (c .before .count-marks .result) (c .before .before .before .mark-stamped .result) (c .before .count-marks .ensures .0)
+    (enough-three crew read (crew .n) (c .before .count-marks .result)
+    (c .before .before .before .mark-stamped .result) (c .before .count-marks .ensures .0)
     (c .before .before .before .mark-stamped .ensures)) in
     selection-marked crew read (crew .n) three (b4 .before .before .mark-listed .result) _ _ _
     (λ q less. b4 .before .before .mark-listed .ensures q less

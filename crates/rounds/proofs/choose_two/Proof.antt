@@ -1,3 +1,4 @@
+-- `choose_two` meets its contract.
 use mathlib.Core.Path.{sym, _∙_}
 use borrow.Author.Needs.{needs}
 use denote.Ref.{now}
@@ -43,10 +44,13 @@ returns c =
     let crew = a .crew in
     let read = columns (now (a .present)) (now (a .votes)) (now (a .stamps)) (now (a .histories)) in
     let above = rw (b4 .before .before .before .bound .ensures .0) at (b4 .before .mark-above .ensures) in
-    let slots = rw (← b4 .before .before .before .bound .ensures .0) at (enough-two crew read (crew .n) (b4 .before .before .count-marks .result) (b4 .before .before .count-marks .ensures .0)) in
+    let slots = rw (← b4 .before .before .before .bound .ensures .0)
+    at (enough-two crew read (crew .n) (b4 .before .before .count-marks .result)
+    (b4 .before .before .count-marks .ensures .0)) in
     selection-marked crew read (crew .n) two (c .before .before .before .mark-above2 .result) _ _ _
     (λ q less. c .before .before .before .mark-above2 .ensures q less
-    ∙ sym (backed-two-slot crew read (crew .n) (b4 .before .mark-above .result) (λ k inside. above k inside ∙ sym (possible-slot crew read (crew .n) k)) q))
+    ∙ sym (backed-two-slot crew read (crew .n) (b4 .before .mark-above .result)
+    (λ k inside. above k inside ∙ sym (possible-slot crew read (crew .n) k)) q))
     (c .answer-below-three .ensures .1) (c .before .backing-of .ensures) slots
 
 pub choose-two-spec : {M : Type 1} → statement M

@@ -1,3 +1,4 @@
+-- `count_listing` meets its contract. The invariant: the count is that of the first q slots.
 use mathlib.Core.Path.{_≡_}
 use Prim.Native.Nat.{_≤_, _-_}
 use native.Mathlib.Omega.{arith}
@@ -10,7 +11,8 @@ use Rattle.rounds.proofs.count_listing.Statement.{statement}
 use Rattle.rounds.proofs.count_listing.Tie as tie
 
 abbrev Inv-loop : tie.InvT-loop
-Inv-loop present histories n plan phase count₀ q₀ count q = (q ≤ n) × (count ≡ tally (listing present histories plan phase) q) × (count ≤ q)
+Inv-loop present histories n plan phase count₀ q₀ count q = (q ≤ n)
+    × (count ≡ tally (listing present histories plan phase) q) × (count ≤ q)
 
 abbrev μ-loop : tie.MeasureT-loop
 μ-loop present histories n plan phase count₀ q₀ count q = n - q

@@ -1,3 +1,4 @@
+-- `count_marks` meets its contract. The invariant: the count is that of the first q slots.
 use mathlib.Core.Path.{_≡_}
 use Prim.Native.Nat.{_≤_, _-_}
 use native.Mathlib.Omega.{arith}

@@ -1,3 +1,4 @@
+-- `count_supporting` meets its contract. The invariant: the count is that of the first q slots.
 use mathlib.Core.Path.{_≡_}
 use Prim.Native.Nat.{_≤_, _-_}
 use native.Mathlib.Omega.{arith}
@@ -10,7 +11,8 @@ use Rattle.rounds.proofs.count_supporting.Statement.{statement}
 use Rattle.rounds.proofs.count_supporting.Tie as tie
 
 abbrev Inv-loop : tie.InvT-loop
-Inv-loop marks votes stamps n vote below count₀ q₀ count q = (q ≤ n) × (count ≡ tally (supporting marks votes stamps vote below) q) × (count ≤ q)
+Inv-loop marks votes stamps n vote below count₀ q₀ count q = (q ≤ n)
+    × (count ≡ tally (supporting marks votes stamps vote below) q) × (count ≤ q)
 
 abbrev μ-loop : tie.MeasureT-loop
 μ-loop marks votes stamps n vote below count₀ q₀ count q = n - q

@@ -1,3 +1,4 @@
+-- `decide` meets its contract.
 use mathlib.Core.Path.{sym, _∙_}
 use borrow.Author.Needs.{needs}
 use denote.Ref.{now}
@@ -36,10 +37,13 @@ returns c =
     let class = classOf crew in
     let read = columns (now (a .present)) (now (a .votes)) (now (a .stamps)) (now (a .histories)) in
     c .least-marked .ensures
-    ∙ sym (least-of crew read (crew .n) (decides class crew (a .phase) (polled read (crew .n))) (c .before .before .mark-above .result)
+    ∙ sym (least-of crew read (crew .n) (decides class crew (a .phase) (polled read (crew .n)))
+    (c .before .before .mark-above .result)
     (λ q less. c .before .before .mark-above .ensures q less
-    ∙ sym (decides-slot crew read (crew .n) class (a .phase) (b4 .before .mark-fresh .result) (b4 .before .before .before .pre .1)
-    (λ k inside. b4 .before .mark-fresh .ensures k inside ∙ sym (fresh-slot crew read (crew .n) class (a .phase) k)) q)))
+    ∙ sym (decides-slot crew read (crew .n) class (a .phase) (b4 .before .mark-fresh .result)
+    (b4 .before .before .before .pre .1)
+    (λ k inside. b4 .before .mark-fresh .ensures k inside ∙ sym (fresh-slot crew read (crew .n) class (a .phase) k))
+    q)))
 
 pub decide-spec : {M : Type 1} → statement M
 decide-spec =

@@ -1,3 +1,4 @@
+-- `higher_of` meets its contract.
 use native.Mathlib.Omega.{arith}
 use Rattle.rounds.proofs.higher_of.Statement.{statement}
 use Rattle.rounds.proofs.higher_of.Tie as tie

@@ -1,3 +1,5 @@
+-- `lay_entries` meets its contract. The invariant: laying the entries from i on ends in the histories with all
+-- entries, and each has its place.
 use mathlib.Core.Path.{_≡_}
 use Prim.Native.Nat.{_≤_, _*_, _-_}
 use native.Mathlib.Nat.{sub-zero}
@@ -40,7 +42,8 @@ element-write-histories c =
     let b4 = c .before .before .before .before in
     let b4 = b4 in
     let l = c .before .before .before .loop in
-    let below = below-turn (now (b4 .before .args .part)) (b4 .before .args .count) (l .i) (entryAs (c .before .entry-at .result)) (c .before .entry-at .ensures)
+    let below = below-turn (now (b4 .before .args .part)) (b4 .before .args .count) (l .i)
+    (entryAs (c .before .entry-at .result)) (c .before .entry-at .ensures)
     (c .before .before .loop-test .taken) (b4 .before .pre .1) 64 (l .inv .2) in
     omega (arith, below .0, b4 .before .pre .0)
 
@@ -55,17 +58,21 @@ loop-again c =
     let b4 = c .before .before .before .before in
     let b4 = b4 in
     let l = c .before .before .before .loop in
-    let below = below-turn (now (b4 .before .args .part)) (b4 .before .args .count) (l .i) (entryAs (c .before .entry-at .result)) (c .before .entry-at .ensures)
+    let below = below-turn (now (b4 .before .args .part)) (b4 .before .args .count) (l .i)
+    (entryAs (c .before .entry-at .result)) (c .before .entry-at .ensures)
     (c .before .before .loop-test .taken) (b4 .before .pre .1) 64 (l .inv .2) in (
       omega arith,
-      laid-turn (now (b4 .before .args .part)) (b4 .before .args .count) (l .i) (entryAs (c .before .entry-at .result)) (c .before .entry-at .ensures)
-          (c .before .before .loop-test .taken) (b4 .before .pre .1) (l .histories) (b4 .before .args .row) _ (l .inv .1),
+      laid-turn (now (b4 .before .args .part)) (b4 .before .args .count) (l .i)
+          (entryAs (c .before .entry-at .result)) (c .before .entry-at .ensures)
+          (c .before .before .loop-test .taken) (b4 .before .pre .1) (l .histories) (b4 .before .args .row) _
+          (l .inv .1),
       below .1,
     )
 
 returns : tie.Need-returns Inv-loop μ-loop
 returns c =
-    laid-end (now (c .before .before .before .args .part)) (c .before .before .before .args .count) (c .before .loop .i) _ (c .before .before .before .args .row) _ (c .loop-test .left) (c .before .loop .inv .1)
+    laid-end (now (c .before .before .before .args .part)) (c .before .before .before .args .count)
+    (c .before .loop .i) _ (c .before .before .before .args .row) _ (c .loop-test .left) (c .before .loop .inv .1)
 
 pub lay-entries-spec : {M : Type 1} → statement M
 lay-entries-spec =

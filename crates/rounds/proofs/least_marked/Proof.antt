@@ -1,3 +1,5 @@
+-- `least_marked` meets its contract. The invariant: the least vote of the first q slots that are marked, or the
+-- number past all votes where none is.
 use mathlib.Core.Option.{Option, some}
 use mathlib.Core.Path.{_≡_, refl, ap, _∙_}
 use Prim.Native.Nat.{ℕ, _≤_, _-_, _<_}
@@ -50,7 +52,8 @@ loop-again c =
     let number : ℕ → ℕ = λ k. getD (now (a .votes)) k 0 in
     let small = c .lower-of .ensures .1 in (
       omega arith,
-      c .lower-of .ensures .0 ∙ least-turn (marked (now (a .marks))) number (b4 .loop .q) (b4 .loop .least) small (b4 .loop .inv .1),
+      c .lower-of .ensures .0 ∙ least-turn (marked (now (a .marks))) number (b4 .loop .q) (b4 .loop .least) small
+          (b4 .loop .inv .1),
       small-turn (marked (now (a .marks))) number (b4 .loop .q) small (b4 .loop .inv .2),
     )
 
@@ -68,7 +71,8 @@ returns c =
       c .before .loop-test .left,
     ) in
     let below = rw (c .before .before .loop .inv .1) at (c .if1 .taken) in
-    c .before .before .loop .inv .1 ∙ top-some (least (c .before .before .loop .q)) below ∙ ap (λ k. orZero (least k)) done
+    c .before .before .loop .inv .1 ∙ top-some (least (c .before .before .loop .q)) below
+    ∙ ap (λ k. orZero (least k)) done
 
 returns-2 : tie.Need-returns-2 Inv-loop μ-loop
 returns-2 c =
@@ -81,7 +85,8 @@ returns-2 c =
       c .before .loop-test .left,
     ) in
     let top = rw (c .before .before .loop .inv .1) at (c .if1 .left) in
-    top-none (least (c .before .before .loop .q)) top (c .before .before .loop .inv .2) ∙ ap (λ k. orZero (least k)) done
+    top-none (least (c .before .before .loop .q)) top (c .before .before .loop .inv .2)
+    ∙ ap (λ k. orZero (least k)) done
 
 pub least-marked-spec : {M : Type 1} → statement M
 least-marked-spec =

@@ -1,3 +1,4 @@
+-- `lists` meets its contract.
 use borrow.Author.Needs.{needs}
 use borrow.Author.Tests.{lt-ltb, le-ltb}
 use Rattle.rounds.proofs.lists.Statement.{statement}

@@ -1,3 +1,4 @@
+-- `lower_of` meets its contract.
 use native.Mathlib.Omega.{arith}
 use borrow.Author.Needs.{needs}
 use Rattle.rounds.proofs.lower_of.Statement.{statement}

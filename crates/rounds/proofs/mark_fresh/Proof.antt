@@ -1,3 +1,4 @@
+-- `mark_fresh` meets its contract.
 use mathlib.Core.Path.{_∙_}
 use lib.Dec.{eqb}
 use borrow.Author.Needs.{needs}
@@ -22,7 +23,8 @@ returns-2 c =
     let b4 = b4 in
     let a = b4 .args in
     λ q less. rw (ne-eqb _ _ (c .before .before .if1 .left))
-    (c .mark-stamped .ensures q less ∙ fresh-later (eqb (a .crew .class) 2) (now (a .present)) (now (a .stamps)) (a .phase) q)
+    (c .mark-stamped .ensures q less
+    ∙ fresh-later (eqb (a .crew .class) 2) (now (a .present)) (now (a .stamps)) (a .phase) q)
 
 pub mark-fresh-spec : {M : Type 1} → statement M
 mark-fresh-spec = tie.close (tie.spec returns cast-mark-stamped mark-stamped-requires returns-2)

@@ -1,3 +1,4 @@
+-- `mark_listed` meets its contract. The invariant: the first q slots are marked as they should be.
 use mathlib.Core.Path.{_≡_, refl, _∙_}
 use Prim.Native.Nat.{_≤_, _-_}
 use native.Mathlib.Omega.{arith}
@@ -51,7 +52,8 @@ loop-again c =
     let b4 = b4 in
     let a = b4 .before .before .args in
     let l = b4 .before .loop in
-    let test = listedAbove (now (a .marks)) (now (a .present)) (now (a .votes)) (now (a .stamps)) (now (a .histories)) (a .n) (a .threshold) in (
+    let test = listedAbove (now (a .marks)) (now (a .present)) (now (a .votes)) (now (a .stamps))
+    (now (a .histories)) (a .n) (a .threshold) in (
       omega arith,
       length-set (l .out) (l .q) _ ∙ l .inv .1,
       marks-next (l .out) (l .q) test _ (omega (arith, l .inv .1, b4 .loop-test .taken)) (l .inv .2)

@@ -1,3 +1,4 @@
+-- `mark_stamped` meets its contract. The invariant: the first q slots are marked as they should be.
 use mathlib.Core.Path.{_≡_, refl, _∙_}
 use Prim.Native.Nat.{_≤_, _-_}
 use native.Mathlib.Omega.{arith}

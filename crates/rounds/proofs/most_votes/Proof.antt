@@ -1,3 +1,4 @@
+-- `most_votes` meets its contract. The invariant: the highest count among the first q slots.
 use mathlib.Core.Path.{_≡_, ap, _∙_}
 use Prim.Native.Nat.{ℕ, _≤_, _-_}
 use native.Mathlib.Omega.{arith}
@@ -52,7 +53,8 @@ loop-again c =
     let votes = now (a .votes) in
     let number : ℕ → ℕ = λ k. tally (supporting (now (a .present)) votes (now (a .stamps)) (getD votes k 0) 0) (a .n) in
     let counted = rw (c .before .before .count-supporting .ensures .0) at (c .higher-of .ensures .0) in
-    let turned = highest-turn (marked (now (a .present))) number (b4 .before .loop .q) (b4 .before .loop .best) (b4 .before .loop .inv .1) in
+    let turned = highest-turn (marked (now (a .present))) number (b4 .before .loop .q) (b4 .before .loop .best)
+    (b4 .before .loop .inv .1) in
     (omega arith, counted ∙ turned, c .higher-of .ensures .1)
 
 returns : tie.Need-returns Inv-loop μ-loop

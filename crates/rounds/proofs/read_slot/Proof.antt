@@ -1,3 +1,4 @@
+-- `read_slot` meets its contract.
 use mathlib.Core.Path.{sym, _∙_, ap}
 use native.Mathlib.Omega.{arith}
 use borrow.Author.Needs.{needs}
@@ -46,8 +47,10 @@ lay-entries-requires c κs =
     let b4 = c .before .before .before .before in
     let b4 = b4 in
     let slot = now (b4 .before .before .before .args .slot) in
-    let heard = sym (ap (λ r. saidAs r slot) (c .before .before .before .heard .given .1)) ∙ b4 .before .hear .ensures in
-    let shown = heard-shown slot (b4 .before .before .before .args .run) (b4 .before .before .before .args .phase) (b4 .before .before .before .args .round) _ _ _ heard in (
+    let heard = sym (ap (λ r. saidAs r slot) (c .before .before .before .heard .given .1))
+    ∙ b4 .before .hear .ensures in
+    let shown = heard-shown slot (b4 .before .before .before .args .run) (b4 .before .before .before .args .phase)
+    (b4 .before .before .before .args .round) _ _ _ heard in (
       omega arith,
       rw (c .entries-counted .ensures) (shown .long),
       rw (c .entries-counted .ensures, shown .same) (shown .below),

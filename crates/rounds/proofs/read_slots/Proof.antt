@@ -1,3 +1,4 @@
+-- `read_slots` meets its contract. The invariant: the columns hold the first q slots.
 use mathlib.Core.Option.{Option}
 use mathlib.Core.Path.{_≡_, ap}
 use Prim.Native.Nat.{ℕ, _*_, _≤_, _-_}

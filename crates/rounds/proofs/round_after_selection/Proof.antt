@@ -1,3 +1,4 @@
+-- `round_after_selection` meets its contract.
 use borrow.Author.Tests.{eq-eqb, ne-eqb}
 use Rattle.rounds.proofs.round_after_selection.Statement.{statement}
 use Rattle.rounds.proofs.round_after_selection.Tie as tie

@@ -1,3 +1,4 @@
+-- `take` meets its contract.
 use mathlib.Core.Path.{sym, _∙_, ap, refl}
 use borrow.Author.Needs.{needs}
 use borrow.Author.Tests.{eq-eqb, ne-eqb, lt-ltb, le-ltb}
@@ -44,7 +45,8 @@ returns c =
     let b16 = b12 .before .before .before .before in
     let d = b16 .before .args .node in
     let ok = sym (b12 .before .before .before .is-sound .ensures) ∙ b12 .before .before .if1 .taken in
-    let heard = polled-inbox d (now (b16 .before .args .inbox)) _ (sound-sizes d ok .0) (b4 .before .read-slots .ensures) in
+    let heard = polled-inbox d (now (b16 .before .args .inbox)) _ (sound-sizes d ok .0)
+    (b4 .before .read-slots .ensures) in
     simp (
       ok,
       lt-ltb _ _ (b12 .if2 .taken),

@@ -1,3 +1,4 @@
+-- `to_asking` meets its contract.
 use borrow.Author.Needs.{needs}
 use Rattle.rounds.proofs.to_asking.Statement.{statement}
 use Rattle.rounds.proofs.to_asking.Tie as tie
