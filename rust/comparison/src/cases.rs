@@ -1,0 +1,145 @@
+//! One generated case of each operation, given to two engines. A difference is told with the whole case.
+
+use crate::engine::Engine;
+use crate::runs;
+use generators::{crews, drills, inboxes, messages, plans, records, Random};
+use second_engine::inbox::SLOT;
+use second_engine::Node;
+use std::fmt::Debug;
+use std::fmt::Write;
+
+/// What a case compares.
+#[derive(Clone, Copy, Debug, PartialEq, Eq)]
+pub enum Operation {
+    Accept,
+    Start,
+    Write,
+    Read,
+    /// Asking and taking.
+    Round,
+    /// Whole runs, with the properties of demand 3.
+    Run,
+    Drill,
+}
+
+impl Operation {
+    pub const ALL: [Operation; 7] = [
+        Operation::Accept,
+        Operation::Start,
+        Operation::Write,
+        Operation::Read,
+        Operation::Round,
+        Operation::Run,
+        Operation::Drill,
+    ];
+}
+
+/// Gives the case of this seed to both engines and tells the first difference.
+pub fn compare(operation: Operation, seed: u64, one: &dyn Engine, other: &dyn Engine) -> Result<(), String> {
+    let random = &mut Random::new(seed);
+    let outcome = match operation {
+        Operation::Accept => compare_accept(random, one, other),
+        Operation::Start => compare_start(random, one, other),
+        Operation::Write => compare_write(random, one, other),
+        Operation::Read => compare_read(random, one, other),
+        Operation::Round => compare_round(random, one, other),
+        Operation::Run => runs::drive(random, one, Some(other)).map(|_| ()),
+        Operation::Drill => compare_drill(random, one, other),
+    };
+    outcome.map_err(|difference| format!("{operation:?}, seed {seed}: {difference}"))
+}
+
+fn compare_accept(random: &mut Random, one: &dyn Engine, other: &dyn Engine) -> Result<(), String> {
+    let crew = crews::any(random);
+    same(&crew, one.accept(crew), other.accept(crew))
+}
+
+fn compare_start(random: &mut Random, one: &dyn Engine, other: &dyn Engine) -> Result<(), String> {
+    let crew = if random.chance(3, 4) { crews::accepted(random) } else { crews::any(random) };
+    let any_number = random.byte();
+    let own = random.pick(&[0, crew.n.wrapping_sub(1), crew.n, crew.n.wrapping_add(1), any_number]);
+    let run = random.number() as u32;
+    let plan = if random.chance(1, 4) { 0 } else { plans::any(random) };
+    same(&(crew, own, run, plan), one.start(crew, own, run, plan), other.start(crew, own, run, plan))
+}
+
+fn compare_write(random: &mut Random, one: &dyn Engine, other: &dyn Engine) -> Result<(), String> {
+    let node = records::any(random);
+    let any_length = random.below(230);
+    let length = random.pick(&[0, 8, 9, 10, 11, 12, 13, 16, 201, 202, 203, any_length]);
+    let buffer = random.bytes(length);
+    let write = |engine: &dyn Engine| {
+        let (mut node, mut buffer) = (node, buffer.clone());
+        let answer = engine.write(&mut node, &mut buffer);
+        (answer, node, buffer)
+    };
+    same(&(node, &buffer), write(one), write(other))
+}
+
+fn compare_read(random: &mut Random, one: &dyn Engine, other: &dyn Engine) -> Result<(), String> {
+    let slice = messages::any(random);
+    let read = |engine: &dyn Engine| (engine.read(&slice), place_of(&slice, engine.entries(&slice)));
+    same(&slice, read(one), read(other))
+}
+
+/// Where the part stands in the slice and what it holds. The place of an empty part is free.
+fn place_of(slice: &[u8], part: &[u8]) -> Option<(usize, Vec<u8>)> {
+    let offset = (part.as_ptr() as usize).wrapping_sub(slice.as_ptr() as usize);
+    (!part.is_empty()).then(|| (offset, part.to_vec()))
+}
+
+fn compare_round(random: &mut Random, one: &dyn Engine, other: &dyn Engine) -> Result<(), String> {
+    let (node, inbox) = inboxes::case(random);
+    let is_different = |inbox: &[u8]| ask_and_take(one, node, inbox) != ask_and_take(other, node, inbox);
+    if !is_different(&inbox) {
+        return Ok(());
+    }
+    let least = shrink(&inbox, is_different);
+    let text = show_inbox(&least);
+    same(&(node, text), ask_and_take(one, node, &least), ask_and_take(other, node, &least))
+}
+
+fn ask_and_take(engine: &dyn Engine, node: Node, inbox: &[u8]) -> impl PartialEq + Debug {
+    let (mut asked, mut taken) = (node, node);
+    let answers = (engine.ask(&mut asked, inbox), engine.take(&mut taken, inbox));
+    (answers, asked, taken)
+}
+
+/// Clears slots one by one as long as the difference stays.
+fn shrink(inbox: &[u8], is_different: impl Fn(&[u8]) -> bool) -> Vec<u8> {
+    let mut least = inbox.to_vec();
+    for q in 0..inbox.len() / SLOT {
+        let mut smaller = least.clone();
+        smaller[SLOT * q..SLOT * (q + 1)].fill(0);
+        if is_different(&smaller) {
+            least = smaller;
+        }
+    }
+    least
+}
+
+/// The inbox's length and its slots that are not clear, in base 16.
+pub fn show_inbox(inbox: &[u8]) -> String {
+    let mut text = format!("inbox of {} bytes", inbox.len());
+    for (q, slot) in inbox.chunks(SLOT).enumerate() {
+        if slot.iter().any(|&byte| byte != 0) {
+            let _ = write!(text, "\n  slot {q}: ");
+            slot.iter().for_each(|byte| write!(text, "{byte:02x}").unwrap_or_default());
+        }
+    }
+    text
+}
+
+fn compare_drill(random: &mut Random, one: &dyn Engine, other: &dyn Engine) -> Result<(), String> {
+    let script = drills::any(random);
+    let text = |output: Vec<u8>| String::from_utf8_lossy(&output).into_owned();
+    same(&String::from_utf8_lossy(&script), text(one.drill(&script)), text(other.drill(&script)))
+}
+
+/// Tells the case and both answers where they differ.
+pub fn same<C: Debug, A: PartialEq + Debug>(case: &C, one: A, other: A) -> Result<(), String> {
+    if one == other {
+        return Ok(());
+    }
+    Err(format!("the answers differ\ncase: {case:#?}\none: {one:#?}\nother: {other:#?}"))
+}

@@ -1,0 +1,57 @@
+//! The operations of an engine, as a comparison calls them, and the second engine behind them.
+
+use second_engine::{drill, message, rounds};
+use second_engine::{Crew, Message, Mutation, Node, Refusal, Selection};
+
+/// An engine. Records are lent to be written, so that a comparison sees where a call should have left one alone.
+pub trait Engine {
+    fn accept(&self, crew: Crew) -> Result<(), Refusal>;
+    fn start(&self, crew: Crew, own: u8, run: u32, plan: u16) -> Result<Node, Refusal>;
+    /// Writes the coming message; 0 is silence.
+    fn write(&self, node: &mut Node, buffer: &mut [u8]) -> Result<usize, Refusal>;
+    fn read(&self, slice: &[u8]) -> Result<Message, Refusal>;
+    fn entries<'a>(&self, slice: &'a [u8]) -> &'a [u8];
+    fn ask(&self, node: &mut Node, inbox: &[u8]) -> Result<Selection, Refusal>;
+    fn take(&self, node: &mut Node, inbox: &[u8]) -> Result<(), Refusal>;
+    fn drill(&self, input: &[u8]) -> Vec<u8>;
+}
+
+/// The second engine, or a mutant of it.
+#[derive(Clone, Copy, Debug, Default)]
+pub struct Second {
+    pub mutation: Mutation,
+}
+
+impl Engine for Second {
+    fn accept(&self, crew: Crew) -> Result<(), Refusal> {
+        crew.accept()
+    }
+
+    fn start(&self, crew: Crew, own: u8, run: u32, plan: u16) -> Result<Node, Refusal> {
+        Node::start(crew, own, run, plan)
+    }
+
+    fn write(&self, node: &mut Node, buffer: &mut [u8]) -> Result<usize, Refusal> {
+        node.write(buffer)
+    }
+
+    fn read(&self, slice: &[u8]) -> Result<Message, Refusal> {
+        message::read(slice)
+    }
+
+    fn entries<'a>(&self, slice: &'a [u8]) -> &'a [u8] {
+        message::entries(slice)
+    }
+
+    fn ask(&self, node: &mut Node, inbox: &[u8]) -> Result<Selection, Refusal> {
+        rounds::ask_mutated(node, inbox, self.mutation)
+    }
+
+    fn take(&self, node: &mut Node, inbox: &[u8]) -> Result<(), Refusal> {
+        rounds::take_mutated(node, inbox, self.mutation)
+    }
+
+    fn drill(&self, input: &[u8]) -> Vec<u8> {
+        drill::run_mutated(input, self.mutation)
+    }
+}

@@ -1,0 +1,193 @@
+//! Laws of the operations on generated cases, and that these cases reach every answer.
+
+use comparison::seeds::seeds;
+use generators::{crews, inboxes, messages, plans, records, Random};
+use second_engine::inbox::SLOT;
+use second_engine::{message, rounds, Refusal, Selection};
+use std::collections::BTreeSet;
+
+/// What acceptance gives: the bounds that the proofs of agreement rest on.
+#[test]
+fn accepted_crews_have_their_bounds() {
+    let mut count = 0;
+    for crew in crews::small().filter(|crew| crew.is_accepted()) {
+        let [n, b, f, d] = [crew.n, crew.b, crew.f, crew.d].map(usize::from);
+        let e = crew.e();
+        assert!(d >= 1 && d > b && n - b - f >= d && n > 3 * b + 2 * f && e >= 2 * b + f, "{crew:?}");
+        let reachable = n - b - f;
+        match crew.class {
+            1 => assert!(2 * d > n + b && reachable > 2 * e, "{crew:?}"),
+            2 => assert!(reachable > e + b && 2 * reachable > n + b, "{crew:?}"),
+            _ => assert!(reachable > e && 2 * reachable > n + b, "{crew:?}"),
+        }
+        count += 1;
+    }
+    println!("{count} accepted crews");
+    assert!(count > 1000);
+}
+
+#[test]
+fn fields_within_bounds_round_trip() {
+    for seed in seeds("fields_within_bounds_round_trip", 20_000) {
+        let random = &mut Random::new(seed);
+        let fields = messages::any_within(random);
+        let layout = fields.layout();
+        let tail = random.below(5);
+        let mut slice = layout.clone();
+        slice.extend(random.bytes(tail));
+        let read = message::read(&slice).unwrap_or_else(|refusal| panic!("seed {seed}: {refusal:?}"));
+        assert_eq!(
+            (u16::from(read.kind()), read.run, read.phase),
+            (fields.kind, fields.run, fields.phase),
+            "seed {seed}"
+        );
+        assert_eq!((read.plan(), read.length()), (fields.plan, layout.len()), "seed {seed}");
+        // The one encoding is the layout; bytes behind it keep their values.
+        let mut buffer = vec![9; slice.len()];
+        let entries = message::entries(&slice);
+        assert_eq!(message::encode(&read, entries, &mut buffer), Ok(layout.len()), "seed {seed}");
+        assert_eq!(buffer[..layout.len()], layout, "seed {seed}");
+        assert!(buffer[layout.len()..].iter().all(|&byte| byte == 9), "seed {seed}");
+        // A buffer one byte shorter is refused and keeps its bytes.
+        let mut short = vec![9; layout.len() - 1];
+        assert_eq!(message::encode(&read, entries, &mut short), Err(Refusal::ShortBuffer), "seed {seed}");
+        assert!(short.iter().all(|&byte| byte == 9), "seed {seed}");
+    }
+}
+
+#[test]
+fn what_is_read_is_written_back() {
+    let mut numbers = BTreeSet::new();
+    for seed in seeds("what_is_read_is_written_back", 40_000) {
+        let slice = messages::any(&mut Random::new(seed));
+        match message::read(&slice) {
+            Ok(read) => {
+                let mut buffer = slice.clone();
+                assert_eq!(
+                    message::encode(&read, message::entries(&slice), &mut buffer),
+                    Ok(read.length()),
+                    "seed {seed}"
+                );
+                assert_eq!(buffer, slice, "seed {seed}");
+            }
+            Err(refusal) => {
+                assert!(message::entries(&slice).is_empty(), "seed {seed}");
+                numbers.insert(refusal.number());
+            }
+        }
+    }
+    assert!(numbers.into_iter().eq(10..=13));
+}
+
+#[test]
+fn what_a_record_writes_is_read_to_its_fields() {
+    let mut numbers = BTreeSet::new();
+    for seed in seeds("what_a_record_writes_is_read_to_its_fields", 20_000) {
+        let random = &mut Random::new(seed);
+        let node = records::any(random);
+        let length = random.below(230);
+        let before = random.bytes(length);
+        let mut after = before.clone();
+        match node.write(&mut after) {
+            Ok(length) => {
+                assert!(node.is_sound() && node.phase < 64, "seed {seed}");
+                assert_eq!(after[length..], before[length..], "seed {seed}");
+                assert_eq!(length == 0, node.round == 2 && node.select == 0, "seed {seed}");
+                if length > 0 {
+                    let read = message::read(&after).unwrap_or_else(|refusal| panic!("seed {seed}: {refusal:?}"));
+                    assert_eq!((read.length(), read.kind()), (length, node.round), "seed {seed}");
+                    assert_eq!((read.run, read.phase), (node.run, node.phase), "seed {seed}");
+                    let plan = if node.round == 2 { node.select } else { node.vote };
+                    let stamp = if node.round == 2 { 0 } else { node.stamp };
+                    assert_eq!((read.plan(), read.stamp()), (plan, stamp), "seed {seed}");
+                    let listed: Vec<u8> = (0..node.phase)
+                        .map(|phase| (phase, node.history[usize::from(phase)]))
+                        .filter(|&(_, plan)| plan != 0 && node.crew.class == 3 && node.round == 1)
+                        .flat_map(|(phase, plan)| [phase, plan as u8, (plan >> 8) as u8])
+                        .collect();
+                    assert_eq!(message::entries(&after), listed, "seed {seed}");
+                }
+            }
+            Err(refusal) => {
+                assert_eq!(after, before, "seed {seed}");
+                numbers.insert(refusal.number());
+            }
+        }
+    }
+    assert!(numbers.into_iter().eq(7..=9));
+}
+
+/// Also: every refusal, and every answer of the selection in every class, comes up in these cases.
+#[test]
+fn accepted_takes_leave_sound_records_and_refused_ones_leave_all() {
+    let (mut asked, mut taken) = (BTreeSet::new(), BTreeSet::new());
+    let (mut validated, mut decided) = (BTreeSet::new(), BTreeSet::new());
+    for seed in seeds("accepted_takes_leave_sound_records_and_refused_ones_leave_all", 20_000) {
+        let (node, inbox) = inboxes::case(&mut Random::new(seed));
+        let class = node.crew.class;
+        let answer = rounds::ask(&node, &inbox);
+        let mut after = node;
+        match rounds::take(&mut after, &inbox) {
+            Ok(()) => {
+                assert!(node.is_sound() && after.is_sound(), "seed {seed}");
+                assert_eq!((after.crew, after.own, after.run), (node.crew, node.own, node.run), "seed {seed}");
+                assert_eq!(answer.is_ok(), node.round == 1, "seed {seed}");
+                match node.round {
+                    2 => _ = validated.insert((class, after.stamp == node.phase)),
+                    3 => _ = decided.insert((class, node.result != 0, after.result != node.result)),
+                    _ => (),
+                }
+            }
+            Err(refusal) => {
+                assert_eq!(after, node, "seed {seed}");
+                assert!(answer.is_err(), "seed {seed}");
+                taken.insert(refusal.number());
+            }
+        }
+        let kind = match answer {
+            Ok(Selection::Plan(_)) => 101,
+            Ok(Selection::Any) => 102,
+            Ok(Selection::None) => 103,
+            Err(refusal) => refusal.number(),
+        };
+        asked.insert((if kind > 100 { class } else { 0 }, kind));
+    }
+    assert!(taken.into_iter().eq([7, 8, 14]));
+    let refused = [(0, 7), (0, 8), (0, 14)];
+    let answered = (1..=3).flat_map(|class| (101..=103).map(move |kind| (class, kind)));
+    assert!(asked.into_iter().eq(refused.into_iter().chain(answered)));
+    assert_eq!(validated.len(), 4);
+    // A result stands for good, so three of the four combinations in each class.
+    assert_eq!(decided.len(), 9);
+}
+
+/// 01: "Two inboxes with the same counting messages, each in as many slots of one as of the other, give the same
+/// answers."
+#[test]
+fn the_order_of_slots_and_absent_slots_play_no_part() {
+    for seed in seeds("the_order_of_slots_and_absent_slots_play_no_part", 10_000) {
+        let random = &mut Random::new(seed);
+        let pool = plans::pool(random);
+        let crew = crews::accepted(random);
+        let node = records::sound_of(random, crew, &pool);
+        if node.phase == 64 {
+            continue;
+        }
+        let inbox = inboxes::whole(random, &node, &pool);
+        let mut other = vec![0; inbox.len()];
+        let order = random.order(usize::from(crew.n));
+        for (slot, from) in other.chunks_exact_mut(SLOT).zip(order) {
+            let bytes = &inbox[SLOT * from..SLOT * (from + 1)];
+            match message::read(bytes) {
+                Ok(read) if (read.run, read.kind(), read.phase) == (node.run, node.round, node.phase) => {
+                    inboxes::fill(random, slot, &bytes[..read.length()]);
+                }
+                _ => slot.fill(0),
+            }
+        }
+        let (mut one, mut second) = (node, node);
+        assert_eq!(rounds::ask(&node, &inbox), rounds::ask(&node, &other), "seed {seed}");
+        assert_eq!(rounds::take(&mut one, &inbox), rounds::take(&mut second, &other), "seed {seed}");
+        assert_eq!(one, second, "seed {seed}");
+    }
+}

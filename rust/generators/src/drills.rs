@@ -1,0 +1,195 @@
+//! Drill scripts, valid and damaged.
+
+use crate::random::Random;
+use crate::{crews, plans};
+use second_engine::drill::LONGEST_INPUT;
+use second_engine::Crew;
+
+/// A script without a bad line. It may go on to the spent mark, and cut after it.
+pub fn valid(random: &mut Random) -> Vec<u8> {
+    let mut crew = crews::accepted(random);
+    if random.chance(3, 4) {
+        while crew.n > 9 {
+            crew = crews::accepted(random);
+        }
+    }
+    let pool = plans::pool(random);
+    let initial = initial_plans(random, crew, &pool);
+    let mut script = Script { text: String::new(), crew, phase: 1, round: 1 };
+    script.line(&[crew.class, crew.n, crew.b, crew.f, crew.d].map(|number| number.to_string()));
+    script.line(&initial.iter().map(u16::to_string).collect::<Vec<_>>());
+    let gos = random.pick(&[0, 1, 3, 6, 9, 30, 189]);
+    let business = random.pick(&[0, 1, 4, 12]);
+    for _ in 0..gos {
+        if script.phase > 63 {
+            break;
+        }
+        for _ in 0..random.between(0, business) {
+            script.cut_or_say(random, &initial, &pool);
+        }
+        script.go();
+    }
+    if random.chance(1, 4) {
+        script.cut(random);
+    }
+    script.text.into_bytes()
+}
+
+/// Mostly some b zeros; sometimes none, or any number of them. Plans are common or of a pool.
+fn initial_plans(random: &mut Random, crew: Crew, pool: &[u16]) -> Vec<u16> {
+    let n = usize::from(crew.n);
+    let any_zeros = random.between(0, n);
+    let zeros = random.pick(&[0, usize::from(crew.b), usize::from(crew.b), usize::from(crew.b), any_zeros]);
+    let mut initial: Vec<u16> = (0..n).map(|_| random.pick(pool)).collect();
+    for place in random.order(n).into_iter().take(zeros) {
+        initial[place] = 0;
+    }
+    initial
+}
+
+struct Script {
+    text: String,
+    crew: Crew,
+    phase: usize,
+    round: usize,
+}
+
+impl Script {
+    fn line(&mut self, fields: &[String]) {
+        self.text.push_str(&fields.join(" "));
+        self.text.push('\n');
+    }
+
+    fn go(&mut self) {
+        self.text.push_str("go\n");
+        self.round = match (self.crew.class, self.round) {
+            (1, 1) => 3,
+            (_, 3) => 1,
+            (_, round) => round + 1,
+        };
+        self.phase += usize::from(self.round == 1);
+    }
+
+    /// One cut, or cuts that leave a node half deaf.
+    fn cut(&mut self, random: &mut Random) {
+        let n = usize::from(self.crew.n);
+        let r = random.below(n);
+        let count = random.pick(&[1, 1, n.div_ceil(2)]);
+        for s in random.order(n).into_iter().take(count) {
+            self.text.push_str(&format!("cut {s} {r}\n"));
+        }
+    }
+
+    /// A cut, or a say of a node that is not honest: often the same to many, and with the highest stamp.
+    fn cut_or_say(&mut self, random: &mut Random, initial: &[u16], pool: &[u16]) {
+        let liars: Vec<usize> = (0..initial.len()).filter(|&own| initial[own] == 0).collect();
+        if liars.is_empty() || random.chance(1, 4) {
+            return self.cut(random);
+        }
+        let highest = [self.phase - 1, 0, self.phase][self.round - 1];
+        let any_stamp = random.between(0, highest);
+        let (s, v, t) = (random.pick(&liars), random.pick(pool), random.pick(&[0, highest, highest, any_stamp]));
+        let (first, last) = if random.chance(1, 2) {
+            (0, initial.len())
+        } else {
+            let r = random.below(initial.len());
+            (r, r + 1)
+        };
+        for r in first..last {
+            self.text.push_str(&format!("say {s} {r} {v} {t}\n"));
+        }
+    }
+}
+
+/// A valid script with one thing wrong with it, or near it.
+pub fn damaged(random: &mut Random) -> Vec<u8> {
+    let mut script = valid(random);
+    match random.below(10) {
+        0 => script.truncate(random.below(script.len() + 1)),
+        1 => change_byte(random, &mut script),
+        2 => insert(random, &mut script, b" "),
+        3 => insert(random, &mut script, b"\n"),
+        4 => insert(random, &mut script, b"0"),
+        5 => insert(random, &mut script, b"\r"),
+        6 => append_line(random, &mut script),
+        7 => insert_line(random, &mut script),
+        8 => {
+            let place = random.below(script.len());
+            script.remove(place);
+        }
+        _ => lengthen(random, &mut script),
+    }
+    script
+}
+
+fn change_byte(random: &mut Random, script: &mut [u8]) {
+    let place = random.below(script.len());
+    let any_byte = random.byte();
+    script[place] = random.pick(&[b'0', b'1', b'9', b' ', b'-', b'+', b'\n', 0, 255, any_byte]);
+}
+
+fn insert(random: &mut Random, script: &mut Vec<u8>, bytes: &[u8]) {
+    let place = random.below(script.len() + 1);
+    script.splice(place..place, bytes.iter().copied());
+}
+
+/// A line that is bad, or bad in most scripts.
+fn odd_line(random: &mut Random) -> &'static [u8] {
+    const LINES: [&[u8]; 22] = [
+        b"\n",
+        b"GO\n",
+        b"go \n",
+        b" go\n",
+        b"go 1\n",
+        b"go\r\n",
+        b"gogo\n",
+        b"stop\n",
+        b"cut 0\n",
+        b"cut 0 0 0\n",
+        b"cut 0  0\n",
+        b"cut 0 32\n",
+        b"cut 00 0\n",
+        b"cut +0 0\n",
+        b"cut 0 4294967296\n",
+        b"cut 0 18446744073709551616\n",
+        b"say 0 0 5 0\n",
+        b"say 0 0 0 0\n",
+        b"say 0 0 65536 0\n",
+        b"say 0 0 5 64\n",
+        b"say 0 0 5\n",
+        b"say 0 0 5 0 0\n",
+    ];
+    random.pick(&LINES)
+}
+
+fn append_line(random: &mut Random, script: &mut Vec<u8>) {
+    let line = odd_line(random);
+    script.extend_from_slice(line);
+}
+
+fn insert_line(random: &mut Random, script: &mut Vec<u8>) {
+    let line = odd_line(random);
+    let ends: Vec<usize> = (0..script.len()).filter(|&place| script[place] == b'\n').map(|place| place + 1).collect();
+    let place = random.pick(&ends);
+    script.splice(place..place, line.iter().copied());
+}
+
+/// Makes the script as long as may be, or one byte longer, with cuts that do no harm.
+fn lengthen(random: &mut Random, script: &mut Vec<u8>) {
+    let length = LONGEST_INPUT + random.below(2);
+    while script.len() + 8 <= length {
+        script.extend_from_slice(b"cut 0 0\n");
+    }
+    while script.len() < length {
+        script.push(b'\n');
+    }
+}
+
+/// Any script.
+pub fn any(random: &mut Random) -> Vec<u8> {
+    if random.chance(1, 2) {
+        valid(random)
+    } else {
+        damaged(random)
+    }
+}

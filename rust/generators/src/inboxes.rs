@@ -1,0 +1,182 @@
+//! Inboxes for a record: every mixture of counting, foreign, malformed and hostile slots, with counts at the bounds.
+
+use crate::messages::{self, Fields};
+use crate::plans;
+use crate::random::Random;
+use second_engine::inbox::SLOT;
+use second_engine::{Crew, Node};
+
+/// An inbox of 202n bytes for the record's coming round.
+pub fn whole(random: &mut Random, node: &Node, pool: &[u16]) -> Vec<u8> {
+    let n = usize::from(node.crew.n);
+    let mut inbox = vec![0; SLOT * n];
+    let count = near_bound(random, node.crew);
+    // Leaders at a bound, or few enough to have rivals.
+    let leaders = if random.chance(1, 2) { near_bound(random, node.crew) } else { random.between(0, count) };
+    let scene = Scene::new(random, node, pool);
+    for (place, q) in random.order(n).into_iter().enumerate() {
+        let slot = &mut inbox[SLOT * q..SLOT * (q + 1)];
+        if place < count {
+            let bytes = scene.counting(random, node, place < leaders);
+            fill(random, slot, &bytes);
+        } else {
+            absent(random, slot, node, pool);
+        }
+    }
+    if random.chance(1, 6) {
+        repeat_slots(random, &mut inbox);
+    }
+    inbox
+}
+
+/// An inbox of any length, seldom 202n.
+pub fn of_any_length(random: &mut Random, node: &Node) -> Vec<u8> {
+    let right = SLOT * usize::from(node.crew.n);
+    let length = random.pick(&[0, 1, SLOT, right.saturating_sub(1), right, right + 1, right + SLOT, 6_464]);
+    random.bytes(length)
+}
+
+/// A number of slots at, just below or just above one of the bounds of the rules.
+fn near_bound(random: &mut Random, crew: Crew) -> usize {
+    let (n, b, d) = (usize::from(crew.n), usize::from(crew.b), usize::from(crew.d));
+    let e = (n + b).saturating_sub(d);
+    let any_count = random.between(0, n);
+    let bound = random.pick(&[e, 2 * e, e + b, d, b, (n + b) / 2, n, n, any_count]);
+    (bound + random.below(3)).saturating_sub(1).min(n)
+}
+
+/// What the counting slots of one inbox have in common: few plans, few stamps, and pairs that many of them list.
+struct Scene {
+    pool: Vec<u16>,
+    leader: (u16, u8),
+    stamps: Vec<u8>,
+    listed: Vec<(u8, u16)>,
+    listing: usize,
+}
+
+impl Scene {
+    fn new(random: &mut Random, node: &Node, pool: &[u16]) -> Scene {
+        let highest = match node.round {
+            1 => node.phase.saturating_sub(1),
+            _ => node.phase,
+        };
+        let mut stamps = vec![0, highest];
+        for _ in 0..random.below(3) {
+            stamps.push(random.between(0, usize::from(highest)) as u8);
+        }
+        // Several plans can have D slots only where most stamps are the phase.
+        if random.chance(1, 3) {
+            stamps = vec![highest];
+        }
+        let leader = (random.pick(pool), random.pick(&stamps));
+        let mut listed: Vec<(u8, u16)> = stamps.iter().map(|&stamp| (stamp, random.pick(pool))).collect();
+        listed.push((leader.1, leader.0));
+        Scene { pool: pool.to_vec(), leader, stamps, listed, listing: random.pick(&[0, 2, 4, 7, 8]) }
+    }
+
+    /// A counting message: the leading one, or another of few.
+    fn counting(&self, random: &mut Random, node: &Node, is_leading: bool) -> Vec<u8> {
+        let mut fields = messages::within(random, u16::from(node.round), node.run, node.phase, &self.pool);
+        if is_leading {
+            (fields.plan, fields.stamp) = self.leader;
+        } else if random.chance(3, 4) {
+            fields.stamp = random.pick(&self.stamps);
+        }
+        if node.round == 1 && random.chance(3, 4) {
+            self.list(random, &mut fields);
+        }
+        fields.layout()
+    }
+
+    /// Entries of the pairs in common, at most one for each phase.
+    fn list(&self, random: &mut Random, fields: &mut Fields) {
+        let mut plans = [0; 64];
+        for &(phase, plan) in &self.listed {
+            if phase < fields.phase && random.chance(self.listing, 8) {
+                plans[usize::from(phase)] = plan;
+            }
+        }
+        if random.chance(1, 2) {
+            plans[usize::from(fields.stamp)] = fields.plan;
+        }
+        fields.entries = (0u8..).zip(plans).filter(|&(_, plan)| plan != 0).collect();
+        fields.k = fields.entries.len() as u8;
+    }
+}
+
+/// Puts the bytes at the slot's front, sometimes with rubbish behind them.
+pub fn fill(random: &mut Random, slot: &mut [u8], bytes: &[u8]) {
+    slot.fill(0);
+    let length = bytes.len().min(slot.len());
+    slot[..length].copy_from_slice(&bytes[..length]);
+    if random.chance(1, 4) {
+        slot[length..].fill_with(|| random.byte());
+    }
+}
+
+/// A slot that hardly ever counts: cleared, of another run, kind or phase, malformed, or random.
+pub fn absent(random: &mut Random, slot: &mut [u8], node: &Node, pool: &[u16]) {
+    // A record that is not sound can stand at a phase that no message has.
+    let phase = node.phase.clamp(1, 63);
+    let kind = u16::from(node.round.clamp(1, 3));
+    let mut fields = messages::within(random, kind, node.run, phase, pool);
+    let other_phase = random.between(1, 63) as u8;
+    let bytes = match random.below(9) {
+        0..=2 => Vec::new(),
+        3 => {
+            fields.run ^= 1 << random.below(32);
+            fields.layout()
+        }
+        4 => messages::within(random, kind % 3 + 1, node.run, phase, pool).layout(),
+        5 => messages::within(random, kind, node.run, other_phase, pool).layout(),
+        6 => messages::damaged(random),
+        7 => almost_counting(random, fields),
+        _ => random.bytes(SLOT),
+    };
+    fill(random, slot, &bytes);
+}
+
+/// A message of the coming round with one bound broken or the length wrong, beyond the slot too.
+fn almost_counting(random: &mut Random, mut fields: Fields) -> Vec<u8> {
+    match random.below(5) {
+        0 => fields.plan = 0,
+        1 => fields.stamp = fields.phase + 1,
+        2 => fields.k = fields.k.wrapping_add(1),
+        3 => fields.entries.iter_mut().for_each(|entry| entry.1 = 0),
+        _ => {
+            let mut bytes = fields.layout();
+            let length: u16 = random.pick(&[203, 0, 8, bytes.len() as u16 - 1, bytes.len() as u16 + 1]);
+            bytes[..2].copy_from_slice(&length.to_le_bytes());
+            return bytes;
+        }
+    }
+    fields.layout()
+}
+
+/// Copies some slots over others.
+fn repeat_slots(random: &mut Random, inbox: &mut [u8]) {
+    let n = inbox.len() / SLOT;
+    for _ in 0..random.between(1, n) {
+        let (from, to) = (random.below(n), random.below(n));
+        inbox.copy_within(SLOT * from..SLOT * (from + 1), SLOT * to);
+    }
+}
+
+/// A record and an inbox for it: mostly sound and whole.
+pub fn case(random: &mut Random) -> (Node, Vec<u8>) {
+    let pool = plans::pool(random);
+    let node = match random.below(16) {
+        0 => crate::records::any(random),
+        _ => {
+            let crew = crate::crews::accepted(random);
+            crate::records::sound_of(random, crew, &pool)
+        }
+    };
+    let is_placed = (1..=63).contains(&node.phase) && (1..=3).contains(&node.round);
+    let inbox = if is_placed && node.crew.n > 0 && random.chance(31, 32) {
+        whole(random, &node, &pool)
+    } else {
+        of_any_length(random, &node)
+    };
+    (node, inbox)
+}

@@ -1,0 +1,13 @@
+//! Generators of test cases, each a function of a seed: crews, records, messages, inboxes, whole runs, drill scripts.
+//! Any engine may be fed from them; they use the second engine's types and its reader, never its rules.
+
+pub mod crews;
+pub mod drills;
+pub mod inboxes;
+pub mod messages;
+pub mod plans;
+pub mod random;
+pub mod records;
+pub mod runs;
+
+pub use random::Random;

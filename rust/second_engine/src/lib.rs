@@ -1,0 +1,18 @@
+//! The second engine: the rules of the scope paper (01) in plain Rust, byte exact.
+//! It is written from the paper's sentences alone; comparison tests hold it against the proved engine.
+
+pub mod crew;
+pub mod drill;
+pub mod inbox;
+pub mod message;
+pub mod mutation;
+pub mod node;
+pub mod refusal;
+pub mod rounds;
+
+pub use crew::Crew;
+pub use message::{Body, Message};
+pub use mutation::Mutation;
+pub use node::Node;
+pub use refusal::Refusal;
+pub use rounds::Selection;

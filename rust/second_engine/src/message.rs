@@ -1,0 +1,229 @@
+//! Messages: reading, their entries, and their one encoding (01, 'Messages'). Messages know nothing of crews.
+
+use crate::refusal::Refusal;
+
+/// 01: "Header of 9 bytes: length (2, counting every byte of the message), kind (2), run (4), phase (1)."
+pub const HEADER: usize = 9;
+/// 01: "k entries of phase (1) and plan (2)"
+pub const ENTRY: usize = 3;
+/// 01: "k at most 63"
+pub const MOST_ENTRIES: u8 = 63;
+pub const MOST_ENTRY_BYTES: usize = ENTRY * MOST_ENTRIES as usize;
+/// 01: "phase 1 to 63"
+pub const LAST_PHASE: u8 = 63;
+/// 01: "length 13 + 3k", "length 11", "length 12"
+pub const SELECTION_LENGTH: usize = 13;
+pub const VALIDATION_LENGTH: usize = 11;
+pub const DECISION_LENGTH: usize = 12;
+/// The longest message: a selection with 63 entries.
+pub const LONGEST: usize = SELECTION_LENGTH + MOST_ENTRY_BYTES;
+
+/// The fields of a message, without its entries.
+#[derive(Clone, Copy, Debug, PartialEq, Eq)]
+pub struct Message {
+    pub run: u32,
+    pub phase: u8,
+    pub body: Body,
+}
+
+/// What the three kinds carry; k is the number of entries.
+#[derive(Clone, Copy, Debug, PartialEq, Eq)]
+pub enum Body {
+    Selection { vote: u16, stamp: u8, k: u8 },
+    Validation { plan: u16 },
+    Decision { vote: u16, stamp: u8 },
+}
+
+impl Message {
+    /// 01: "kind 1, selection", "kind 2, validation", "kind 3, decision"
+    pub fn kind(&self) -> u8 {
+        match self.body {
+            Body::Selection { .. } => 1,
+            Body::Validation { .. } => 2,
+            Body::Decision { .. } => 3,
+        }
+    }
+
+    /// The length that stands in the header.
+    pub fn length(&self) -> usize {
+        match self.body {
+            Body::Selection { k, .. } => SELECTION_LENGTH + ENTRY * usize::from(k),
+            Body::Validation { .. } => VALIDATION_LENGTH,
+            Body::Decision { .. } => DECISION_LENGTH,
+        }
+    }
+
+    /// The vote, in kind 2 the plan.
+    pub fn plan(&self) -> u16 {
+        match self.body {
+            Body::Selection { vote, .. } | Body::Decision { vote, .. } => vote,
+            Body::Validation { plan } => plan,
+        }
+    }
+
+    /// The stamp, 0 in kind 2, which has none.
+    pub fn stamp(&self) -> u8 {
+        match self.body {
+            Body::Selection { stamp, .. } | Body::Decision { stamp, .. } => stamp,
+            Body::Validation { .. } => 0,
+        }
+    }
+
+    /// Whether the message with these entry bytes is within the bounds.
+    pub fn is_within_bounds(&self, entries: &[u8]) -> bool {
+        // 01: "Bounds: phase 1 to 63; plans not 0"
+        if !(1..=LAST_PHASE).contains(&self.phase) || self.plan() == 0 {
+            return false;
+        }
+        // 01: "stamp below the phase in kind 1, at most the phase in kind 3"
+        match self.body {
+            Body::Selection { stamp, k, .. } => {
+                k <= MOST_ENTRIES
+                    && entries.len() == ENTRY * usize::from(k)
+                    && stamp < self.phase
+                    && are_entries_within_bounds(self.phase, entries)
+            }
+            Body::Validation { .. } => entries.is_empty(),
+            Body::Decision { stamp, .. } => entries.is_empty() && stamp <= self.phase,
+        }
+    }
+}
+
+/// 01: "entries whose phases rise strictly and are below the message's phase"; "plans not 0" holds for them too.
+fn are_entries_within_bounds(phase: u8, entries: &[u8]) -> bool {
+    let mut least = 0;
+    for entry in entries.chunks_exact(ENTRY) {
+        if entry[0] < least || entry[0] >= phase || (entry[1] == 0 && entry[2] == 0) {
+            return false;
+        }
+        // An entry's phase is below 63 here, so this does not overflow.
+        least = entry[0] + 1;
+    }
+    true
+}
+
+/// Reads the message at the slice's front.
+pub fn read(slice: &[u8]) -> Result<Message, Refusal> {
+    read_with_entries(slice).map(|(message, _)| message)
+}
+
+/// 01: "A second answer to a read, got on its own, shows the entries as a part of the caller's slice: an empty part for
+/// kinds 2 and 3 and where reading refuses."
+pub fn entries(slice: &[u8]) -> &[u8] {
+    read_with_entries(slice).map_or(&[], |(_, entries)| entries)
+}
+
+/// Both answers to a read at once.
+pub fn read_with_entries(slice: &[u8]) -> Result<(Message, &[u8]), Refusal> {
+    // 01: "10 slice under 9 bytes, length under 9, or length beyond the slice"
+    if slice.len() < HEADER {
+        return Err(Refusal::Slice);
+    }
+    let length = usize::from(two_bytes(slice, 0));
+    if length < HEADER || length > slice.len() {
+        return Err(Refusal::Slice);
+    }
+    // 01: "Bytes after the length are ignored."
+    let bytes = &slice[..length];
+    let kind = two_bytes(bytes, 2);
+    let run = u32::from_le_bytes([bytes[4], bytes[5], bytes[6], bytes[7]]);
+    let phase = bytes[8];
+    // 01: "11 kind not 1 to 3"; then "12 length not that of the kind"
+    let (body, entries) = match kind {
+        1 => {
+            // 01: "kind 1: under 13, or not 13 + 3k for the k that stands there, k above 63 included"
+            if length < SELECTION_LENGTH || length != SELECTION_LENGTH + ENTRY * usize::from(bytes[12]) {
+                return Err(Refusal::Length);
+            }
+            let body = Body::Selection { vote: two_bytes(bytes, 9), stamp: bytes[11], k: bytes[12] };
+            (body, &bytes[SELECTION_LENGTH..])
+        }
+        2 => {
+            if length != VALIDATION_LENGTH {
+                return Err(Refusal::Length);
+            }
+            (Body::Validation { plan: two_bytes(bytes, 9) }, &bytes[length..])
+        }
+        3 => {
+            if length != DECISION_LENGTH {
+                return Err(Refusal::Length);
+            }
+            (Body::Decision { vote: two_bytes(bytes, 9), stamp: bytes[11] }, &bytes[length..])
+        }
+        _ => return Err(Refusal::Kind),
+    };
+    // 01: "13 a bound broken, or k above 63"
+    let message = Message { run, phase, body };
+    if !message.is_within_bounds(entries) {
+        return Err(Refusal::Bound);
+    }
+    Ok((message, entries))
+}
+
+/// 01: "byte order is little-endian"
+fn two_bytes(bytes: &[u8], at: usize) -> u16 {
+    u16::from_le_bytes([bytes[at], bytes[at + 1]])
+}
+
+/// 01: "Fields within the bounds have one encoding, this layout." Writes the message with these entry bytes to the
+/// buffer's front and gives its length. The paper names no refusals for writing given fields: here fields outside the
+/// bounds are 13, then a buffer shorter than the message is 9.
+pub fn encode(message: &Message, entries: &[u8], buffer: &mut [u8]) -> Result<usize, Refusal> {
+    if !message.is_within_bounds(entries) {
+        return Err(Refusal::Bound);
+    }
+    match message.body {
+        Body::Selection { vote, stamp, .. } => put_selection(message.run, message.phase, vote, stamp, entries, buffer),
+        Body::Validation { plan } => put_validation(message.run, message.phase, plan, buffer),
+        Body::Decision { vote, stamp } => put_decision(message.run, message.phase, vote, stamp, buffer),
+    }
+}
+
+/// 01: "kind 1, selection: vote (2), stamp (1), k (1), k entries of phase (1) and plan (2); length 13 + 3k"
+pub(crate) fn put_selection(
+    run: u32,
+    phase: u8,
+    vote: u16,
+    stamp: u8,
+    entries: &[u8],
+    buffer: &mut [u8],
+) -> Result<usize, Refusal> {
+    let part = front(buffer, SELECTION_LENGTH + entries.len())?;
+    put_header(part, 1, run, phase);
+    part[9..11].copy_from_slice(&vote.to_le_bytes());
+    part[11] = stamp;
+    part[12] = (entries.len() / ENTRY) as u8;
+    part[SELECTION_LENGTH..].copy_from_slice(entries);
+    Ok(part.len())
+}
+
+/// 01: "kind 2, validation: plan (2); length 11"
+pub(crate) fn put_validation(run: u32, phase: u8, plan: u16, buffer: &mut [u8]) -> Result<usize, Refusal> {
+    let part = front(buffer, VALIDATION_LENGTH)?;
+    put_header(part, 2, run, phase);
+    part[9..11].copy_from_slice(&plan.to_le_bytes());
+    Ok(part.len())
+}
+
+/// 01: "kind 3, decision: vote (2), stamp (1); length 12"
+pub(crate) fn put_decision(run: u32, phase: u8, vote: u16, stamp: u8, buffer: &mut [u8]) -> Result<usize, Refusal> {
+    let part = front(buffer, DECISION_LENGTH)?;
+    put_header(part, 3, run, phase);
+    part[9..11].copy_from_slice(&vote.to_le_bytes());
+    part[11] = stamp;
+    Ok(part.len())
+}
+
+/// 01: "9 buffer shorter than the message. Bytes after a written message keep their values."
+fn front(buffer: &mut [u8], length: usize) -> Result<&mut [u8], Refusal> {
+    buffer.get_mut(..length).ok_or(Refusal::ShortBuffer)
+}
+
+/// The header, with the part's length as the message's.
+fn put_header(part: &mut [u8], kind: u16, run: u32, phase: u8) {
+    let length = part.len() as u16;
+    part[..2].copy_from_slice(&length.to_le_bytes());
+    part[2..4].copy_from_slice(&kind.to_le_bytes());
+    part[4..8].copy_from_slice(&run.to_le_bytes());
+    part[8] = phase;
+}

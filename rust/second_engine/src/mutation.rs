@@ -1,0 +1,69 @@
+//! Mutants: wrong engines that the comparison has to tell from the right one (01, 'Classroom errors').
+
+/// One wrong rule, or none.
+#[derive(Clone, Copy, Debug, PartialEq, Eq, Default)]
+pub enum Mutation {
+    /// The engine of the paper.
+    #[default]
+    Unmutated,
+    /// 01: "A majority of the slots that came, instead of a bound from n, D and b.", in the selection,
+    MajorityOfArrivalsSelects,
+    /// in the validation,
+    MajorityOfArrivalsValidates,
+    /// and in the decision.
+    MajorityOfArrivalsDecides,
+    /// 01: "The newest stamp wins."
+    NewestStampWins,
+    /// 01: "After a failed validation, going back to the plan this node selected.", read as its select,
+    BackToOwnSelection,
+    /// and as its own history entry at the stamp (the source's line 24).
+    BackToOwnHistory,
+    /// 01: "Deciding in class 3 on votes with older stamps."
+    OldStampsDecide,
+    /// 01: "Letting one malformed slot spoil the inbox."
+    MalformedSlotSpoils,
+    /// Against 01: "Counts are of slots, never of distinct contents."
+    DistinctContents,
+    /// An engine "that selects properly and then echoes its vote" (01, four questions).
+    EchoesVote,
+    /// Against 01: "A result stands for good."
+    ResultReplaced,
+    /// "More than E slots" taken as at least E, where plans are backed or slots possible,
+    AtLeastE,
+    /// "more than b" as at least b,
+    AtLeastB,
+    /// the bounds of 'any' likewise,
+    AnyAtLeast,
+    /// "2c > n + b" as at least n + b,
+    HalfValidates,
+    /// and "at least D slots" as more than D.
+    MoreThanD,
+    /// Against 01: "the least plan on a tie", in the selection,
+    GreatestOnTie,
+    /// and "result becomes the least", in the decision.
+    GreatestDecides,
+}
+
+impl Mutation {
+    /// Every mutant; the engine of the paper is not among them.
+    pub const MUTANTS: [Mutation; 18] = [
+        Mutation::MajorityOfArrivalsSelects,
+        Mutation::MajorityOfArrivalsValidates,
+        Mutation::MajorityOfArrivalsDecides,
+        Mutation::NewestStampWins,
+        Mutation::BackToOwnSelection,
+        Mutation::BackToOwnHistory,
+        Mutation::OldStampsDecide,
+        Mutation::MalformedSlotSpoils,
+        Mutation::DistinctContents,
+        Mutation::EchoesVote,
+        Mutation::ResultReplaced,
+        Mutation::AtLeastE,
+        Mutation::AtLeastB,
+        Mutation::AnyAtLeast,
+        Mutation::HalfValidates,
+        Mutation::MoreThanD,
+        Mutation::GreatestOnTie,
+        Mutation::GreatestDecides,
+    ];
+}

@@ -1,0 +1,65 @@
+//! What the operations turn down, with the paper's numbers (01, 'What each operation turns down').
+
+/// A refused call. Its discriminant is the paper's number.
+#[derive(Clone, Copy, Debug, PartialEq, Eq, PartialOrd, Ord, Hash)]
+#[repr(u8)]
+pub enum Refusal {
+    /// 01: "1 class not 1 to 3"
+    Class = 1,
+    /// 01: "2 n not 1 to 32"
+    Nodes = 2,
+    /// 01: "3 D + b + f > n"
+    DecisionOutOfReach = 3,
+    /// 01: "4 D too low for the class"
+    DecisionTooLow = 4,
+    /// 01: "5 own number not below n"
+    OwnNumber = 5,
+    /// 01: "6 plan 0"
+    NoPlan = 6,
+    /// 01: "7 record not sound"; also asking outside round 1
+    NotSound = 7,
+    /// 01: "8 spent"
+    Spent = 8,
+    /// 01: "9 buffer shorter than the message"
+    ShortBuffer = 9,
+    /// 01: "10 slice under 9 bytes, length under 9, or length beyond the slice"
+    Slice = 10,
+    /// 01: "11 kind not 1 to 3"
+    Kind = 11,
+    /// 01: "12 length not that of the kind"
+    Length = 12,
+    /// 01: "13 a bound broken, or k above 63"
+    Bound = 13,
+    /// 01: "14 inbox length not 202n"
+    InboxLength = 14,
+}
+
+impl Refusal {
+    /// Every refusal, in the paper's order.
+    pub const ALL: [Refusal; 14] = [
+        Refusal::Class,
+        Refusal::Nodes,
+        Refusal::DecisionOutOfReach,
+        Refusal::DecisionTooLow,
+        Refusal::OwnNumber,
+        Refusal::NoPlan,
+        Refusal::NotSound,
+        Refusal::Spent,
+        Refusal::ShortBuffer,
+        Refusal::Slice,
+        Refusal::Kind,
+        Refusal::Length,
+        Refusal::Bound,
+        Refusal::InboxLength,
+    ];
+
+    /// The paper's number, 1 to 14.
+    pub const fn number(self) -> u8 {
+        self as u8
+    }
+
+    /// The refusal with this number, for engines that answer in numbers.
+    pub fn from_number(number: u8) -> Option<Refusal> {
+        Self::ALL.into_iter().find(|refusal| refusal.number() == number)
+    }
+}

@@ -1,0 +1,175 @@
+//! Every refusal number, in the paper's order: the first that applies is given.
+
+use second_engine::inbox::SLOT;
+use second_engine::node::{DECISION, SELECTION, VALIDATION};
+use second_engine::{message, rounds, Crew, Node, Refusal};
+
+const CREW: Crew = Crew::new(3, 4, 1, 0, 3);
+
+fn node() -> Node {
+    Node::start(CREW, 0, 1, 5).expect("the start is in order")
+}
+
+fn number<T>(answer: Result<T, Refusal>) -> u8 {
+    answer.err().map_or(0, Refusal::number)
+}
+
+#[test]
+fn crews() {
+    assert_eq!(number(Crew::new(0, 0, 0, 0, 0).accept()), 1);
+    assert_eq!(number(Crew::new(4, 33, 0, 0, 0).accept()), 1);
+    assert_eq!(number(Crew::new(1, 33, 255, 0, 0).accept()), 2);
+    assert_eq!(number(Crew::new(1, 0, 0, 0, 0).accept()), 2);
+    // Sums do not wrap at a byte.
+    assert_eq!(number(Crew::new(3, 32, 128, 127, 255).accept()), 3);
+    assert_eq!(number(Crew::new(3, 32, 255, 1, 1).accept()), 3);
+    assert_eq!(number(Crew::new(3, 1, 0, 0, 0).accept()), 4);
+    assert_eq!(number(Crew::new(3, 1, 0, 0, 1).accept()), 0);
+    assert_eq!(number(Crew::new(2, 32, 7, 1, 22).accept()), 4);
+    assert_eq!(number(Crew::new(2, 32, 7, 1, 23).accept()), 0);
+}
+
+#[test]
+fn starts() {
+    assert_eq!(number(Node::start(Crew::new(3, 4, 1, 0, 2), 9, 1, 0)), 4);
+    assert_eq!(number(Node::start(CREW, 4, 1, 0)), 5);
+    assert_eq!(number(Node::start(CREW, 255, 1, 5)), 5);
+    assert_eq!(number(Node::start(CREW, 3, 1, 0)), 6);
+    assert!(node().is_sound());
+}
+
+/// Each condition of soundness, broken alone.
+#[test]
+fn soundness() {
+    let with = |change: fn(&mut Node)| {
+        let mut node = node();
+        (node.phase, node.round, node.stamp) = (5, VALIDATION, 4);
+        change(&mut node);
+        node.is_sound()
+    };
+    assert!(with(|_| ()));
+    assert!(!with(|node| node.crew.d = 4));
+    assert!(!with(|node| node.own = 4));
+    assert!(!with(|node| node.phase = 0));
+    assert!(!with(|node| node.phase = 65));
+    assert!(!with(|node| node.phase = 255));
+    assert!(!with(|node| node.round = 0));
+    assert!(!with(|node| node.round = 4));
+    assert!(!with(|node| node.phase = 64));
+    assert!(with(|node| (node.phase, node.round, node.stamp) = (64, SELECTION, 63)));
+    assert!(!with(|node| (node.phase, node.round, node.stamp) = (64, SELECTION, 64)));
+    assert!(!with(|node| (node.phase, node.round) = (64, DECISION)));
+    assert!(!with(|node| node.vote = 0));
+    assert!(!with(|node| node.base = 0));
+    assert!(!with(|node| node.history[0] = 0));
+    assert!(!with(|node| node.stamp = 5));
+    assert!(with(|node| (node.round, node.stamp) = (DECISION, 5)));
+    assert!(!with(|node| (node.round, node.stamp) = (DECISION, 6)));
+    assert!(with(|node| node.history[5] = 1));
+    assert!(!with(|node| node.history[6] = 1));
+    assert!(!with(|node| (node.round, node.history[5]) = (SELECTION, 1)));
+    assert!(with(|node| (node.round, node.history[4]) = (SELECTION, 1)));
+    assert!(!with(|node| node.crew = Crew::new(1, 6, 1, 0, 5)));
+    assert!(!with(|node| (node.crew, node.round) = (Crew::new(1, 6, 1, 0, 5), DECISION)));
+    assert!(with(|node| (node.crew, node.round, node.stamp) = (Crew::new(1, 6, 1, 0, 5), DECISION, 0)));
+    // Fields that soundness does not name may be anything.
+    assert!(with(|node| (node.select, node.result, node.base, node.run) = (65_535, 9, 7, 0)));
+}
+
+#[test]
+fn writing() {
+    let unsound = Node { vote: 0, phase: 64, ..node() };
+    let spent = Node { phase: 64, ..node() };
+    assert_eq!(number(unsound.write(&mut [])), 7);
+    assert_eq!(number(spent.write(&mut [])), 8);
+    let mut short = [7; 15];
+    assert_eq!(number(node().write(&mut short)), 9);
+    assert_eq!(short, [7; 15]);
+    let mut exact = [7; 17];
+    assert_eq!(node().write(&mut exact), Ok(16));
+    assert_eq!(exact, [16, 0, 1, 0, 1, 0, 0, 0, 1, 5, 0, 0, 1, 0, 5, 0, 7]);
+    // Silence is never 9.
+    let silent = Node { round: VALIDATION, ..node() };
+    assert_eq!(silent.write(&mut []), Ok(0));
+    let mut buffer = [7; 12];
+    assert_eq!(Node { select: 258, ..silent }.write(&mut buffer), Ok(11));
+    assert_eq!(buffer, [11, 0, 2, 0, 1, 0, 0, 0, 1, 2, 1, 7]);
+    assert_eq!(Node { round: DECISION, stamp: 1, ..node() }.write(&mut buffer), Ok(12));
+    assert_eq!(buffer, [12, 0, 3, 0, 1, 0, 0, 0, 1, 5, 0, 1]);
+}
+
+#[test]
+fn reading() {
+    let read = |bytes: &[u8]| number(message::read(bytes));
+    assert_eq!(read(&[]), 10);
+    assert_eq!(read(&[8, 0, 1, 0, 1, 0, 0, 0]), 10);
+    assert_eq!(read(&[8, 0, 9, 0, 1, 0, 0, 0, 1]), 10);
+    assert_eq!(read(&[10, 0, 9, 0, 1, 0, 0, 0, 1]), 10);
+    assert_eq!(read(&[9, 0, 0, 0, 1, 0, 0, 0, 0]), 11);
+    assert_eq!(read(&[9, 0, 4, 0, 1, 0, 0, 0, 0]), 11);
+    assert_eq!(read(&[11, 0, 2, 1, 1, 0, 0, 0, 1, 5, 0]), 11);
+    assert_eq!(read(&[9, 0, 1, 0, 1, 0, 0, 0, 0]), 12);
+    assert_eq!(read(&[12, 0, 1, 0, 1, 0, 0, 0, 1, 5, 0, 0, 0]), 12);
+    assert_eq!(read(&[12, 0, 2, 0, 1, 0, 0, 0, 0, 5, 0, 0]), 12);
+    assert_eq!(read(&[11, 0, 3, 0, 1, 0, 0, 0, 0, 5, 0]), 12);
+    assert_eq!(read(&[13, 0, 1, 0, 1, 0, 0, 0, 0, 0, 0, 0, 1]), 12);
+    assert_eq!(read(&[13, 0, 1, 0, 1, 0, 0, 0, 0, 0, 0, 0, 64]), 12);
+    assert_eq!(read(&[11, 0, 2, 0, 1, 0, 0, 0, 0, 5, 0]), 13);
+    assert_eq!(read(&[11, 0, 2, 0, 1, 0, 0, 0, 64, 5, 0]), 13);
+    assert_eq!(read(&[11, 0, 2, 0, 1, 0, 0, 0, 63, 0, 0]), 13);
+    assert_eq!(read(&[11, 0, 2, 0, 1, 0, 0, 0, 63, 0, 1]), 0);
+    assert_eq!(read(&[12, 0, 3, 0, 1, 0, 0, 0, 5, 5, 0, 5]), 0);
+    assert_eq!(read(&[12, 0, 3, 0, 1, 0, 0, 0, 5, 5, 0, 6]), 13);
+    assert_eq!(read(&[13, 0, 1, 0, 1, 0, 0, 0, 5, 5, 0, 4, 0]), 0);
+    assert_eq!(read(&[13, 0, 1, 0, 1, 0, 0, 0, 5, 5, 0, 5, 0]), 13);
+    let listed = |one: u8, other: u8| read(&[19, 0, 1, 0, 1, 0, 0, 0, 5, 5, 0, 4, 2, one, 7, 0, other, 0, 7]);
+    assert_eq!(listed(0, 4), 0);
+    assert_eq!(listed(0, 5), 13);
+    assert_eq!(listed(3, 3), 13);
+    assert_eq!(listed(3, 2), 13);
+    assert_eq!(read(&[16, 0, 1, 0, 1, 0, 0, 0, 5, 5, 0, 4, 1, 0, 0, 0]), 13);
+    // k above 63 with its length is 13, and 12 without.
+    let mut bytes = vec![0; 13 + 3 * 64];
+    bytes[..13].copy_from_slice(&[205, 0, 1, 0, 1, 0, 0, 0, 63, 5, 0, 0, 64]);
+    assert_eq!(read(&bytes), 13);
+    bytes[12] = 65;
+    assert_eq!(read(&bytes), 12);
+}
+
+#[test]
+fn entries_are_a_part_of_the_slice() {
+    let slice = [16, 0, 1, 0, 1, 0, 0, 0, 5, 5, 0, 4, 1, 3, 7, 1, 99, 99];
+    let part = message::entries(&slice);
+    assert_eq!(part, [3, 7, 1]);
+    assert_eq!(part.as_ptr(), slice[13..].as_ptr());
+    assert!(message::entries(&slice[..15]).is_empty());
+    assert!(message::entries(&[12, 0, 3, 0, 1, 0, 0, 0, 5, 5, 0, 5]).is_empty());
+    assert!(message::entries(&[11, 0, 2, 0, 1, 0, 0, 0, 5, 5, 0]).is_empty());
+}
+
+#[test]
+fn asking_and_taking() {
+    let whole = [0; 4 * SLOT];
+    let refused = |node: Node, inbox: &[u8]| {
+        let mut taken = node;
+        let numbers = (number(rounds::ask(&node, inbox)), number(rounds::take(&mut taken, inbox)));
+        assert!(numbers.1 == 0 || taken == node);
+        numbers
+    };
+    assert_eq!(refused(Node { vote: 0, phase: 64, ..node() }, &[]), (7, 7));
+    assert_eq!(refused(Node { phase: 64, ..node() }, &[]), (8, 8));
+    assert_eq!(refused(Node { phase: 64, round: VALIDATION, ..node() }, &[]), (7, 7));
+    assert_eq!(refused(node(), &whole[1..]), (14, 14));
+    assert_eq!(refused(node(), &[0; 4 * SLOT + 1]), (14, 14));
+    assert_eq!(refused(node(), &[0; 5 * SLOT]), (14, 14));
+    assert_eq!(refused(node(), &whole), (0, 0));
+    assert_eq!(refused(Node { round: VALIDATION, ..node() }, &whole[1..]), (7, 14));
+    assert_eq!(refused(Node { round: DECISION, ..node() }, &whole), (7, 0));
+}
+
+#[test]
+fn numbers_and_refusals() {
+    assert!((1..=14).eq(Refusal::ALL.into_iter().map(Refusal::number)));
+    assert_eq!(Refusal::from_number(14), Some(Refusal::InboxLength));
+    assert_eq!(Refusal::from_number(15), None);
+}
