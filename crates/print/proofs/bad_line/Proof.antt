@@ -1,0 +1,33 @@
+use Rattle.print.specs.Texts.{badLine}
+use Rattle.print.proofs.Writing.{wrote-then, wrote-one}
+use borrow.Author.Needs.{needs}
+use Rattle.print.proofs.bad_line.Statement.{statement}
+use Rattle.print.proofs.bad_line.Tie as tie
+
+put-word-requires : tie.Need-put-word-requires
+put-word-requires c κs = search needs
+
+put-number-requires : tie.Need-put-number-requires
+put-number-requires c κs = search needs
+
+put-requires : tie.Need-put-requires
+put-requires c κs = search needs
+
+add-result : tie.Need-add-result
+add-result c = search needs
+
+same-length : tie.Need-same-length
+same-length c = search needs
+
+returns : tie.Need-returns
+unfolding badLine
+returns c =
+    let b6 = c .before .before .before .before .before .before in
+    let b10 = b6 .before .before .before .before in
+    wrote-then (b10 .put-word .ensures .0)
+    (wrote-then (b6 .put-number .ensures .0) (wrote-one _ _ _ _ (c .before .before .put .ensures)))
+
+pub bad-line-spec : {M : Type 1} → statement M
+bad-line-spec =
+    tie.close
+    (tie.spec put-word-requires put-number-requires put-requires add-result same-length returns)

@@ -1,0 +1,24 @@
+use Rattle.print.proofs.Writing.{wrote-then, wrote-one}
+use borrow.Author.Needs.{needs}
+use Rattle.print.proofs.long_line.Statement.{statement}
+use Rattle.print.proofs.long_line.Tie as tie
+
+put-word-requires : tie.Need-put-word-requires
+put-word-requires c κs = search needs
+
+put-requires : tie.Need-put-requires
+put-requires c κs = search needs
+
+add-result : tie.Need-add-result
+add-result c = search needs
+
+same-length : tie.Need-same-length
+same-length c = search needs
+
+returns : tie.Need-returns
+returns c =
+    let b6 = c .before .before .before .before .before .before in
+    (wrote-then (b6 .put-word .ensures .0) (wrote-one _ _ _ _ (c .before .before .put .ensures)))
+
+pub long-line-spec : {M : Type 1} → statement M
+long-line-spec = tie.close (tie.spec put-word-requires put-requires add-result same-length returns)

@@ -1,0 +1,57 @@
+use Rattle.print.proofs.Writing.{wrote-then, wrote-one}
+use borrow.Author.Needs.{needs}
+use Rattle.print.proofs.put_word.Statement.{statement}
+use Rattle.print.proofs.put_word.Tie as tie
+
+put-requires : tie.Need-put-requires
+put-requires c κs = search needs
+
+add-a : tie.Need-add-a
+add-a c = search needs
+
+put-requires-2 : tie.Need-put-requires-2
+put-requires-2 c κs = search needs
+
+add-b : tie.Need-add-b
+add-b c = search needs
+
+put-requires-3 : tie.Need-put-requires-3
+put-requires-3 c κs = search needs
+
+add-c : tie.Need-add-c
+add-c c = search needs
+
+put-requires-4 : tie.Need-put-requires-4
+put-requires-4 c κs = search needs
+
+add-result : tie.Need-add-result
+add-result c = search needs
+
+same-length : tie.Need-same-length
+same-length c = search needs
+
+returns : tie.Need-returns
+returns c =
+    let b6 = c .before .before .before .before .before .before in
+    let b10 = b6 .before .before .before .before in
+    let b14 = b10 .before .before .before .before in (
+      wrote-then (wrote-one _ _ _ _ (b14 .put .ensures))
+          (wrote-then (wrote-one _ _ _ _ (b10 .put2 .ensures))
+          (wrote-then (wrote-one _ _ _ _ (b6 .put3 .ensures)) (wrote-one _ _ _ _ (c .before .before .put4 .ensures)))),
+      search needs,
+    )
+
+pub put-word-spec : {M : Type 1} → statement M
+put-word-spec =
+    tie.close
+    (tie.spec
+    put-requires
+    add-a
+    put-requires-2
+    add-b
+    put-requires-3
+    add-c
+    put-requires-4
+    add-result
+    same-length
+    returns)

@@ -1,0 +1,58 @@
+-- The lines that a drill prints: document 01, 'The drill'.
+use Prim.Native.Nat.{ℕ, zero, suc, _+_, _/_, _%_}
+use mathlib.Core.Bool.{Bool, false, cond}
+use mathlib.Core.List.{List, [], _∷_, _++_}
+use mathlib.Core.Path.{_≡_}
+use lib.ListN.{length, getD}
+use lib.Dec.{leb}
+use lib.Seq.{sets}
+
+-- From the buffer l and the place at, writing a text leaves l′ and goes on to at′: the text stands there as far as the
+-- buffer goes, and no other byte of it has changed.
+pub record Wrote (l : List ℕ) (at : ℕ) (text l′ : List ℕ) (at′ : ℕ) : Type 0 where
+  pub next : at′ ≡ at + length text
+  pub left : l′ ≡ sets l at text
+
+-- the digit of the worth p stands where the number is at least p
+abbrev pub placeOf : ℕ → ℕ → List ℕ
+placeOf v p = cond (leb p v) ((48 + v / p % 10) ∷ []) []
+
+-- A number below 100,000, more than any that is printed: plans end at 65,535, and a script has at most 65,536 bytes.
+-- 01: "decimal without leading zeros"
+unfoldable pub decimalOf : ℕ → List ℕ
+decimalOf v = placeOf v 10000 ++ (placeOf v 1000 ++ (placeOf v 100 ++ (placeOf v 10 ++ ((48 + v % 10) ∷ []))))
+
+-- a space, and the node's result.
+-- 01: "each node's result, `-` if not honest"
+unfoldable pub fieldOf : Bool → ℕ → List ℕ
+fieldOf honest result = 32 ∷ cond honest (decimalOf result) (45 ∷ [])
+
+-- of n nodes from node i on
+unfoldable pub fieldsFrom : List ℕ → List Bool → ℕ → ℕ → List ℕ
+fieldsFrom results honest i zero = []
+fieldsFrom results honest i (suc n) =
+    fieldOf (getD honest i false) (getD results i 0) ++ fieldsFrom results honest (i + 1) n
+
+-- a line has room for the results of 32 nodes
+abbrev pub nodesShown : ℕ → ℕ
+nodesShown n = cond (leb n 32) n 32
+
+-- 01: "Each go prints phase, round just done, and each node's result"
+unfoldable pub resultLine : ℕ → ℕ → ℕ → List ℕ → List Bool → List ℕ
+resultLine phase round n results honest =
+    decimalOf phase ++ (32 ∷ (decimalOf round ++ (fieldsFrom results honest 0 n ++ (10 ∷ []))))
+
+abbrev pub wordOf : ℕ → ℕ → ℕ → ℕ → List ℕ
+wordOf w x y z = w ∷ x ∷ y ∷ z ∷ []
+
+-- 01: "A bad line L .. prints `bad L`"
+unfoldable pub badLine : ℕ → List ℕ
+badLine l = wordOf 98 97 100 32 ++ (decimalOf l ++ (10 ∷ []))
+
+-- 01: "The end prints `end`."
+abbrev pub endLine : List ℕ
+endLine = wordOf 101 110 100 10
+
+-- 01: "over 65,536 bytes: prints `long` only"
+abbrev pub longLine : List ℕ
+longLine = wordOf 108 111 110 103 ++ (10 ∷ [])

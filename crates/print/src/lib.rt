@@ -1,0 +1,169 @@
+// The lines that a drill prints, laid in a lent buffer from a place on; each function answers the place after its line.
+// What would lie beyond the buffer's end is left out, so a caller lends enough: specs/Texts.antt has the texts, and
+// proofs/Lengths.antt how long a result line can be.
+ghost use mathlib.Core.Path.{_≡_};
+ghost use Prim.Native.Nat.{_+_, _≤_};
+ghost use lib.ListN.{set};
+ghost use Rattle.print.specs.Texts.{
+  Wrote,
+  placeOf,
+  decimalOf,
+  fieldOf,
+  fieldsFrom,
+  resultLine,
+  badLine,
+  endLine,
+  longLine,
+  wordOf,
+  nodesShown,
+};
+
+const NEWLINE: u8 = 10;
+
+const SPACE: u8 = 32;
+
+const DASH: u8 = 45;
+
+const ZERO: u32 = 48;
+// A line has room for so many results: no crew has more nodes.
+const MOST_NODES: usize = 32;
+
+// One byte at a place.
+fn put(buf: &mut [u8], at: usize, byte: u8)
+    ensures { λ _. ⌜ now (buf .exit) ≡ set (now (buf .entry)) at byte ⌝ }
+{
+    if at < buf.len() {
+        buf[at] = byte;
+    }
+}
+
+// Four bytes. The bounds here and below keep a place far from the largest number.
+fn put_word(buf: &mut [u8], at: usize, w: u8, x: u8, y: u8, z: u8) -> usize
+    requires { ⌜ at ≤ 4294967400 ⌝ }
+    ensures { λ r. ⌜ Wrote (now (buf .entry)) at (wordOf w x y z) (now (buf .exit)) r × (r ≤ at + 4) ⌝ }
+{
+    put(buf, at, w);
+    let a = at + 1;
+    put(buf, a, x);
+    let b = a + 1;
+    put(buf, b, y);
+    let c = b + 1;
+    put(buf, c, z);
+    c + 1
+}
+
+// The digit of the worth p, where the number is that large.
+fn put_place(buf: &mut [u8], at: usize, v: u32, p: u32) -> usize
+    requires { ⌜ (at ≤ 4294970000) × (1 ≤ p) ⌝ }
+    ensures { λ r. ⌜ Wrote (now (buf .entry)) at (placeOf v p) (now (buf .exit)) r × (r ≤ at + 1) ⌝ }
+{
+    if p <= v {
+        put(buf, at, (ZERO + v / p % 10) as u8);
+        at + 1
+    } else {
+        at
+    }
+}
+
+// The digits of a number below 100,000.
+fn put_number(buf: &mut [u8], at: usize, v: u32) -> usize
+    requires { ⌜ at ≤ 4294969000 ⌝ }
+    ensures { λ r. ⌜ Wrote (now (buf .entry)) at (decimalOf v) (now (buf .exit)) r × (r ≤ at + 5) ⌝ }
+{
+    let a = put_place(buf, at, v, 10000);
+    let b = put_place(buf, a, v, 1000);
+    let c = put_place(buf, b, v, 100);
+    let d = put_place(buf, c, v, 10);
+    put(buf, d, (ZERO + v % 10) as u8);
+    d + 1
+}
+
+// A space, and a node's result, or a dash.
+fn put_field(buf: &mut [u8], at: usize, honest: bool, result: u16) -> usize
+    requires { ⌜ at ≤ 4294968000 ⌝ }
+    ensures { λ r. ⌜ Wrote (now (buf .entry)) at (fieldOf honest result) (now (buf .exit)) r × (r ≤ at + 6) ⌝ }
+{
+    put(buf, at, SPACE);
+    let b = at + 1;
+    if honest {
+        put_number(buf, b, result as u32)
+    } else {
+        put(buf, b, DASH);
+        b + 1
+    }
+}
+
+// The results of n nodes.
+fn put_fields(
+    buf: &mut [u8],
+    start: usize,
+    n: usize,
+    results: [u16; 32],
+    honest: [bool; 32],
+) -> usize
+    requires { ⌜ (start ≤ 4294967400) × (n ≤ 32) ⌝ }
+    ensures { λ r. ⌜ Wrote (now (buf .entry)) start (fieldsFrom results honest 0 n) (now (buf .exit)) r
+        × (r ≤ start + 192) ⌝ }
+{
+    let mut at = start;
+    let mut i: usize = 0;
+    while i < n {
+        at = put_field(buf, at, honest[i], results[i]);
+        i = i + 1;
+    }
+    at
+}
+
+fn nodes_shown(n: usize) -> usize
+    ensures { λ r. ⌜ (r ≡ nodesShown n) × (r ≤ 32) ⌝ }
+{
+    if n <= MOST_NODES { n } else { MOST_NODES }
+}
+
+// The line after a go: the phase and the round that it did, and the results of n nodes.
+pub fn result_line(
+    buf: &mut [u8],
+    at: u32,
+    phase: u16,
+    round: u16,
+    n: usize,
+    results: [u16; 32],
+    honest: [bool; 32],
+) -> usize
+    ensures { λ r. ⌜ Wrote (now (buf .entry)) at (resultLine phase round (nodesShown n) results honest)
+        (now (buf .exit)) r × (r ≤ at + 204) ⌝ }
+{
+    let shown = nodes_shown(n);
+    let a = put_number(buf, at as usize, phase as u32);
+    put(buf, a, SPACE);
+    let b = put_number(buf, a + 1, round as u32);
+    let c = put_fields(buf, b, shown, results, honest);
+    put(buf, c, NEWLINE);
+    c + 1
+}
+
+// `bad L`
+pub fn bad_line(buf: &mut [u8], at: u32, line: u32) -> usize
+    ensures { λ r. ⌜ Wrote (now (buf .entry)) at (badLine line) (now (buf .exit)) r ⌝ }
+{
+    let a = put_word(buf, at as usize, b'b', b'a', b'd', SPACE);
+    let b = put_number(buf, a, line);
+    put(buf, b, NEWLINE);
+    b + 1
+}
+
+// `end`
+pub fn end_line(buf: &mut [u8], at: u32) -> usize
+    ensures { λ r. ⌜ Wrote (now (buf .entry)) at endLine (now (buf .exit)) r ⌝ }
+{
+    put_word(buf, at as usize, b'e', b'n', b'd', NEWLINE)
+}
+
+// `long`
+pub fn long_line(buf: &mut [u8], at: u32) -> usize
+    ensures { λ r. ⌜ Wrote (now (buf .entry)) at longLine (now (buf .exit)) r ⌝ }
+{
+    let a = put_word(buf, at as usize, b'l', b'o', b'n', b'g');
+    put(buf, a, NEWLINE);
+    a + 1
+}

@@ -1,0 +1,91 @@
+-- What the walks over a slice's bytes go by.
+use mathlib.Core.Path.{_≡_, refl, sym, _∙_}
+use mathlib.Core.Bool.{Bool, true, false, _&&_, false≢true, cond}
+use mathlib.Core.List.{List, [], _∷_}
+use Prim.Native.Nat.{ℕ, suc, _+_, _*_, _<_, _≤_}
+use native.Mathlib.Numerals.{add-one}
+use native.Mathlib.Omega.{arith}
+use lib.ListN.{length, getD, drop, drop-of-length-le}
+use lib.Seq.{drop-cons}
+use lib.Dec.{eqb, ltb, leb}
+use borrow.Author.Tests.{eq-eqb, ne-eqb, leb-true}
+use Rattle.wire.proofs.Tests.{both-true}
+use Rattle.script.specs.Lines.{until}
+use Rattle.script.specs.Fields.{digitOf, valueFrom, starts}
+use Rattle.script.specs.declared.Number.{Number}
+use Rattle.script.specs.declared.Number.the-variants.{Value, Bad}
+
+module _ (b i : ℕ) (s : List ℕ) where
+  pub until-here : i < length s → getD s i 0 ≡ b → until b (drop i s) ≡ 0
+  unfolding until
+  until-here h e = rw (drop-cons s i 0 h, eq-eqb _ _ e)
+
+  pub until-more : i < length s → (getD s i 0 ≡ b → ⊥) → until b (drop i s) ≡ suc (until b (drop (i + 1) s))
+  unfolding until
+  until-more h e = rw (drop-cons s i 0 h, add-one i, ne-eqb _ _ e)
+
+  pub until-end : length s ≤ i → until b (drop i s) ≡ 0
+  unfolding until
+  until-end h = rw (drop-of-length-le s h)
+
+module _ (s : List ℕ) (v i : ℕ) where
+  pub value-step : i < length s
+      → valueFrom v (drop i s)
+      ≡ cond (ltb (digitOf (getD s i 0)) 10 && leb (10 * v + digitOf (getD s i 0)) 65535)
+      (valueFrom (10 * v + digitOf (getD s i 0)) (drop (i + 1) s)) Bad
+  unfolding valueFrom
+  value-step h = rw (drop-cons s i 0 h, add-one i)
+
+  pub value-more : (d w : ℕ) (r : Number) → i < length s → d ≡ digitOf (getD s i 0) → w ≡ 10 * v + d
+      → ltb d 10 && leb w 65535 ≡ true
+      → valueFrom v (drop i s) ≡ r → valueFrom w (drop (i + 1) s) ≡ r
+  value-more d w r h ed ew t e =
+      let z : ltb (digitOf (getD s i 0)) 10 && leb (10 * v + digitOf (getD s i 0)) 65535 ≡ true = rw (← ed, ← ew) t in
+      rw (ew, ed) (sym (value-step h ∙ rw z) ∙ e)
+
+  pub value-stop : (d w : ℕ) (r : Number) → i < length s → d ≡ digitOf (getD s i 0) → w ≡ 10 * v + d
+      → ltb d 10 && leb w 65535 ≡ false
+      → valueFrom v (drop i s) ≡ r → Bad ≡ r
+  value-stop d w r h ed ew t e =
+      let z : ltb (digitOf (getD s i 0)) 10 && leb (10 * v + digitOf (getD s i 0)) 65535 ≡ false = rw (← ed, ← ew) t in
+      sym (value-step h ∙ rw z) ∙ e
+
+  pub value-end : (r : Number) → length s ≤ i → valueFrom v (drop i s) ≡ r → Value v ≡ r
+  unfolding valueFrom
+  value-end r h e = rw (drop-of-length-le s h) at e
+
+pub value-low : (d w : ℕ) → ltb d 10 && leb w 65535 ≡ true → w ≤ 65535
+value-low d w e = leb-true w 65535 (both-true (ltb d 10) (leb w 65535) e .1)
+
+pub starts-short : (w l : List ℕ) → length l < length w → starts w l ≡ false
+unfolding starts
+starts-short [] l h = absurd (omega arith)
+starts-short (c ∷ cs) [] h = refl
+starts-short (c ∷ cs) (x ∷ l) h = short-go (eqb x c) (starts cs l) (starts-short cs l (omega arith))
+  where
+    short-go : (a b : Bool) → b ≡ false → a && b ≡ false
+    short-go true b e = e
+    short-go false b e = refl
+
+pub starts-long : (w l : List ℕ) → starts w l ≡ true → length w ≤ length l
+unfolding starts
+starts-long [] l h = omega arith
+starts-long (c ∷ cs) [] h = absurd (false≢true h)
+starts-long (c ∷ cs) (x ∷ l) h = let r = starts-long cs l (both-true (eqb x c) (starts cs l) h .1) in omega arith
+
+-- a turn of the comparison
+module _ (w s : List ℕ) (i : ℕ) (r : Bool) (inw : i < length w) (ins : i < length s)
+    (inv : starts (drop i w) (drop i s) ≡ r) where
+  starts-step : eqb (getD s i 0) (getD w i 0) && starts (drop (i + 1) w) (drop (i + 1) s) ≡ r
+  unfolding starts
+  starts-step = rw (add-one i) (rw (drop-cons w i 0 inw, drop-cons s i 0 ins) at inv)
+
+  pub starts-more : getD s i 0 ≡ getD w i 0 → starts (drop (i + 1) w) (drop (i + 1) s) ≡ r
+  starts-more e = rw (eq-eqb _ _ e) at starts-step
+
+  pub starts-stop : (getD s i 0 ≡ getD w i 0 → ⊥) → false ≡ r
+  starts-stop e = rw (ne-eqb _ _ e) at starts-step
+
+pub starts-end : (w s : List ℕ) (i : ℕ) (r : Bool) → length w ≤ i → starts (drop i w) (drop i s) ≡ r → true ≡ r
+unfolding starts
+starts-end w s i r h inv = rw (drop-of-length-le w h) at inv

@@ -1,0 +1,93 @@
+use Rattle.script.proofs.Walk.{value-low, value-more, value-stop, value-end}
+use mathlib.Core.Path.{_≡_, refl}
+use Prim.Native.Nat.{_≤_, _-_}
+use lib.ListN.{length, drop}
+use borrow.Author.Tests.{eq-eqb, ne-eqb}
+use Rattle.script.specs.Fields.{valueFrom, numberOf}
+use borrow.Author.Needs.{needs}
+use Rattle.script.proofs.decimal.Statement.{statement}
+use Rattle.script.proofs.decimal.Tie as tie
+
+abbrev Inv-loop : tie.InvT-loop
+Inv-loop s v₀ i₀ v i = (v ≤ 65535) × (i ≤ length s) × (valueFrom v (drop i s) ≡ numberOf s)
+
+abbrev μ-loop : tie.MeasureT-loop
+μ-loop s v₀ i₀ v i = length s - i
+
+returns : tie.Need-returns Inv-loop μ-loop
+unfolding numberOf
+returns c = simp (numberOf, eq-eqb _ _ (c .if1 .taken))
+
+shared-slice-read-if2 : tie.Need-shared-slice-read-if2 Inv-loop μ-loop
+shared-slice-read-if2 c = search needs
+
+returns-2 : tie.Need-returns-2 Inv-loop μ-loop
+unfolding numberOf
+returns-2 c = simp (numberOf, ne-eqb _ _ (c .before .before .if1 .left), c .if2 .taken)
+
+loop-holds : tie.Need-loop-holds Inv-loop μ-loop
+unfolding numberOf
+loop-holds c =
+    (search needs, search needs, simp (numberOf, ne-eqb _ _ (c .before .before .if1 .left), c .if2 .left))
+
+shared-slice-read-digit : tie.Need-shared-slice-read-digit Inv-loop μ-loop
+shared-slice-read-digit c = search needs
+
+digit-requires : tie.Need-digit-requires Inv-loop μ-loop
+digit-requires c κs = search needs
+
+mul-w : tie.Need-mul-w Inv-loop μ-loop
+mul-w c = search needs
+
+add-w : tie.Need-add-w Inv-loop μ-loop
+add-w c = search needs
+
+add-i : tie.Need-add-i Inv-loop μ-loop
+add-i c = search needs
+
+loop-less : tie.Need-loop-less Inv-loop μ-loop
+loop-less c = search needs
+
+loop-again : tie.Need-loop-again Inv-loop μ-loop
+loop-again c =
+    let b3 = c .before .before .before in
+    let b4 = b3 .before in (
+      value-low (c .before .digit .result) _ (c .if3 .taken),
+      search needs,
+      value-more _ _ _ _ _ _ (b3 .loop-test .taken) (c .before .digit .ensures .0) refl (c .if3 .taken)
+          (b4 .loop .inv .2),
+    )
+
+returns-3 : tie.Need-returns-3 Inv-loop μ-loop
+returns-3 c =
+    let b3 = c .before .before .before in
+    let b4 = b3 .before in
+    value-stop _ _ _ _ _ _ (b3 .loop-test .taken) (c .before .digit .ensures .0) refl (c .if3 .left)
+    (b4 .loop .inv .2)
+
+cast-t19 : tie.Need-cast-t19 Inv-loop μ-loop
+cast-t19 c = search needs
+
+returns-4 : tie.Need-returns-4 Inv-loop μ-loop
+returns-4 c = value-end _ _ _ _ (c .loop-test .left) (c .before .loop .inv .2)
+
+pub decimal-spec : {M : Type 1} → statement M
+decimal-spec =
+    tie.close
+    (tie.spec
+    Inv-loop
+    μ-loop
+    returns
+    shared-slice-read-if2
+    returns-2
+    loop-holds
+    shared-slice-read-digit
+    digit-requires
+    mul-w
+    add-w
+    add-i
+    loop-less
+    loop-again
+    returns-3
+    cast-t19
+    returns-4)

@@ -1,0 +1,276 @@
+// A drill's script, line by line: where a line ends, its decimal fields, and what it asks for.
+// Each function is what a definition says: specs/Lines.antt, specs/Fields.antt and specs/Commands.antt.
+ghost use mathlib.Core.Path.{_≡_};
+ghost use Prim.Native.Nat.{_+_, _≤_};
+ghost use lib.ListN.{drop};
+ghost use Rattle.script.specs.Lines.{until};
+ghost use Rattle.script.specs.Fields.{digitOf, numberOf, noNumbers, numbersOn, starts};
+ghost use Rattle.script.specs.Commands.{crewOf, plansOf, cutOf, sayOf, commandOf};
+
+// Ends each line.
+pub const NEWLINE: u8 = 10;
+
+const SPACE: u8 = 32;
+
+const ZERO: u8 = 48;
+
+const NINE: u8 = 57;
+// What `digit` answers for a byte that is no digit.
+const NO_DIGIT: u32 = 10;
+// No number of a script is larger: plans have two bytes, and every other bound is lower.
+const LARGEST: u32 = 65535;
+// No line has more numbers: line 2 has one for each node.
+const MOST_NUMBERS: usize = 32;
+
+// A decimal field.
+pub enum Number {
+    Value(u16),
+    Bad,
+}
+
+// The numbers of a line, in the order in which they stand there; none are good where one of them is bad.
+pub struct Numbers {
+    pub good: bool,
+    pub count: usize,
+    pub values: [u16; 32],
+}
+
+// Line 1: five numbers of one byte. Whether they are a crew is not asked here.
+pub enum CrewLine {
+    Crew {
+        class: u8,
+        n: u8,
+        b: u8,
+        f: u8,
+        d: u8,
+    },
+    NoCrew,
+}
+
+// Line 2: the initial plan of each node, 0 for one that is not honest.
+pub struct Plans {
+    pub good: bool,
+    pub plans: [u16; 32],
+}
+
+// A line after these. No node has a number of two bytes and no phase is a stamp of two, so a larger one is bad already.
+pub enum Command {
+    Cut {
+        sender: u8,
+        receiver: u8,
+    },
+    Say {
+        sender: u8,
+        receiver: u8,
+        plan: u16,
+        stamp: u8,
+    },
+    Go,
+    BadLine,
+}
+
+// The first place from a start on that holds the byte, or where the slice ends.
+pub fn find(s: &[u8], byte: u8, from: usize) -> usize
+    ensures { λ r. ⌜ r ≡ from + until byte (drop from (now (s .entry))) ⌝ }
+{
+    let mut i = from;
+    while i < s.len() {
+        if s[i] == byte {
+            return i;
+        }
+        i = i + 1;
+    }
+    i
+}
+
+// A digit's value.
+fn digit(c: u8) -> u32
+    ensures { λ r. ⌜ (r ≡ digitOf c) × (r ≤ 10) ⌝ }
+{
+    if c < ZERO {
+        return NO_DIGIT;
+    }
+    if NINE < c {
+        return NO_DIGIT;
+    }
+    (c - ZERO) as u32
+}
+
+// A field's number. It stops at the digit that takes it past the largest, so a field of any length is read safely.
+fn decimal(s: &[u8]) -> Number
+    ensures { λ r. ⌜ r ≡ numberOf (now (s .entry)) ⌝ }
+{
+    if s.len() == 0 {
+        return Number::Bad;
+    }
+    if (2 <= s.len()) & (s[0] == ZERO) {
+        return Number::Bad;
+    }
+    let mut value: u32 = 0;
+    let mut i: usize = 0;
+    while i < s.len() {
+        let d = digit(s[i]);
+        let w = 10 * value + d;
+        if (d < NO_DIGIT) & (w <= LARGEST) {
+            value = w;
+            i = i + 1;
+        } else {
+            return Number::Bad;
+        }
+    }
+    Number::Value(value as u16)
+}
+
+fn no_numbers() -> Numbers
+    ensures { λ r. ⌜ r ≡ noNumbers ⌝ }
+{
+    Numbers {
+        good: false,
+        count: 0,
+        values: [0u16; MOST_NUMBERS],
+    }
+}
+
+// The fields of a slice as numbers.
+fn numbers_on(s: &[u8]) -> Numbers
+    ensures { λ r. ⌜ r ≡ numbersOn (now (s .entry)) ⌝ }
+{
+    let mut values = [0u16; MOST_NUMBERS];
+    let mut count: usize = 0;
+    let mut at: usize = 0;
+    loop {
+        let end = find(s, SPACE, at);
+        match decimal(&s[at..end]) {
+            Number::Value(value) => {
+                if MOST_NUMBERS <= count {
+                    return no_numbers();
+                }
+                values[count] = value;
+                count = count + 1;
+                if s.len() <= end {
+                    return Numbers {
+                        good: true,
+                        count: count,
+                        values: values,
+                    };
+                }
+                at = end + 1;
+            }
+            Number::Bad => {
+                return no_numbers();
+            }
+        }
+    }
+}
+
+// The slice begins with the word.
+fn begins(s: &[u8], word: &[u8]) -> bool
+    ensures { λ r. ⌜ r ≡ starts (now (word .entry)) (now (s .entry)) ⌝ }
+{
+    if s.len() < word.len() {
+        return false;
+    }
+    let mut i: usize = 0;
+    while i < word.len() {
+        if s[i] == word[i] {
+            i = i + 1;
+        } else {
+            return false;
+        }
+    }
+    true
+}
+
+fn to_crew(w: Numbers) -> CrewLine
+    ensures { λ r. ⌜ r ≡ crewOf w ⌝ }
+{
+    let v = w.values;
+    let good = w.good
+        & (w.count == 5)
+        & (v[0] <= 255)
+        & (v[1] <= 255)
+        & (v[2] <= 255)
+        & (v[3] <= 255)
+        & (v[4] <= 255);
+    if good {
+        return CrewLine::Crew {
+            class: v[0] as u8,
+            n: v[1] as u8,
+            b: v[2] as u8,
+            f: v[3] as u8,
+            d: v[4] as u8,
+        };
+    }
+    CrewLine::NoCrew
+}
+
+// Line 1.
+pub fn crew_line(s: &[u8]) -> CrewLine
+    ensures { λ r. ⌜ r ≡ crewOf (numbersOn (now (s .entry))) ⌝ }
+{
+    to_crew(numbers_on(s))
+}
+
+// Line 2, for n nodes.
+pub fn plans_line(s: &[u8], n: usize) -> Plans
+    ensures { λ r. ⌜ r ≡ plansOf (numbersOn (now (s .entry))) n ⌝ }
+{
+    let w = numbers_on(s);
+    if w.good & (w.count == n) {
+        let values = w.values;
+        return Plans {
+            good: true,
+            plans: values,
+        };
+    }
+    Plans {
+        good: false,
+        plans: [0u16; MOST_NUMBERS],
+    }
+}
+
+fn to_cut(w: Numbers) -> Command
+    ensures { λ r. ⌜ r ≡ cutOf w ⌝ }
+{
+    let v = w.values;
+    let good = w.good & (w.count == 2) & (v[0] <= 255) & (v[1] <= 255);
+    if good {
+        return Command::Cut {
+            sender: v[0] as u8,
+            receiver: v[1] as u8,
+        };
+    }
+    Command::BadLine
+}
+
+fn to_say(w: Numbers) -> Command
+    ensures { λ r. ⌜ r ≡ sayOf w ⌝ }
+{
+    let v = w.values;
+    let good = w.good & (w.count == 4) & (v[0] <= 255) & (v[1] <= 255) & (v[3] <= 255);
+    if good {
+        return Command::Say {
+            sender: v[0] as u8,
+            receiver: v[1] as u8,
+            plan: v[2],
+            stamp: v[3] as u8,
+        };
+    }
+    Command::BadLine
+}
+
+// A line after these. Whether its numbers are within the bounds of the coming round is not asked here.
+pub fn command_line(s: &[u8]) -> Command
+    ensures { λ r. ⌜ r ≡ commandOf (now (s .entry)) ⌝ }
+{
+    if begins(s, b"cut ") {
+        return to_cut(numbers_on(&s[4..]));
+    }
+    if begins(s, b"say ") {
+        return to_say(numbers_on(&s[4..]));
+    }
+    if begins(s, b"go") & (s.len() == 2) {
+        return Command::Go;
+    }
+    Command::BadLine
+}
