@@ -258,7 +258,8 @@ fn count_supporting(
     below: u8,
 ) -> usize
     requires { ⌜ n ≤ 32 ⌝ }
-    ensures { λ r. ⌜ (r ≡ tally (supporting (now (marks .entry)) (now (votes .entry)) (now (stamps .entry)) vote below) n)
+    ensures { λ r. ⌜ (r ≡ tally
+        (supporting (now (marks .entry)) (now (votes .entry)) (now (stamps .entry)) vote below) n)
         × (r ≤ n) ⌝ }
 {
     let mut count = 0;
