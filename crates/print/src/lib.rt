@@ -124,8 +124,8 @@ fn nodes_shown(n: usize) -> usize
 pub fn result_line(
     buf: &mut [u8],
     at: u32,
-    phase: u16,
-    round: u16,
+    phase: u8,
+    round: u8,
     n: usize,
     results: [u16; 32],
     honest: [bool; 32],

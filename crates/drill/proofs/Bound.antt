@@ -1,0 +1,145 @@
+-- How long the output of a script can be. Every go does one of at most 189 rounds, three for each of 63 phases, and
+-- prints one line; beside these lines there is one more at most.
+use mathlib.Core.Path.{_≡_, refl}
+use mathlib.Core.Bool.{Bool, true, false, cond}
+use mathlib.Core.List.{List, [], _∷_, _++_}
+use Prim.Native.Nat.{ℕ, _+_, _*_, _-_, _<_, _≤_}
+use native.Mathlib.Omega.{arith}
+use lib.ListN.{length, length-append}
+use lib.Dec.{ltb, leb, eqb}
+use borrow.Author.Tests.{ltb-true, leb-true, leb-false}
+use Rattle.crew.specs.declared.Crew.{Crew}
+use Rattle.node.specs.Soundness.{crewAccepted}
+use Rattle.script.specs.Lines.{split}
+use Rattle.script.specs.Fields.{numbersOn}
+use Rattle.script.specs.Commands.{commandOf, crewOf, plansOf}
+use Rattle.script.specs.declared.Command.{Command}
+use Rattle.script.specs.declared.Command.the-variants.{Cut, Say, Go, BadLine}
+use Rattle.script.specs.declared.CrewLine.{CrewLine}
+use Rattle.script.specs.declared.CrewLine.the-variants.{Crew as CrewRead, NoCrew}
+use Rattle.print.specs.Texts.{badLine, endLine, longLine}
+use Rattle.print.proofs.Lengths.{result-most, bad-most}
+use Rattle.drill.specs.declared.State.{State}
+use Rattle.drill.specs.Round.{table, resultAt, roundAfter, phaseAfter, goOf}
+use Rattle.drill.specs.Steps.{allowed, after, text, begunOf}
+use Rattle.drill.specs.Run.{isLast, follow, second, crewed, first, drillOf}
+
+-- how many rounds are left before a drill is spent, at most
+abbrev roundsLeft : ℕ → ℕ → ℕ
+roundsLeft phase round = 3 * (64 - phase) + 1 - round
+
+-- a drill's own phase and round
+record Placed (phase round : ℕ) : Type 0 where
+  last : phase ≤ 64
+  from : 1 ≤ round
+  to : round ≤ 3
+
+-- a round that is done is one less that is left
+round-done : (class phase round : ℕ) → Placed phase round → phase < 64
+    → Placed (phaseAfter phase round) (roundAfter class round)
+    × (roundsLeft (phaseAfter phase round) (roundAfter class round) + 1 ≤ roundsLeft phase round)
+round-done class phase round p h = go (leb 3 round) (eqb class 1) refl
+  where
+    go : (last one : Bool) → leb 3 round ≡ last
+        → Placed (cond last (phase + 1) phase) (cond last 1 (cond one 3 (round + 1)))
+        × (roundsLeft (cond last (phase + 1) phase) (cond last 1 (cond one 3 (round + 1))) + 1 ≤ roundsLeft phase round)
+    go true one e = (
+      record { last = omega arith; from = omega arith; to = omega arith },
+      omega (arith, p .to, leb-true 3 round e),
+    )
+    go false true e = (
+      record { last = omega arith; from = omega arith; to = omega arith },
+      omega (arith, leb-false 3 round e),
+    )
+    go false false e = (
+      record { last = omega arith; from = omega arith; to = omega (arith, leb-false 3 round e) },
+      omega (arith, leb-false 3 round e),
+    )
+
+-- what may still be printed: a line for each round that is left, and one more
+abbrev most : State → ℕ
+most st = 204 * roundsLeft (st .phase) (st .round) + 10
+
+-- a good line prints no more than it takes from that
+record Steps (st : State) (command : Command) : Type 0 where
+  placed : Placed (after st command .phase) (after st command .round)
+  fits : length (text st command) + most (after st command) ≤ most st
+
+step : (st : State) (command : Command) → Placed (st .phase) (st .round) → allowed st command ≡ true → Steps st command
+unfolding goOf
+step st (Cut sender receiver) p h = record { placed = p; fits = omega arith }
+step st (Say sender receiver plan stamp) p h = record { placed = p; fits = omega arith }
+step st Go p h =
+    let done = round-done (st .crew .class) (st .phase) (st .round) p (ltb-true (st .phase) 64 h) in
+    let line = result-most (st .phase) (st .round) (st .crew .n) (table (resultAt (goOf st)) 32) (st .honest) in
+    record { placed = done .0; fits = omega (arith, done .1, line) }
+step st BadLine p h = record { placed = p; fits = omega arith }
+
+-- the output from a line on, by what the line is, where `rest` is what the lines after it print
+line-most : (st : State) (command : Command) (l : ℕ) → Placed (st .phase) (st .round) → (last empty good : Bool)
+    → allowed st command ≡ good → (rest : List ℕ)
+    → (Placed (after st command .phase) (after st command .round) → length rest ≤ most (after st command))
+    → length (cond last (cond empty endLine (badLine l)) (cond good (text st command ++ rest) (badLine l))) ≤ most st
+line-most st command l p true true good e rest h = omega arith
+line-most st command l p true false good e rest h = omega (arith, bad-most l)
+line-most st command l p false empty true e rest h =
+    let s = step st command p e in
+    omega (arith, s .fits, h (s .placed), length-append (text st command) rest)
+line-most st command l p false empty false e rest h = omega (arith, bad-most l)
+
+follow-most : (st : State) (l : ℕ) (ws : List (List ℕ)) → Placed (st .phase) (st .round)
+    → length (follow st l ws) ≤ most st
+unfolding follow
+follow-most st l [] p = omega arith
+follow-most st l (w ∷ ws) p =
+    let next = after st (commandOf w) in
+    line-most st (commandOf w) l p (isLast ws) (eqb (length w) 0) (allowed st (commandOf w)) refl
+    (follow next (l + 1) ws) (follow-most next (l + 1) ws)
+
+-- a drill begins with 189 rounds left
+begun-most : (crew : Crew) (plans : List ℕ) (l : ℕ) (ws : List (List ℕ))
+    → length (follow (begunOf crew plans) l ws) ≤ 38566
+unfolding begunOf
+begun-most crew plans l ws =
+    follow-most (begunOf crew plans) l ws (record { last = omega arith; from = omega arith; to = omega arith })
+
+second-go : (last good : Bool) (begun : List ℕ) → length begun ≤ 38566
+    → length (cond last (badLine 2) (cond good begun (badLine 2))) ≤ 38566
+second-go true good begun h = omega (arith, bad-most 2)
+second-go false true begun h = h
+second-go false false begun h = omega (arith, bad-most 2)
+
+second-most : (crew : Crew) (ws : List (List ℕ)) → length (second crew ws) ≤ 38566
+unfolding second
+second-most crew [] = omega arith
+second-most crew (w ∷ ws) =
+    let line = plansOf (numbersOn w) (crew .n) in
+    second-go (isLast ws) (line .good) (follow (begunOf crew (line .plans)) 3 ws) (begun-most crew (line .plans) 3 ws)
+
+accepted-go : (good : Bool) (rest : List ℕ) → length rest ≤ 38566 → length (cond good rest (badLine 1)) ≤ 38566
+accepted-go true rest h = h
+accepted-go false rest h = omega (arith, bad-most 1)
+
+crewed-most : (line : CrewLine) (ws : List (List ℕ)) → length (crewed line ws) ≤ 38566
+crewed-most (CrewRead class n b f d) ws =
+    let crew : Crew = record { class = class; n = n; b = b; f = f; d = d } in
+    accepted-go (crewAccepted crew) (second crew ws) (second-most crew ws)
+crewed-most NoCrew ws = omega (arith, bad-most 1)
+
+first-go : (last : Bool) (rest : List ℕ) → length rest ≤ 38566 → length (cond last (badLine 1) rest) ≤ 38566
+first-go true rest h = omega (arith, bad-most 1)
+first-go false rest h = h
+
+first-most : (ws : List (List ℕ)) → length (first ws) ≤ 38566
+unfolding first
+first-most [] = omega arith
+first-most (w ∷ ws) = first-go (isLast ws) (crewed (crewOf (numbersOn w)) ws) (crewed-most (crewOf (numbersOn w)) ws)
+
+whole-go : (long : Bool) (rest : List ℕ) → length rest ≤ 38566 → length (cond long longLine rest) ≤ 38566
+whole-go true rest h = omega arith
+whole-go false rest h = h
+
+-- No output is longer than this, whatever is read: a buffer of so many bytes holds every output whole.
+pub output-most : (input : List ℕ) → length (drillOf input) ≤ 38566
+unfolding drillOf
+output-most input = whole-go (ltb 65536 (length input)) (first (split 10 input)) (first-most (split 10 input))

@@ -1,0 +1,5 @@
+pub mod Tables
+pub mod Slots
+pub mod Stepping
+pub mod Following
+pub mod Bound

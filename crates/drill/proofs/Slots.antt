@@ -1,0 +1,97 @@
+-- What stands in the slots of an inbox while it is filled, sender by sender.
+use mathlib.Core.Path.{_≡_, refl, ap, sym, _∙_}
+use mathlib.Core.List.{List, [], _++_, append-assoc}
+use Prim.Native.Nat.{ℕ, suc, _+_, _*_, _-_, _<_, _≤_}
+use native.Mathlib.Nat.{add-sub-cancel-left}
+use native.Mathlib.Omega.{arith}
+use native.Mathlib.Numerals.{add-one}
+use lib.ListN.{length, take, drop, replicate, length-append, length-replicate, replicate-append-replicate}
+use lib.Seq.{take-at, drop-at}
+use borrow.Author.Tests.{le-leb}
+use Rattle.message.specs.Fields.{selection}
+use Rattle.message.specs.Writing.{listed, bufferOf, selectionBufferOf}
+use Rattle.drill.specs.declared.State.{State}
+use Rattle.drill.specs.Round.{delivered, slotsOf}
+
+-- a selection that lists no phase has no entries
+pub selection-said : (phase plan stamp : ℕ) (history slot : List ℕ)
+    → selectionBufferOf 1 phase plan stamp history 0 slot
+    ≡ bufferOf (record { run = 1; phase = phase; body = selection plan stamp [] }) slot
+unfolding listed
+selection-said phase plan stamp history slot = rw (le-leb 0 phase (omega arith))
+
+-- A list's front, a part after it and its rest: what the part is, and the list with another part in its place.
+module _ (front part rest new l : List ℕ) (a k : ℕ) (is : l ≡ front ++ (part ++ rest))
+    (front-long : length front ≡ a) (part-long : length part ≡ k) where
+  back : drop a l ≡ part ++ rest
+  back = rw is (drop-at front (part ++ rest) a front-long)
+
+  the-part : take k (drop a l) ≡ part
+  the-part = rw back (take-at part rest k part-long)
+
+  put-part : take a l ++ (new ++ drop k (drop a l)) ≡ (front ++ new) ++ rest
+  put-part =
+      rw (back, drop-at part rest k part-long, is, take-at front (part ++ rest) a front-long)
+      (sym (append-assoc front new rest))
+
+-- s senders' slots are filled, and all after them is 0
+pub record Laid (st : State) (receiver : ℕ) (inbox : List ℕ) (s : ℕ) : Type 0 where
+  pub within : s ≤ 32
+  pub long : length (slotsOf st receiver s) ≡ 202 * s
+  pub laid : inbox ≡ slotsOf st receiver s ++ replicate (202 * (32 - s)) 0
+
+module _ (st : State) (receiver : ℕ) (inbox : List ℕ) where
+  pub laid-none : inbox ≡ replicate 6464 0 → Laid st receiver inbox 0
+  unfolding slotsOf
+  laid-none e = record { within = omega arith; long = refl; laid = e }
+
+  laid-put : (s k : ℕ) (x : List ℕ) → s < 32 → k ≡ 202
+      → x ≡ delivered st s receiver (take k (drop (202 * s) inbox))
+      → length x ≡ length (take k (drop (202 * s) inbox))
+      → Laid st receiver inbox s
+      → Laid st receiver (take (202 * s) inbox ++ (x ++ drop k (drop (202 * s) inbox))) (s + 1)
+  unfolding slotsOf
+  laid-put s k x h ek ex lx inv =
+      let slots : List ℕ = slotsOf st receiver s in
+      let empty : List ℕ = replicate 202 0 in
+      let rest : List ℕ = replicate (202 * (32 - (s + 1))) 0 in
+      let more : 202 * (32 - s) ≡ 202 + 202 * (32 - (s + 1)) = omega arith in
+      let zeros : replicate (202 * (32 - s)) 0 ≡ empty ++ rest =
+      ap (λ (n : ℕ). replicate n 0) more ∙ sym (replicate-append-replicate {A = ℕ} 202 (202 * (32 - (s + 1))) 0) in
+      let is : inbox ≡ slots ++ (empty ++ rest) = inv .laid ∙ ap (λ (z : List ℕ). slots ++ z) zeros in
+      let size : length empty ≡ k = length-replicate {A = ℕ} 202 0 ∙ sym ek in
+      let part : take k (drop (202 * s) inbox) ≡ empty =
+      the-part slots empty rest x inbox (202 * s) k is (inv .long) size in
+      let sent : x ≡ delivered st s receiver empty = ex ∙ ap (delivered st s receiver) part in
+      let x-long : length x ≡ 202 = lx ∙ ap length part ∙ length-replicate {A = ℕ} 202 0 in
+      let one : s + 1 ≡ suc s = add-one s in
+      record {
+        within = omega arith;
+        long = rw (one, ← sent) (length-append slots x ∙ omega (arith, inv .long));
+        laid =
+            put-part slots empty rest x inbox (202 * s) k is (inv .long) size
+            ∙ rw (one, ← sent);
+      }
+
+  -- the slot of sender s is lent, and comes back with what is delivered there
+  module _ (s : ℕ) where
+    abbrev size : ℕ
+    size = 202 * s + 202 - 202 * s
+
+    pub laid-more : (x : List ℕ) → s < 32
+        → x ≡ delivered st s receiver (take size (drop (202 * s) inbox))
+        → length x ≡ length (take size (drop (202 * s) inbox))
+        → Laid st receiver inbox s
+        → Laid st receiver (take (202 * s) inbox ++ (x ++ drop size (drop (202 * s) inbox))) (s + 1)
+    laid-more x h = laid-put s size x h (add-sub-cancel-left (202 * s) 202)
+
+  pub laid-long : (s : ℕ) → Laid st receiver inbox s → length inbox ≡ 6464
+  laid-long s inv =
+      let rest : List ℕ = replicate (202 * (32 - s)) 0 in
+      let sizes = length-append (slotsOf st receiver s) rest in
+      rw (inv .laid) (omega (arith, sizes, inv .long, inv .within, length-replicate {A = ℕ} (202 * (32 - s)) 0))
+
+  pub laid-all : (n s : ℕ) → n ≤ s → s ≤ n → Laid st receiver inbox s → take (202 * n) inbox ≡ slotsOf st receiver n
+  laid-all n s h k inv =
+      let same : n ≡ s = omega arith in
+      rw (same, inv .laid) (take-at (slotsOf st receiver s) (replicate (202 * (32 - s)) 0) (202 * s) (inv .long))

@@ -1,0 +1,46 @@
+-- What every line keeps, and what a good go and an accepted crew tell.
+use mathlib.Core.Path.{_≡_, refl}
+use mathlib.Core.Bool.{true}
+use mathlib.Core.List.{List}
+use Prim.Native.Nat.{ℕ, _<_, _≤_}
+use native.Mathlib.Omega.{arith}
+use borrow.Author.Tests.{ltb-true}
+use Rattle.wire.specs.Outcome.{Outcome, accepted, refused}
+use Rattle.crew.specs.declared.Crew.{Crew}
+use Rattle.crew.specs.Acceptance.{acceptOf}
+use Rattle.crew.proofs.Facts.{accepts}
+use Rattle.node.specs.Soundness.{isAccepted, crewAccepted}
+use Rattle.script.specs.declared.Command.{Command}
+use Rattle.script.specs.declared.Command.the-variants.{Cut, Say, Go, BadLine}
+use Rattle.drill.specs.declared.State.{State}
+use Rattle.drill.specs.Round.{goOf}
+use Rattle.drill.specs.Steps.{allowed, after, begunOf}
+
+-- the crew stays
+same-crew : (st : State) (command : Command) → after st command .crew ≡ st .crew
+unfolding goOf
+same-crew st (Cut sender receiver) = refl
+same-crew st (Say sender receiver plan stamp) = refl
+same-crew st Go = refl
+same-crew st BadLine = refl
+
+pub still-small : (st next : State) (command : Command) → next ≡ after st command → st .crew .n ≤ 32
+    → next .crew .n ≤ 32
+still-small st next command e h = rw (e, same-crew st command) h
+
+pub begun-small : (crew : Crew) (plans : List ℕ) (st : State) → st ≡ begunOf crew plans → crew .n ≤ 32
+    → st .crew .n ≤ 32
+unfolding begunOf
+begun-small crew plans st e h = rw e h
+
+-- a go that is no bad line has a coming round
+pub go-unspent : (st : State) (command : Command) → command ≡ Go → allowed st command ≡ true → st .phase < 64
+go-unspent st command e h = ltb-true (st .phase) 64 (rw e at h)
+
+accepted-is : (outcome : Outcome (Unit {0})) → isAccepted outcome ≡ true → outcome ≡ accepted tt
+accepted-is (accepted value) e = refl
+accepted-is (refused number) e = absurd (let z : _≡_ {A = ℕ} 0 1 = cc in omega arith)
+
+-- an accepted crew has at most 32 nodes
+pub crew-small : (crew : Crew) → crewAccepted crew ≡ true → crew .n ≤ 32
+crew-small crew e = accepts crew (accepted-is (acceptOf crew) e) .size-to

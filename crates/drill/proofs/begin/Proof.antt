@@ -1,0 +1,85 @@
+use Rattle.drill.proofs.Tables.{Filled, filled-none, filled-more, filled-all}
+use Rattle.drill.specs.Steps.{begunOf}
+use Rattle.node.specs.Starting.{startOf}
+use Rattle.node.specs.Record.{blank}
+use Rattle.wire.specs.Outcome.{valueOr}
+use lib.ListN.{getD}
+use Prim.Native.Nat.{_-_}
+use mathlib.Core.Path.{refl}
+use borrow.Author.Needs.{needs}
+use Rattle.drill.proofs.begin.Statement.{statement}
+use Rattle.drill.proofs.begin.Tie as tie
+
+abbrev Inv-loop : tie.InvT-loop
+Inv-loop crew plans nodes₀ i₀ nodes i = Filled (λ j. valueOr blank (startOf crew j 1 (getD plans j 0))) 32 nodes i
+
+abbrev μ-loop : tie.MeasureT-loop
+μ-loop crew plans nodes₀ i₀ nodes i = 32 - i
+
+start-node-requires : tie.Need-start-node-requires Inv-loop μ-loop
+start-node-requires c κs = search needs
+
+loop-holds : tie.Need-loop-holds Inv-loop μ-loop
+loop-holds c = filled-none _ 32 _ refl
+
+mul-start-node : tie.Need-mul-start-node Inv-loop μ-loop
+mul-start-node c = search needs
+
+array-read-start-node : tie.Need-array-read-start-node Inv-loop μ-loop
+array-read-start-node c = search needs
+
+start-node-requires-2 : tie.Need-start-node-requires-2 Inv-loop μ-loop
+start-node-requires-2 c κs = search needs
+
+mul-nodes : tie.Need-mul-nodes Inv-loop μ-loop
+mul-nodes c = search needs
+
+array-set-from-nodes : tie.Need-array-set-from-nodes Inv-loop μ-loop
+array-set-from-nodes c = search needs
+
+add-i : tie.Need-add-i Inv-loop μ-loop
+add-i c = search needs
+
+loop-less : tie.Need-loop-less Inv-loop μ-loop
+loop-less c = search needs
+
+loop-again : tie.Need-loop-again Inv-loop μ-loop
+loop-again c =
+    filled-more _ 32 _ _ _ (c .before .loop-test .taken) (c .start-node2 .ensures) (c .before .before .loop .inv)
+
+honest-of-requires : tie.Need-honest-of-requires Inv-loop μ-loop
+honest-of-requires c κs = search needs
+
+empty-requires : tie.Need-empty-requires Inv-loop μ-loop
+empty-requires c κs = search needs
+
+returns : tie.Need-returns Inv-loop μ-loop
+unfolding begunOf
+returns c =
+    let b3 = c .before .before .before in
+    rw (
+      ← filled-all _ 32 _ _ (c .before .before .loop-test .left) (b3 .loop .inv),
+      ← c .before .honest-of .ensures,
+      ←
+          c .empty .ensures,
+    )
+
+pub begin-spec : {M : Type 1} → statement M
+begin-spec =
+    tie.close
+    (tie.spec
+    Inv-loop
+    μ-loop
+    start-node-requires
+    loop-holds
+    mul-start-node
+    array-read-start-node
+    start-node-requires-2
+    mul-nodes
+    array-set-from-nodes
+    add-i
+    loop-less
+    loop-again
+    honest-of-requires
+    empty-requires
+    returns)

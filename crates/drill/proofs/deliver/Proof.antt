@@ -1,0 +1,71 @@
+use Rattle.drill.specs.Round.{delivered}
+use mathlib.Core.Path.{sym, _∙_}
+use borrow.Author.Needs.{needs}
+use Rattle.drill.proofs.deliver.Statement.{statement}
+use Rattle.drill.proofs.deliver.Tie as tie
+
+is-cut-requires : tie.Need-is-cut-requires
+is-cut-requires c κs = search needs
+
+returns : tie.Need-returns
+unfolding delivered
+returns c = rw (sym (c .before .is-cut .ensures) ∙ c .if1 .taken)
+
+array-read-if2 : tie.Need-array-read-if2
+array-read-if2 c = search needs
+
+mul-node : tie.Need-mul-node
+mul-node c = search needs
+
+element-copy-out-node : tie.Need-element-copy-out-node
+element-copy-out-node c = search needs
+
+write-requires : tie.Need-write-requires
+write-requires c κs = search needs
+
+same-length : tie.Need-same-length
+same-length c = search needs
+
+returns-2 : tie.Need-returns-2
+unfolding delivered
+returns-2 c =
+    let b5 = c .before .before .before .before .before in
+    let b7 = b5 .before .before in
+    let b8 = b7 .before in
+    rw (sym (b8 .is-cut .ensures) ∙ b7 .if1 .left, b5 .if2 .taken) (c .before .before .write .ensures .2)
+
+say-of-requires : tie.Need-say-of-requires
+say-of-requires c κs = search needs
+
+write-say-requires : tie.Need-write-say-requires
+write-say-requires c κs = search needs
+
+same-length-2 : tie.Need-same-length-2
+same-length-2 c = search needs
+
+returns-3 : tie.Need-returns-3
+unfolding delivered
+returns-3 c =
+    let b4 = c .before .before .before .before in
+    let b5 = b4 .before in
+    let b7 = b5 .before .before in
+    let b8 = b7 .before in
+    rw (sym (b8 .is-cut .ensures) ∙ b7 .if1 .left, b5 .if2 .left, ← b4 .say-of .ensures)
+    (c .before .before .write-say .ensures)
+
+pub deliver-spec : {M : Type 1} → statement M
+deliver-spec =
+    tie.close
+    (tie.spec
+    is-cut-requires
+    returns
+    array-read-if2
+    mul-node
+    element-copy-out-node
+    write-requires
+    same-length
+    returns-2
+    say-of-requires
+    write-say-requires
+    same-length-2
+    returns-3)

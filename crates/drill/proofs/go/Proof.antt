@@ -1,0 +1,79 @@
+use Rattle.drill.proofs.Tables.{Filled, filled-none, filled-more, filled-all}
+use Rattle.drill.specs.Round.{nodeAfter, goOf}
+use Prim.Native.Nat.{_-_}
+use mathlib.Core.Path.{refl}
+use borrow.Author.Needs.{needs}
+use Rattle.drill.proofs.go.Statement.{statement}
+use Rattle.drill.proofs.go.Tie as tie
+
+abbrev Inv-loop : tie.InvT-loop
+Inv-loop state crew honest nodes₀ receiver₀ nodes receiver = Filled (nodeAfter state) 32 nodes receiver
+
+abbrev μ-loop : tie.MeasureT-loop
+μ-loop state crew honest nodes₀ receiver₀ nodes receiver = 32 - receiver
+
+element-copy-out-node : tie.Need-element-copy-out-node Inv-loop μ-loop
+element-copy-out-node c = search needs
+
+loop-holds : tie.Need-loop-holds Inv-loop μ-loop
+loop-holds c = filled-none _ 32 _ refl
+
+take-round-requires : tie.Need-take-round-requires Inv-loop μ-loop
+take-round-requires c κs = search needs
+
+mul-nodes : tie.Need-mul-nodes Inv-loop μ-loop
+mul-nodes c = search needs
+
+array-set-from-nodes : tie.Need-array-set-from-nodes Inv-loop μ-loop
+array-set-from-nodes c = search needs
+
+add-receiver : tie.Need-add-receiver Inv-loop μ-loop
+add-receiver c = search needs
+
+loop-less : tie.Need-loop-less Inv-loop μ-loop
+loop-less c = search needs
+
+loop-again : tie.Need-loop-again Inv-loop μ-loop
+loop-again c =
+    filled-more _ 32 _ _ _ (c .before .loop-test .taken) (c .take-round .ensures) (c .before .before .loop .inv)
+
+phase-after-requires : tie.Need-phase-after-requires Inv-loop μ-loop
+phase-after-requires c κs = search needs
+
+round-after-requires : tie.Need-round-after-requires Inv-loop μ-loop
+round-after-requires c κs = search needs
+
+empty-requires : tie.Need-empty-requires Inv-loop μ-loop
+empty-requires c κs = search needs
+
+returns : tie.Need-returns Inv-loop μ-loop
+unfolding goOf
+returns c =
+    let b3 = c .before .before .before in
+    let b4 = b3 .before in
+    rw (
+      ← filled-all _ 32 _ _ (b3 .loop-test .left) (b4 .loop .inv),
+      ← c .before .before .phase-after .ensures,
+      ←
+          c .before .round-after .ensures,
+      ← c .empty .ensures,
+    )
+
+pub go-spec : {M : Type 1} → statement M
+go-spec =
+    tie.close
+    (tie.spec
+    Inv-loop
+    μ-loop
+    element-copy-out-node
+    loop-holds
+    take-round-requires
+    mul-nodes
+    array-set-from-nodes
+    add-receiver
+    loop-less
+    loop-again
+    phase-after-requires
+    round-after-requires
+    empty-requires
+    returns)

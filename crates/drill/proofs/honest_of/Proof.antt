@@ -1,0 +1,53 @@
+use Rattle.drill.proofs.Tables.{Filled, filled-none, filled-more, filled-all}
+use lib.Dec.{leb}
+use lib.ListN.{take, getD}
+use Prim.Native.Nat.{_-_}
+use mathlib.Core.Path.{refl}
+use borrow.Author.Needs.{needs}
+use Rattle.drill.proofs.honest_of.Statement.{statement}
+use Rattle.drill.proofs.honest_of.Tie as tie
+
+abbrev Inv-loop : tie.InvT-loop
+Inv-loop plans honest₀ i₀ honest i = Filled (λ j. leb 1 (getD plans j 0)) 32 honest i
+
+abbrev μ-loop : tie.MeasureT-loop
+μ-loop plans honest₀ i₀ honest i = 32 - i
+
+loop-holds : tie.Need-loop-holds Inv-loop μ-loop
+loop-holds c = filled-none _ 32 _ refl
+
+mul-honest : tie.Need-mul-honest Inv-loop μ-loop
+mul-honest c = search needs
+
+array-read-honest : tie.Need-array-read-honest Inv-loop μ-loop
+array-read-honest c = search needs
+
+array-write-honest : tie.Need-array-write-honest Inv-loop μ-loop
+array-write-honest c = search needs
+
+add-i : tie.Need-add-i Inv-loop μ-loop
+add-i c = search needs
+
+loop-less : tie.Need-loop-less Inv-loop μ-loop
+loop-less c = search needs
+
+loop-again : tie.Need-loop-again Inv-loop μ-loop
+loop-again c = filled-more _ 32 _ _ _ (c .loop-test .taken) refl (c .before .loop .inv)
+
+returns : tie.Need-returns Inv-loop μ-loop
+returns c = filled-all _ 32 _ _ (c .loop-test .left) (c .before .loop .inv)
+
+pub honest-of-spec : {M : Type 1} → statement M
+honest-of-spec =
+    tie.close
+    (tie.spec
+    Inv-loop
+    μ-loop
+    loop-holds
+    mul-honest
+    array-read-honest
+    array-write-honest
+    add-i
+    loop-less
+    loop-again
+    returns)

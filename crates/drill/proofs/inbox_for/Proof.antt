@@ -1,0 +1,77 @@
+use mathlib.Core.Path.{refl, _≡_}
+use native.Mathlib.Omega.{arith}
+use Rattle.drill.proofs.Slots.{Laid, laid-none, laid-more, laid-long, laid-all}
+use lib.ListN.{length}
+use Prim.Native.Nat.{_≤_, _-_}
+use borrow.Author.Needs.{needs}
+use Rattle.drill.proofs.inbox_for.Statement.{statement}
+use Rattle.drill.proofs.inbox_for.Tie as tie
+
+abbrev Inv-loop : tie.InvT-loop
+Inv-loop state receiver inbox₀ n sender₀ inbox sender =
+    (sender ≤ n) × (length inbox ≡ 6464) × Laid state receiver inbox sender
+
+abbrev μ-loop : tie.MeasureT-loop
+μ-loop state receiver inbox₀ n sender₀ inbox sender = n - sender
+
+cast-n : tie.Need-cast-n Inv-loop μ-loop
+cast-n c = search needs
+
+loop-holds : tie.Need-loop-holds Inv-loop μ-loop
+loop-holds c = (omega arith, refl, laid-none _ _ _ refl)
+
+mul-at : tie.Need-mul-at Inv-loop μ-loop
+mul-at c = search needs
+
+add-end : tie.Need-add-end Inv-loop μ-loop
+add-end c = search needs
+
+sub-deliver : tie.Need-sub-deliver Inv-loop μ-loop
+sub-deliver c = search needs
+
+part-inbox-start : tie.Need-part-inbox-start Inv-loop μ-loop
+part-inbox-start c = search needs
+
+part-inbox-end : tie.Need-part-inbox-end Inv-loop μ-loop
+part-inbox-end c = search needs
+
+deliver-requires : tie.Need-deliver-requires Inv-loop μ-loop
+deliver-requires c κs = search needs
+
+add-sender : tie.Need-add-sender Inv-loop μ-loop
+add-sender c = search needs
+
+loop-less : tie.Need-loop-less Inv-loop μ-loop
+loop-less c = search needs
+
+loop-again : tie.Need-loop-again Inv-loop μ-loop
+loop-again c =
+    let b4 = c .before .before .before .before in
+    let more = laid-more _ _ _ (b4 .loop .sender) _ (search needs) (c .before .deliver .ensures)
+    (c .before .deliver .kept .1 .1 .1 .0) (b4 .loop .inv .2) in
+    (search needs, laid-long _ _ _ _ more, more)
+
+returns : tie.Need-returns Inv-loop μ-loop
+returns c = (
+  c .before .loop .inv .1,
+  laid-all _ _ _ _ _ (c .loop-test .left) (c .before .loop .inv .0) (c .before .loop .inv .2),
+)
+
+pub inbox-for-spec : {M : Type 1} → statement M
+inbox-for-spec =
+    tie.close
+    (tie.spec
+    Inv-loop
+    μ-loop
+    cast-n
+    loop-holds
+    mul-at
+    add-end
+    sub-deliver
+    part-inbox-start
+    part-inbox-end
+    deliver-requires
+    add-sender
+    loop-less
+    loop-again
+    returns)

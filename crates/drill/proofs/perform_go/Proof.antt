@@ -1,0 +1,43 @@
+use borrow.Author.Needs.{needs}
+use Rattle.drill.proofs.perform_go.Statement.{statement}
+use Rattle.drill.proofs.perform_go.Tie as tie
+
+go-requires : tie.Need-go-requires
+go-requires c κs = search needs
+
+results-of-requires : tie.Need-results-of-requires
+results-of-requires c κs = search needs
+
+cast-n : tie.Need-cast-n
+cast-n c = search needs
+
+result-line-requires : tie.Need-result-line-requires
+result-line-requires c κs = search needs
+
+show-requires : tie.Need-show-requires
+show-requires c κs = search needs
+
+same-length : tie.Need-same-length
+same-length c = search needs
+
+returns : tie.Need-returns
+returns c =
+    let b4 = c .before .before .before .before in
+    let b8 = b4 .before .before .before .before in
+    let b9 = b8 .before in (
+      b9 .go .ensures,
+      rw (← b9 .go .ensures, ← b8 .results-of .ensures) (b4 .result-line .ensures .0),
+      b4 .result-line .ensures .1,
+    )
+
+pub perform-go-spec : {M : Type 1} → statement M
+perform-go-spec =
+    tie.close
+    (tie.spec
+    go-requires
+    results-of-requires
+    cast-n
+    result-line-requires
+    show-requires
+    same-length
+    returns)

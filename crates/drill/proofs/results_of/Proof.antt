@@ -1,0 +1,57 @@
+use Rattle.drill.proofs.Tables.{Filled, filled-none, filled-more, filled-all}
+use Rattle.drill.specs.Round.{resultAt}
+use lib.ListN.{take}
+use Prim.Native.Nat.{_-_}
+use mathlib.Core.Path.{refl}
+use borrow.Author.Needs.{needs}
+use Rattle.drill.proofs.results_of.Statement.{statement}
+use Rattle.drill.proofs.results_of.Tie as tie
+
+abbrev Inv-loop : tie.InvT-loop
+Inv-loop state results₀ i₀ results i = Filled (resultAt state) 32 results i
+
+abbrev μ-loop : tie.MeasureT-loop
+μ-loop state results₀ i₀ results i = 32 - i
+
+loop-holds : tie.Need-loop-holds Inv-loop μ-loop
+loop-holds c = filled-none _ 32 _ refl
+
+mul-node : tie.Need-mul-node Inv-loop μ-loop
+mul-node c = search needs
+
+element-copy-out-node : tie.Need-element-copy-out-node Inv-loop μ-loop
+element-copy-out-node c = search needs
+
+mul-results : tie.Need-mul-results Inv-loop μ-loop
+mul-results c = search needs
+
+array-write-results : tie.Need-array-write-results Inv-loop μ-loop
+array-write-results c = search needs
+
+add-i : tie.Need-add-i Inv-loop μ-loop
+add-i c = search needs
+
+loop-less : tie.Need-loop-less Inv-loop μ-loop
+loop-less c = search needs
+
+loop-again : tie.Need-loop-again Inv-loop μ-loop
+loop-again c = filled-more _ 32 _ _ _ (c .before .loop-test .taken) refl (c .before .before .loop .inv)
+
+returns : tie.Need-returns Inv-loop μ-loop
+returns c = filled-all _ 32 _ _ (c .loop-test .left) (c .before .loop .inv)
+
+pub results-of-spec : {M : Type 1} → statement M
+results-of-spec =
+    tie.close
+    (tie.spec
+    Inv-loop
+    μ-loop
+    loop-holds
+    mul-node
+    element-copy-out-node
+    mul-results
+    array-write-results
+    add-i
+    loop-less
+    loop-again
+    returns)

@@ -1,0 +1,51 @@
+use Rattle.drill.specs.Round.{nodeAfter}
+use lib.Seq.{length-take-le}
+use native.Mathlib.Omega.{arith}
+use mathlib.Core.Path.{sym}
+use borrow.Author.Needs.{needs}
+use Rattle.drill.proofs.take_round.Statement.{statement}
+use Rattle.drill.proofs.take_round.Tie as tie
+
+inbox-for-requires : tie.Need-inbox-for-requires
+inbox-for-requires c κs = search needs
+
+cast-size : tie.Need-cast-size
+cast-size c = search needs
+
+mul-size : tie.Need-mul-size
+mul-size c = search needs
+
+mul-node : tie.Need-mul-node
+mul-node c = search needs
+
+element-copy-out-node : tie.Need-element-copy-out-node
+element-copy-out-node c = search needs
+
+array-share-prefix-inbox : tie.Need-array-share-prefix-inbox
+array-share-prefix-inbox c = search needs
+
+slice-aggregate-take : tie.Need-slice-aggregate-take
+slice-aggregate-take c =
+    let b3 = c .before .before .before in
+    sym (length-take-le _ _ (omega (arith, c .before .before .inbox-for .ensures .0, b3 .pre .0)))
+
+take-requires : tie.Need-take-requires
+take-requires c κs = search needs
+
+returns : tie.Need-returns
+unfolding nodeAfter
+returns c = rw (← c .before .before .before .before .inbox-for .ensures .1) (c .before .take .ensures .1)
+
+pub take-round-spec : {M : Type 1} → statement M
+take-round-spec =
+    tie.close
+    (tie.spec
+    inbox-for-requires
+    cast-size
+    mul-size
+    mul-node
+    element-copy-out-node
+    array-share-prefix-inbox
+    slice-aggregate-take
+    take-requires
+    returns)

@@ -1,0 +1,70 @@
+use Rattle.drill.proofs.Slots.{selection-said}
+use mathlib.Core.Path.{_∙_}
+use Rattle.drill.specs.Round.{sayBuffer}
+use borrow.Author.Tests.{eq-eqb, ne-eqb}
+use borrow.Author.Needs.{needs}
+use Rattle.drill.proofs.write_say.Statement.{statement}
+use Rattle.drill.proofs.write_say.Tie as tie
+
+returns : tie.Need-returns
+unfolding sayBuffer
+returns c = rw (eq-eqb _ _ (c .if1 .taken))
+
+write-selection-requires : tie.Need-write-selection-requires
+write-selection-requires c κs = search needs
+
+same-length : tie.Need-same-length
+same-length c = search needs
+
+returns-2 : tie.Need-returns-2
+unfolding sayBuffer
+returns-2 c =
+    let b4 = c .before .before .before .before in
+    let b5 = b4 .before in
+    rw (ne-eqb _ _ (b5 .if1 .left), eq-eqb _ _ (b4 .if2 .taken))
+    (c .before .before .write-selection .ensures .1 ∙ selection-said _ _ _ _ _)
+
+write-validation-requires : tie.Need-write-validation-requires
+write-validation-requires c κs = search needs
+
+same-length-2 : tie.Need-same-length-2
+same-length-2 c = search needs
+
+returns-3 : tie.Need-returns-3
+unfolding sayBuffer
+returns-3 c =
+    let b4 = c .before .before .before .before in
+    let b5 = b4 .before in
+    let b6 = b5 .before in
+    rw (ne-eqb _ _ (b6 .if1 .left), ne-eqb _ _ (b5 .if2 .left), eq-eqb _ _ (b4 .if3 .taken))
+    (c .before .before .write-validation .ensures .1)
+
+write-decision-requires : tie.Need-write-decision-requires
+write-decision-requires c κs = search needs
+
+same-length-3 : tie.Need-same-length-3
+same-length-3 c = search needs
+
+returns-4 : tie.Need-returns-4
+unfolding sayBuffer
+returns-4 c =
+    let b4 = c .before .before .before .before in
+    let b5 = b4 .before in
+    let b6 = b5 .before in
+    rw (ne-eqb _ _ (b6 .if1 .left), ne-eqb _ _ (b5 .if2 .left), ne-eqb _ _ (b4 .if3 .left))
+    (c .before .before .write-decision .ensures .1)
+
+pub write-say-spec : {M : Type 1} → statement M
+write-say-spec =
+    tie.close
+    (tie.spec
+    returns
+    write-selection-requires
+    same-length
+    returns-2
+    write-validation-requires
+    same-length-2
+    returns-3
+    write-decision-requires
+    same-length-3
+    returns-4)

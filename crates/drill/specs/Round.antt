@@ -1,0 +1,99 @@
+-- What a go does among the nodes: document 01, 'The drill' and 'The list in demand 3'. Every honest node writes its
+-- coming message, then every honest node takes the round, with an inbox of what reaches it.
+use Prim.Native.Nat.{ℕ, zero, suc, _+_}
+use mathlib.Core.Bool.{Bool, false, cond}
+use mathlib.Core.List.{List, [], _∷_, _++_}
+use lib.ListN.{getD, replicate}
+use lib.Dec.{leb, eqb}
+use Rattle.wire.specs.Outcome.{valueOr}
+use Rattle.message.specs.Fields.{Body, selection, validation, decision, Message}
+use Rattle.message.specs.Writing.{bufferOf as messageBuffer}
+use Rattle.node.specs.declared.Node.{Node}
+use Rattle.node.specs.Sending.{bufferOf as nodeBuffer}
+use Rattle.rounds.specs.Taking.{takeOf}
+use Rattle.pending.specs.Pairs.{nothing, isCut, saidOf}
+use Rattle.drill.specs.declared.State.{State}
+
+-- f 0 to f (n - 1)
+unfoldable pub table : {A : Type 0} → (ℕ → A) → ℕ → List A
+table f zero = []
+table f (suc n) = table f n ++ (f n ∷ [])
+
+-- what stands at no place of an array of records
+abbrev pub nowhere : Node
+nowhere = record {
+  crew = record { class = 0; n = 0; b = 0; f = 0; d = 0 };
+  own = 0;
+  run = 0;
+  phase = 0;
+  round = 0;
+  vote = 0;
+  base = 0;
+  stamp = 0;
+  select = 0;
+  result = 0;
+  history = [];
+}
+
+abbrev pub nodeAt : State → ℕ → Node
+nodeAt st i = getD (st .nodes) i nowhere
+
+abbrev pub isHonest : State → ℕ → Bool
+isHonest st i = getD (st .honest) i false
+
+-- 01: "sends r in the coming round plan v with stamp t and no entries"
+abbrev pub sayBody : ℕ → ℕ → ℕ → Body
+sayBody round plan stamp =
+    cond (eqb round 1) (selection plan stamp []) (cond (eqb round 2) (validation plan) (decision plan stamp))
+
+-- 01: "Run is 1."
+abbrev pub sayMessage : ℕ → ℕ → ℕ → ℕ → Message
+sayMessage phase round plan stamp = record { run = 1; phase = phase; body = sayBody round plan stamp }
+
+-- A slot with the message of a say at its front; plan 0 stands for no say.
+-- 01: "without a say it sends r nothing"
+unfoldable pub sayBuffer : ℕ → ℕ → ℕ → ℕ → List ℕ → List ℕ
+sayBuffer phase round plan stamp slot = cond (eqb plan 0) slot (messageBuffer (sayMessage phase round plan stamp) slot)
+
+-- A receiver's slot for a sender, with what reaches it from there at its front.
+-- 01: "`cut s r` (s to r is lost)"; "a cut wins over a say"
+unfoldable pub delivered : State → ℕ → ℕ → List ℕ → List ℕ
+delivered st sender receiver slot =
+    let said = saidOf (st .pending) sender receiver in
+    cond (isCut (st .pending) sender receiver) slot
+    (cond (isHonest st sender) (nodeBuffer (nodeAt st sender) slot)
+    (sayBuffer (st .phase) (st .round) (said .plan) (said .stamp) slot))
+
+-- the slots of the first n senders, each empty before
+unfoldable pub slotsOf : State → ℕ → ℕ → List ℕ
+slotsOf st receiver zero = []
+slotsOf st receiver (suc sender) = slotsOf st receiver sender ++ delivered st sender receiver (replicate 202 0)
+
+-- 01: "The drill lends each node an inbox of 6,464 bytes, cut to 202n."
+abbrev pub inboxOf : State → ℕ → List ℕ
+inboxOf st receiver = slotsOf st receiver (st .crew .n)
+
+-- A node's record after the round. That of a node that is not honest is not sound, so its take is refused and it stays.
+unfoldable pub nodeAfter : State → ℕ → Node
+nodeAfter st receiver = valueOr (nodeAt st receiver) (takeOf (nodeAt st receiver) (inboxOf st receiver))
+
+abbrev pub resultAt : State → ℕ → ℕ
+resultAt st i = nodeAt st i .result
+
+-- 01: "Class 1 goes on to round 3, the others to round 2 and then 3."; after it "Phase rises by 1, round is 1."
+abbrev pub roundAfter : ℕ → ℕ → ℕ
+roundAfter class round = cond (leb 3 round) 1 (cond (eqb class 1) 3 (round + 1))
+
+abbrev pub phaseAfter : ℕ → ℕ → ℕ
+phaseAfter phase round = cond (leb 3 round) (phase + 1) phase
+
+-- 01: "Cuts and says last until the next go"
+unfoldable pub goOf : State → State
+goOf st = record {
+  crew = st .crew;
+  phase = phaseAfter (st .phase) (st .round);
+  round = roundAfter (st .crew .class) (st .round);
+  honest = st .honest;
+  nodes = table (nodeAfter st) 32;
+  pending = nothing;
+}

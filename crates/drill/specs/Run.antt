@@ -1,0 +1,54 @@
+-- What a whole script prints, from its bytes to the output's bytes: document 01, 'The drill'.
+use Prim.Native.Nat.{ℕ, _+_}
+use mathlib.Core.Bool.{Bool, true, false, cond}
+use mathlib.Core.List.{List, [], _∷_, _++_}
+use lib.ListN.{length}
+use lib.Dec.{ltb, eqb}
+use Rattle.script.specs.Lines.{split}
+use Rattle.script.specs.Fields.{numbersOn}
+use Rattle.script.specs.Commands.{commandOf, crewOf, plansOf}
+use Rattle.script.specs.declared.CrewLine.{CrewLine}
+use Rattle.script.specs.declared.CrewLine.the-variants.{Crew as CrewRead, NoCrew}
+use Rattle.print.specs.Texts.{badLine, endLine, longLine}
+use Rattle.crew.specs.declared.Crew.{Crew}
+use Rattle.node.specs.Soundness.{crewAccepted}
+use Rattle.drill.specs.declared.State.{State}
+use Rattle.drill.specs.Steps.{allowed, after, text, begunOf}
+
+-- Of the pieces that a script has between its bytes 10 the last is not a line: it is empty, or an unended line.
+abbrev pub isLast : List (List ℕ) → Bool
+isLast [] = true
+isLast (w ∷ ws) = false
+
+-- The lines from number l on.
+-- 01: "The end prints `end`."; "A bad line L (also a missing, empty or unended one ..) prints `bad L` and stops,
+-- without `end`."
+unfoldable pub follow : State → ℕ → List (List ℕ) → List ℕ
+follow st l [] = []
+follow st l (w ∷ ws) =
+    cond (isLast ws)
+    (cond (eqb (length w) 0) endLine (badLine l))
+    (cond (allowed st (commandOf w)) (text st (commandOf w) ++ follow (after st (commandOf w)) (l + 1) ws) (badLine l))
+
+-- the lines from line 2 on
+unfoldable pub second : Crew → List (List ℕ) → List ℕ
+second crew [] = []
+second crew (w ∷ ws) =
+    let line = plansOf (numbersOn w) (crew .n) in
+    cond (isLast ws) (badLine 2) (cond (line .good) (follow (begunOf crew (line .plans)) 3 ws) (badLine 2))
+
+-- the rest of a script by what its line 1 says
+abbrev pub crewed : CrewLine → List (List ℕ) → List ℕ
+crewed (CrewRead class n b f d) ws =
+    let crew : Crew = record { class = class; n = n; b = b; f = f; d = d } in
+    cond (crewAccepted crew) (second crew ws) (badLine 1)
+crewed NoCrew ws = badLine 1
+
+unfoldable pub first : List (List ℕ) → List ℕ
+first [] = []
+first (w ∷ ws) = cond (isLast ws) (badLine 1) (crewed (crewOf (numbersOn w)) ws)
+
+-- The whole output.
+-- 01: "It reads standard input (over 65,536 bytes: prints `long` only)."
+unfoldable pub drillOf : List ℕ → List ℕ
+drillOf input = cond (ltb 65536 (length input)) longLine (first (split 10 input))
