@@ -3,3 +3,4 @@ pub mod Slots
 pub mod Stepping
 pub mod Following
 pub mod Bound
+pub mod Example
