@@ -63,8 +63,8 @@ example = refl
 abbrev badAt : ℕ → List ℕ
 badAt l = 98 ∷ 97 ∷ 100 ∷ 32 ∷ (48 + l) ∷ 10 ∷ []
 
--- 01: "A bad line L (also a missing, empty or unended one ..)": no input, line 2 missing, an empty line 3, a `go` that is
--- not ended, and `say 0 1 6 0` from an honest node
+-- 01: "A bad line L (also a missing, empty or unended one ..)": no input, line 2 missing, an empty line 3, a `go`
+-- that is not ended, and `say 0 1 6 0` from an honest node
 pub bad-lines :
     (drillOf [] ≡ badAt 1)
     × (drillOf (51 ∷ 32 ∷ 52 ∷ 32 ∷ 49 ∷ 32 ∷ 48 ∷ 32 ∷ 51 ∷ 10 ∷ []) ≡ badAt 2)
