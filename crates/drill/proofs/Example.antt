@@ -8,7 +8,7 @@ use Rattle.message.specs.Reading.{entriesIn, bodyAt, tested, readOf}
 use Rattle.message.specs.Encoding.{entryBytes, encode}
 use Rattle.message.specs.Bounds.{entriesOk}
 use Rattle.ballot.specs.Decision.{decides, decision}
-use Rattle.ballot.specs.Count.{tally, count, gather}
+use Rattle.ballot.specs.Count.{tally, countIf, gather}
 use Rattle.ballot.specs.Validation.{valid, validated}
 use Rattle.ballot.specs.Ballot.{lists}
 use Rattle.ballot.specs.Selection.{possible, backed, backing, enough, selection, leading, mostVoted, anyPlan, taken}
@@ -16,7 +16,7 @@ use Rattle.ballot.specs.Least.{least, leastOf}
 use Rattle.node.specs.Soundness.{emptyFrom, sound}
 use Rattle.node.specs.Record.{begun, blank}
 use Rattle.node.specs.Starting.{startOf}
-use Rattle.node.specs.Sending.{comingOf, writeOf as writeOf33}
+use Rattle.node.specs.Sending.{comingOf, writeOf as sendOf}
 use Rattle.rounds.specs.Inbox.{ballotAt}
 use Rattle.rounds.specs.Taking.{afterRound, takeOf}
 use Rattle.script.specs.Commands.{commandOf}
@@ -52,9 +52,9 @@ output =
 
 pub example : drillOf script ≡ output
 unfolding
-    acceptOf writeOf listed entriesIn bodyAt tested readOf entryBytes encode entriesOk decides decision tally count
-    gather valid validated lists possible backed backing enough selection leading mostVoted anyPlan taken least
-    leastOf emptyFrom sound begun blank startOf comingOf writeOf33 ballotAt afterRound takeOf commandOf until onto
+    acceptOf writeOf listed entriesIn bodyAt tested readOf entryBytes encode entriesOk decides decision tally
+    countIf gather valid validated lists possible backed backing enough selection leading mostVoted anyPlan taken least
+    leastOf emptyFrom sound begun blank startOf comingOf sendOf ballotAt afterRound takeOf commandOf until onto
     split valueFrom numberOf numbersFrom starts decimalOf fieldOf fieldsFrom resultLine badLine nothing withCut
     withSay isCut saidOf follow second first drillOf begunOf table sayBuffer delivered slotsOf nodeAfter goOf
 example = refl
@@ -72,9 +72,9 @@ pub bad-lines :
     × (drillOf (beginning ++ (103 ∷ 111 ∷ [])) ≡ badAt 3)
     × (drillOf (beginning ++ (115 ∷ 97 ∷ 121 ∷ 32 ∷ 48 ∷ 32 ∷ 49 ∷ 32 ∷ 54 ∷ 32 ∷ 48 ∷ 10 ∷ [])) ≡ badAt 3)
 unfolding
-    acceptOf writeOf listed entriesIn bodyAt tested readOf entryBytes encode entriesOk decides decision tally count
-    gather valid validated lists possible backed backing enough selection leading mostVoted anyPlan taken least
-    leastOf emptyFrom sound begun blank startOf comingOf writeOf33 ballotAt afterRound takeOf commandOf until onto
+    acceptOf writeOf listed entriesIn bodyAt tested readOf entryBytes encode entriesOk decides decision tally
+    countIf gather valid validated lists possible backed backing enough selection leading mostVoted anyPlan taken least
+    leastOf emptyFrom sound begun blank startOf comingOf sendOf ballotAt afterRound takeOf commandOf until onto
     split valueFrom numberOf numbersFrom starts decimalOf fieldOf fieldsFrom resultLine badLine nothing withCut
     withSay isCut saidOf follow second first drillOf begunOf table sayBuffer delivered slotsOf nodeAfter goOf
 bad-lines = (refl, refl, refl, refl, refl)
