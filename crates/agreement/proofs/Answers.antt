@@ -14,7 +14,7 @@ use Rattle.wire.proofs.Outcomes.{passed}
 use Rattle.node.specs.declared.Node.{Node}
 use Rattle.node.specs.Soundness.{sound}
 use Rattle.node.specs.Sending.{comingBytes, writeOf}
-use Rattle.rounds.specs.Inbox.{ballots}
+use Rattle.inbox.specs.Inbox.{ballots}
 use Rattle.rounds.specs.Taking.{afterRound, takeOf}
 use Rattle.rounds.specs.Asking.{askOf}
 use Rattle.agreement.specs.Statement.{Unspent, Spent}

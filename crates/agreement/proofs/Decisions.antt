@@ -24,7 +24,7 @@ use Rattle.node.specs.declared.Node.{Node}
 use Rattle.node.specs.Record.{begun}
 use Rattle.node.specs.Soundness.{isAccepted}
 use Rattle.node.proofs.StartLaws.{start-accepted}
-use Rattle.rounds.specs.Inbox.{ballotAt}
+use Rattle.inbox.specs.Inbox.{ballotAt}
 use Rattle.agreement.specs.Statement.{Listing, answerTo, made, honest, recordOf, recordAt}
 use Rattle.agreement.specs.Statement.{inboxAt, phaseAt, Every, Premises, isFor, Wins, Decided, PlanDecided}
 use Rattle.agreement.specs.Statement.{standing}

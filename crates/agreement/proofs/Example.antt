@@ -31,7 +31,7 @@ use Rattle.node.specs.Record.{begun}
 use Rattle.node.specs.Soundness.{emptyFrom, sound}
 use Rattle.node.specs.Starting.{startOf}
 use Rattle.node.specs.Sending.{comingOf, writeOf}
-use Rattle.rounds.specs.Inbox.{slotAt, ballotAt}
+use Rattle.inbox.specs.Inbox.{slotAt, ballotAt}
 use Rattle.rounds.specs.Taking.{afterRound, takeOf}
 use Rattle.agreement.specs.Statement.{Start, Call, write, ask, take-round, Event, Listing, made, honest, recordOf}
 use Rattle.agreement.specs.Statement.{afterCalls, callsOf, calls, recordAt, takenInbox, inboxAt, Wrote, Whole}

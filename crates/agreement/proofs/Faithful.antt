@@ -20,7 +20,7 @@ use Rattle.node.specs.declared.Node.{Node}
 use Rattle.node.specs.Soundness.{sound}
 use Rattle.node.specs.Sending.{comingBytes}
 use Rattle.node.proofs.Facts.{Typed}
-use Rattle.rounds.specs.Inbox.{counted, ballotAt}
+use Rattle.inbox.specs.Inbox.{counted, ballotAt}
 use Rattle.agreement.specs.Statement.{Listing, honest, calls, recordAt}
 use Rattle.agreement.specs.Statement.{inboxAt, Premises}
 use Rattle.agreement.proofs.Plans.{slot-plan}

@@ -15,7 +15,7 @@ use Rattle.ballot.proofs.Counting.{Same}
 use Rattle.ballot.proofs.Order.{same-inboxes, selection-same, taken-same, validated-same, decision-same}
 use Rattle.node.specs.declared.Node.{Node}
 use Rattle.node.specs.Soundness.{sound}
-use Rattle.rounds.specs.Inbox.{ballots}
+use Rattle.inbox.specs.Inbox.{ballots}
 use Rattle.rounds.specs.Taking.{afterSelection, afterValidation, afterDecision, afterRound, takeOf}
 use Rattle.rounds.specs.Asking.{askOf}
 

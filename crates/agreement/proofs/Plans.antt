@@ -26,7 +26,7 @@ use Rattle.ballot.proofs.Counting.{count-le}
 use Rattle.ballot.proofs.Least.{Voted}
 use Rattle.ballot.proofs.Slots.{same-ballot, not-none, no-slot-counts}
 use Rattle.node.specs.declared.Node.{Node}
-use Rattle.rounds.specs.Inbox.{slotAt, ballotOf, isOf, counted, ballotAt, ballots}
+use Rattle.inbox.specs.Inbox.{slotAt, ballotOf, isOf, counted, ballotAt, ballots}
 
 -- a slot that counts is read to a message, and says what that message puts forward
 pub slot-read : (d : Node) (inbox : List ℕ) (q : ℕ) (m : Ballot) → ballotAt d inbox q ≡ some m

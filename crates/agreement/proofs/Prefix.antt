@@ -9,7 +9,7 @@ use lib.ListN.{length, take, length-take}
 use lib.Seq.{getD-take}
 use Rattle.crew.specs.declared.Crew.{Crew}
 use Rattle.ballot.specs.Ballot.{Ballot}
-use Rattle.rounds.specs.Inbox.{ballotAt}
+use Rattle.inbox.specs.Inbox.{ballotAt}
 use Rattle.agreement.specs.Statement.{Listing, afterCalls, callsOf, calls, recordAt, takenInbox, inboxAt, Wrote}
 use Rattle.agreement.specs.Statement.{Whole, Hears, Premises, Conclusions}
 use Rattle.agreement.proofs.Calls.{taken-inside}

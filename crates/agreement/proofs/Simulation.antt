@@ -21,7 +21,7 @@ use Rattle.node.specs.Soundness.{sound}
 use Rattle.node.specs.Sending.{comingBytes}
 use Rattle.node.proofs.Facts.{Typed, sound-facts}
 use Rattle.node.proofs.StartLaws.{start-accepted, start-sound, start-typed}
-use Rattle.rounds.specs.Inbox.{ballotAt, ballots}
+use Rattle.inbox.specs.Inbox.{ballotAt, ballots}
 use Rattle.rounds.specs.Taking.{afterRound}
 use Rattle.agreement.specs.Statement.{Start, Listing, Call, made, honest, recordOf, afterCalls, calls, recordAt}
 use Rattle.agreement.specs.Statement.{takenInbox, inboxAt, write, Puts, Wrote, Whole, Premises}

@@ -29,7 +29,7 @@ use Rattle.node.specs.Starting.{startOf}
 use Rattle.node.specs.Sending.{writeOf, bufferAfter, comingBytes, bufferOf}
 use Rattle.node.proofs.Facts.{Sound, Typed, sound-facts, facts-sound, last-round}
 use Rattle.node.proofs.StartLaws.{start-sound}
-use Rattle.rounds.specs.Inbox.{ballots}
+use Rattle.inbox.specs.Inbox.{ballots}
 use Rattle.rounds.specs.Taking.{afterSelection, afterValidation, afterDecision, afterRound, takeOf}
 use Rattle.rounds.specs.Asking.{askOf}
 use Rattle.agreement.specs.Statement.{write, ask, take-round, afterCall}

@@ -22,7 +22,7 @@ use Rattle.node.specs.Sending.{listedPhases, comingOf, comingBytes}
 use Rattle.node.proofs.Facts.{Typed, sound-facts}
 use Rattle.node.proofs.SendLaws.{write-accepted}
 use Rattle.node.proofs.ReadBack.{read-back}
-use Rattle.rounds.specs.Inbox.{counted}
+use Rattle.inbox.specs.Inbox.{counted}
 use Rattle.agreement.specs.Statement.{write, Puts}
 use Rattle.agreement.proofs.Record.{asRecord}
 use Rattle.agreement.proofs.Entries.{listed-said}

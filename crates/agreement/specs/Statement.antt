@@ -23,7 +23,7 @@ use Rattle.node.specs.Record.{blank}
 use Rattle.node.specs.Soundness.{isAccepted}
 use Rattle.node.specs.Starting.{startOf}
 use Rattle.node.specs.Sending.{comingOf, comingBytes, writeOf, bufferOf}
-use Rattle.rounds.specs.Inbox.{slotAt, ballotAt, ballots}
+use Rattle.inbox.specs.Inbox.{slotAt, ballotAt, ballots}
 use Rattle.rounds.specs.Taking.{takeOf}
 use Rattle.rounds.specs.Asking.{askOf}
 

@@ -17,7 +17,7 @@ use Rattle.node.specs.Soundness.{emptyFrom, sound}
 use Rattle.node.specs.Record.{begun, blank}
 use Rattle.node.specs.Starting.{startOf}
 use Rattle.node.specs.Sending.{comingOf, writeOf as sendOf}
-use Rattle.rounds.specs.Inbox.{ballotAt}
+use Rattle.inbox.specs.Inbox.{ballotAt}
 use Rattle.rounds.specs.Taking.{afterRound, takeOf}
 use Rattle.script.specs.Commands.{commandOf}
 use Rattle.script.specs.Lines.{until, onto, split}

@@ -9,7 +9,7 @@ use Rattle.crew.specs.Thresholds.{classOf}
 use Rattle.ballot.specs.Selection.{Choice, plan, any, nothing, selection}
 use Rattle.node.specs.declared.Node.{Node}
 use Rattle.node.specs.Soundness.{sound}
-use Rattle.rounds.specs.Inbox.{ballots}
+use Rattle.inbox.specs.Inbox.{ballots}
 use Rattle.rounds.specs.Taking.{number}
 use Rattle.rounds.specs.declared.Asking.{Asking}
 use Rattle.rounds.specs.declared.Asking.the-variants.{Plan, Any, Nothing, Refused}

@@ -12,7 +12,7 @@ use Rattle.ballot.specs.Validation.{validated}
 use Rattle.ballot.specs.Decision.{decision}
 use Rattle.node.specs.declared.Node.{Node}
 use Rattle.node.specs.Soundness.{sound}
-use Rattle.rounds.specs.Inbox.{ballots}
+use Rattle.inbox.specs.Inbox.{ballots}
 use Rattle.rounds.specs.declared.Refusal.{Refusal}
 use Rattle.rounds.specs.declared.Refusal.the-variants.{Unsound, Spent, Inbox}
 use Rattle.rounds.specs.declared.Taking.{Taking}

@@ -2,6 +2,7 @@
 use mathlib.Core.Path.{_∙_, ap}
 use borrow.Author.Needs.{needs}
 use borrow.Author.Tests.{eq-eqb, ne-eqb}
+use Rattle.tally.proofs.Countable.{selected-rule, valid-rule, decided-rule}
 use Rattle.rounds.specs.Taking.{afterSelection, afterValidation, afterDecision, afterRound}
 use Rattle.rounds.proofs.after_round.Statement.{statement}
 use Rattle.rounds.proofs.after_round.Tie as tie
@@ -18,7 +19,7 @@ returns c =
     let b4 = c .before .before .before .before in
     let b4 = b4 in
     rw (eq-eqb _ _ (c .before .before .if1 .taken))
-    (c .after-selection .ensures ∙ ap (afterSelection (b4 .before .args .node)) (c .before .select .ensures))
+    (c .after-selection .ensures ∙ ap (afterSelection (b4 .before .args .node)) (c .before .select .ensures ∙ selected-rule _ _ (b4 .before .pre .1)))
 
 validate-requires : tie.Need-validate-requires
 validate-requires c κs = search needs
@@ -33,7 +34,7 @@ returns-2 c =
     let b4 = b4 in
     rw (ne-eqb _ _ (b4 .if1 .left), eq-eqb _ _ (c .before .before .if2 .taken))
     (c .after-validation .ensures ∙ ap (afterValidation (b4 .before .before .before .args .node))
-    (c .before .validate .ensures))
+    (c .before .validate .ensures ∙ valid-rule _ _ (b4 .before .before .before .pre .1)))
 
 decide-requires : tie.Need-decide-requires
 decide-requires c κs = search needs
@@ -48,7 +49,7 @@ returns-3 c =
     let b4 = b4 in
     rw (ne-eqb _ _ (b4 .if1 .left), ne-eqb _ _ (c .before .before .if2 .left))
     (c .after-decision .ensures ∙ ap (afterDecision (b4 .before .before .before .args .node))
-    (c .before .decide .ensures))
+    (c .before .decide .ensures ∙ decided-rule _ _ (b4 .before .before .before .pre .1) _))
 
 pub after-round-spec : {M : Type 1} → statement M
 after-round-spec =

@@ -1,6 +1,6 @@
 -- `ask` meets its contract.
 use mathlib.Core.Bool.{true}
-use mathlib.Core.Path.{sym, _∙_, ap, refl}
+use mathlib.Core.Path.{_∙_, ap, refl}
 use lib.Dec.{eqb}
 use borrow.Author.Needs.{needs}
 use borrow.Author.Tests.{eq-eqb, ne-eqb, lt-ltb, le-ltb}
@@ -10,7 +10,9 @@ use Rattle.crew.specs.Thresholds.{classOf}
 use Rattle.node.specs.Soundness.{sound}
 use Rattle.wire.proofs.Tests.{both-true}
 use Rattle.wire.specs.Outcome.{accepted}
-use Rattle.rounds.proofs.Inboxes.{sound-sizes, polled-inbox}
+use Rattle.inbox.proofs.Inboxes.{polled-inbox}
+use Rattle.tally.proofs.Countable.{choice-rule}
+use Rattle.rounds.proofs.Sizes.{sound-places, sound-countable}
 use Rattle.rounds.specs.Asking.{askOf}
 use Rattle.rounds.proofs.ask.Statement.{statement}
 use Rattle.rounds.proofs.ask.Tie as tie
@@ -25,27 +27,10 @@ mul-if3 : tie.Need-mul-if3
 mul-if3 c = search needs
 
 read-slots-requires : tie.Need-read-slots-requires
-read-slots-requires c κs =
-    let b4 = c .before .before .before .before in
-    let b4 = b4 in
-    let b8 = b4 .before .before .before .before in
-    let b12 = b8 .before .before .before .before in
-    let d = b12 .args .node in
-    let ok = sym (b8 .before .before .is-sound .ensures)
-    ∙ both-true (b8 .before .before .is-sound .result) (eqb (d .round) 1) (b8 .if1 .taken) .0 in
-    (sound-sizes d ok .0, b4 .if3 .taken, refl)
+read-slots-requires c κs = search needs
 
 choose-requires : tie.Need-choose-requires
-choose-requires c κs =
-    let b4 = c .before .before .before .before in
-    let b4 = b4 in
-    let b8 = b4 .before .before .before .before in
-    let b12 = b8 .before .before .before .before in
-    let b16 = b12 .before .before .before .before in
-    let d = b16 .before .args .node in
-    let ok = sym (b12 .before .before .before .is-sound .ensures)
-    ∙ both-true (b12 .before .before .before .is-sound .result) (eqb (d .round) 1) (b12 .before .if1 .taken) .0 in
-    (sound-sizes d ok .0, sound-sizes d ok .1)
+choose-requires c κs = search needs
 
 to-asking-requires : tie.Need-to-asking-requires
 to-asking-requires c κs = search needs
@@ -61,11 +46,13 @@ returns c =
     let d = b16 .before .before .before .args .node in
     let tests = rw (b16 .before .is-sound .ensures) at (b12 .before .before .before .if1 .taken) in
     let ok = both-true (sound d) (eqb (d .round) 1) tests .0 in
-    let heard = polled-inbox d (now (b16 .before .before .before .args .inbox)) _ (sound-sizes d ok .0)
+    let heard = polled-inbox d (now (b16 .before .before .before .args .inbox)) _ (sound-places d ok) (b8 .before .before .before .if3 .taken)
     (b4 .before .before .read-slots .ensures) in
     simp (tests, lt-ltb _ _ (b12 .before .if2 .taken), eq-eqb _ _ (b8 .before .before .before .if3 .taken)) (
       c .to-asking .ensures ∙ ap accepted
-          (c .before .choose .ensures ∙ ap (selection (classOf (d .crew)) (d .crew)) heard),
+          (c .before .choose .ensures
+          ∙ choice-rule (d .crew) _ (sound-countable d ok)
+          ∙ ap (selection (classOf (d .crew)) (d .crew)) heard),
       refl,
     )
 

@@ -4,7 +4,8 @@ use borrow.Author.Needs.{needs}
 use borrow.Author.Tests.{eq-eqb, ne-eqb, lt-ltb, le-ltb}
 use denote.Ref.{now}
 use Rattle.node.specs.Soundness.{sound}
-use Rattle.rounds.proofs.Inboxes.{sound-sizes, polled-inbox}
+use Rattle.inbox.proofs.Inboxes.{polled-inbox}
+use Rattle.rounds.proofs.Sizes.{sound-places, sound-countable}
 use Rattle.rounds.specs.Taking.{takeOf, afterRound}
 use Rattle.rounds.proofs.take.Statement.{statement}
 use Rattle.rounds.proofs.take.Tie as tie
@@ -19,11 +20,7 @@ mul-if3 : tie.Need-mul-if3
 mul-if3 c = search needs
 
 read-slots-requires : tie.Need-read-slots-requires
-read-slots-requires c κs =
-    let b4 = c .before .before .before .before in
-    let b8 = b4 .before .before .before .before in
-    let ok = sym (b8 .before .is-sound .ensures) ∙ b8 .if1 .taken in
-    (sound-sizes (b8 .before .before .before .args .node) ok .0, b4 .if3 .taken, refl)
+read-slots-requires c κs = search needs
 
 after-round-requires : tie.Need-after-round-requires
 after-round-requires c κs =
@@ -32,8 +29,7 @@ after-round-requires c κs =
     let b12 = b8 .before .before .before .before in
     let b16 = b12 .before .before .before .before in
     let ok = sym (b12 .before .before .is-sound .ensures) ∙ b12 .before .if1 .taken in
-    let sizes = sound-sizes (b16 .args .node) ok in
-    (b8 .before .before .before .if2 .taken, sizes .0, sizes .1, sizes .2)
+    (b8 .before .before .before .if2 .taken, sound-countable (b16 .args .node) ok)
 
 returns : tie.Need-returns
 unfolding takeOf
@@ -45,7 +41,7 @@ returns c =
     let b16 = b12 .before .before .before .before in
     let d = b16 .before .args .node in
     let ok = sym (b12 .before .before .before .is-sound .ensures) ∙ b12 .before .before .if1 .taken in
-    let heard = polled-inbox d (now (b16 .before .args .inbox)) _ (sound-sizes d ok .0)
+    let heard = polled-inbox d (now (b16 .before .args .inbox)) _ (sound-places d ok) (b8 .before .before .if3 .taken)
     (b4 .before .read-slots .ensures) in
     simp (
       ok,

@@ -1,0 +1,168 @@
+// From an inbox's bytes to columns: the slots are read once, and what those that count say is put into columns.
+// What a slot says stands in specs/Inbox.antt, the columns in specs/Columns.antt. Crate tally runs the rules over them.
+use message::Reading;
+use node::Node;
+ghost use mathlib.Core.Path.{_≡_};
+ghost use Prim.Native.Nat.{_+_, _*_, _<_, _≤_};
+ghost use lib.ListN.{length};
+ghost use Rattle.message.specs.Reading.{readOf, entriesIn};
+ghost use Rattle.inbox.specs.Inbox.{slotAt, counted};
+ghost use Rattle.inbox.specs.Columns.{columns, PhasesBelow, laid, put, slotsIn, filled, saidAs};
+
+// 01: "An inbox is n slots of 202 bytes": a selection with all 63 entries fits.
+const SLOT: usize = 202;
+// The columns have a place for each node of the largest crew.
+const SLOTS: usize = 32;
+
+// What a slot says to a node: a ballot, of its history only how many entries it has, or nothing where it does not
+// count.
+enum Said {
+    Ballot { vote: u16, stamp: u8, count: u8 },
+    Nothing,
+}
+
+// Kind and coming round are matched here and nowhere else: round k takes kind k.
+fn hear(slot: &[u8], run: u32, phase: u8, round: u8) -> Said
+    ensures { λ r. ⌜ saidAs r (now (slot .entry)) ≡ counted run phase round (readOf (now (slot .entry))) ⌝ }
+{
+    let reading = message::read(slot);
+    match reading {
+        Reading::Selection {
+            run: its_run,
+            phase: its_phase,
+            vote,
+            stamp,
+            count,
+        } => {
+            let counts = (its_run == run) & (Node::SELECTION == round) & (its_phase == phase);
+            if counts {
+                return Said::Ballot { vote, stamp, count };
+            }
+            Said::Nothing
+        }
+        Reading::Validation {
+            run: its_run,
+            phase: its_phase,
+            plan,
+        } => {
+            let counts = (its_run == run) & (Node::VALIDATION == round) & (its_phase == phase);
+            if counts {
+                return Said::Ballot {
+                    vote: plan,
+                    stamp: 0,
+                    count: 0,
+                };
+            }
+            Said::Nothing
+        }
+        Reading::Decision {
+            run: its_run,
+            phase: its_phase,
+            vote,
+            stamp,
+        } => {
+            let counts = (its_run == run) & (Node::DECISION == round) & (its_phase == phase);
+            if counts {
+                return Said::Ballot {
+                    vote,
+                    stamp,
+                    count: 0,
+                };
+            }
+            Said::Nothing
+        }
+        Reading::Refused(_) => Said::Nothing,
+    }
+}
+
+// Lays a slot's entries into its row of the histories.
+fn lay_entries(histories: &mut [u16; 2048], row: usize, part: &[u8], count: usize)
+    requires { ⌜ (row + 64 ≤ 2048) × (3 * count ≤ length (now part)) × PhasesBelow 64 (entriesIn count (now part)) ⌝ }
+    ensures { λ _. ⌜ now (histories .exit)
+        ≡ laid (now (histories .entry)) row (entriesIn count (now (part .entry))) ⌝ }
+{
+    let mut i = 0;
+    while i < count {
+        let entry = message::entry_at(part, i);
+        let place = row + entry.phase as usize;
+        histories[place] = entry.plan;
+        i = i + 1;
+    }
+}
+
+// Puts what a slot says into the columns; a slot that does not count adds nothing.
+fn read_slot(
+    slot: &[u8],
+    q: usize,
+    run: u32,
+    phase: u8,
+    round: u8,
+    present: &mut [bool; 32],
+    votes: &mut [u16; 32],
+    stamps: &mut [u8; 32],
+    histories: &mut [u16; 2048],
+)
+    requires { ⌜ q < 32 ⌝ }
+    ensures { λ _. ⌜ columns (now (present .exit)) (now (votes .exit)) (now (stamps .exit)) (now (histories .exit))
+        ≡ put (columns (now (present .entry)) (now (votes .entry)) (now (stamps .entry)) (now (histories .entry)))
+        q (counted run phase round (readOf (now (slot .entry)))) ⌝ }
+{
+    let heard = hear(slot, run, phase, round);
+    let Said::Ballot { vote, stamp, count } = heard else {
+        return;
+    };
+    present[q] = true;
+    votes[q] = vote;
+    stamps[q] = stamp;
+    lay_entries(
+        histories,
+        Node::PHASES * q,
+        message::entries_counted(slot, count),
+        count as usize,
+    );
+}
+
+// How many slots of an inbox have a place in the columns; a slot that is not whole is none.
+fn slots_in(length: usize) -> usize
+    ensures { λ r. ⌜ (r ≡ slotsIn length) × (r ≤ 32) × (202 * r ≤ length) ⌝ }
+{
+    let whole = length / SLOT;
+    if whole < SLOTS { whole } else { SLOTS }
+}
+
+// Reads the slots of an inbox, once, into the columns.
+pub fn read_slots(
+    inbox: &[u8],
+    run: u32,
+    phase: u8,
+    round: u8,
+    present: &mut [bool; 32],
+    votes: &mut [u16; 32],
+    stamps: &mut [u8; 32],
+    histories: &mut [u16; 2048],
+)
+    ensures { λ _. ⌜ columns (now (present .exit)) (now (votes .exit)) (now (stamps .exit)) (now (histories .exit))
+        ≡ filled
+        (columns (now (present .entry)) (now (votes .entry)) (now (stamps .entry)) (now (histories .entry)))
+        (λ q. counted run phase round (readOf (slotAt (now (inbox .entry)) q)))
+        (slotsIn (length (now (inbox .entry)))) ⌝ }
+{
+    let n = slots_in(inbox.len());
+    let mut q = 0;
+    while q < n {
+        let start = SLOT * q;
+        let end = start + SLOT;
+        read_slot(
+            &inbox[start..end],
+            q,
+            run,
+            phase,
+            round,
+            present,
+            votes,
+            stamps,
+            histories,
+        );
+        q = q + 1;
+    }
+}

@@ -1,0 +1,55 @@
+-- Selection from marks: marks for the backed slots, and how many slots 'any' counts, make selection's answer.
+-- Assumes nothing.
+use mathlib.Core.Path.{_≡_, refl, sym, ap, ap₂, _∙_}
+use mathlib.Core.Bool.{Bool, true, false, cond}
+use mathlib.Core.List.{List}
+use Prim.Native.Nat.{ℕ}
+use lib.Dec.{ltb}
+use Rattle.crew.specs.declared.Crew.{Crew}
+use Rattle.crew.specs.Thresholds.{Class, one, two, three, anyAbove}
+use Rattle.ballot.specs.Count.{tally}
+use Rattle.ballot.specs.Selection.{Backing, Choice, backed, enough, answer, selection}
+use Rattle.inbox.specs.Columns.{Columns, polled}
+use Rattle.tally.specs.Marks.{Marks, marked, stampedWith, freshSlot, backingMarked}
+use Rattle.tally.proofs.Tallies.{tally-same}
+use Rattle.tally.proofs.Polling.{voteAt, onSlot, backing-polled, backing-same}
+use Rattle.tally.proofs.Ruling.{counting, unstamped}
+
+module _ (crew : Crew) (read : Columns) (n : ℕ) where
+  pub selection-marked : (class : Class) (marks : List Bool) (votes : Backing) (slots : Bool) (choice : Choice)
+      → Marks marks n (onSlot read (backed class crew (polled read n)))
+      → choice ≡ answer class votes slots
+      → votes ≡ backingMarked (marked marks) (voteAt read) n
+      → slots ≡ enough class crew (polled read n)
+      → choice ≡ selection class crew (polled read n)
+  unfolding selection
+  selection-marked class marks votes slots choice are is is-votes is-enough =
+      let test = backed class crew (polled read n) in
+      is
+      ∙ ap₂ (answer class)
+      (is-votes
+      ∙ backing-same (marked marks) (onSlot read test) (voteAt read) n are
+      ∙ sym (backing-polled read n test)) is-enough
+
+  pub enough-one : (count : ℕ) → count ≡ tally (marked (read .present)) n
+      → ltb (anyAbove one crew) count ≡ enough one crew (polled read n)
+  unfolding enough
+  enough-one count is = ap (ltb (anyAbove one crew)) (is ∙ sym (counting crew read n))
+
+  pub enough-two : (count : ℕ) → count ≡ tally (marked (read .present)) n
+      → ltb (anyAbove two crew) count ≡ enough two crew (polled read n)
+  unfolding enough
+  enough-two count is = ap (ltb (anyAbove two crew)) (is ∙ sym (counting crew read n))
+
+  pub enough-three : (count : ℕ) (marks : List Bool) → count ≡ tally (marked marks) n
+      → Marks marks n (stampedWith (read .present) (read .stamps) 0)
+      → ltb (anyAbove three crew) count ≡ enough three crew (polled read n)
+  unfolding enough
+  enough-three count marks is are =
+      ap (ltb (anyAbove three crew)) (is ∙ tally-same (marked marks) _ n are ∙ sym (unstamped crew read n))
+
+-- classes 2 and 3 count the same slots in a decision
+pub fresh-later : (second : Bool) (present : List Bool) (stamps : List ℕ) (phase q : ℕ)
+    → stampedWith present stamps phase q ≡ freshSlot (cond second two three) present stamps phase q
+fresh-later true present stamps phase q = refl
+fresh-later false present stamps phase q = refl

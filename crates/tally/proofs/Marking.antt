@@ -1,0 +1,81 @@
+-- What the loops that mark slots, and those that look for the least vote and the highest count, go by.
+-- Assumes nothing.
+use mathlib.Core.Path.{_≡_, refl, _∙_}
+use mathlib.Core.Bool.{Bool, true, false, cond, _&&_}
+use mathlib.Core.List.{List}
+use mathlib.Core.Option.{Option, none, some}
+use Prim.Native.Nat.{ℕ, _+_, _<_, _≤_, min, max}
+use native.Mathlib.Numerals.{add-one}
+use native.Mathlib.Omega.{arith}
+use lib.Dec.{ltb}
+use lib.ListN.{length, getD, set}
+use lib.Seq.{getD-set-same, getD-set-other}
+use borrow.Author.Tests.{ltb-true, ltb-false}
+use Rattle.ballot.specs.Least.{lower, orZero}
+use Rattle.tally.specs.Marks.{Marks, leastMarked, highest}
+use Rattle.inbox.proofs.Rows.{by-equality}
+
+-- one slot more is marked
+pub marks-next : (marks : List Bool) (q : ℕ) (test : ℕ → Bool) (mark : Bool) → q < length marks → Marks marks q test
+    → mark ≡ test q → Marks (set marks q mark) (q + 1) test
+marks-next marks q test mark room so-far is k less =
+    by-equality k q
+    (λ e. rw e (getD-set-same marks q mark false room ∙ is))
+    (λ e. getD-set-other marks q k mark false e ∙ so-far k (omega (arith, e)))
+
+-- past all votes, where none is marked
+abbrev pub orTop : Option ℕ → ℕ
+orTop none = 65536
+orTop (some v) = v
+
+-- no marked slot, or its vote, as the loop's number says
+pub top-none : (o : Option ℕ) → 65536 ≤ orTop o → ((v : ℕ) → o ≡ some v → v < 65536) → 0 ≡ orZero o
+top-none none top small = refl
+top-none (some v) top small = absurd (omega (arith, small v refl))
+
+pub top-some : (o : Option ℕ) → orTop o < 65536 → orTop o ≡ orZero o
+top-some none below = absurd (omega arith)
+top-some (some v) below = refl
+
+module _ (test : ℕ → Bool) (number : ℕ → ℕ) where
+  -- one slot more
+  pub least-turn : (q least : ℕ) → number q < 65536 → least ≡ orTop (leastMarked test number q)
+      → cond (test q && ltb (number q) least) (number q) least ≡ orTop (leastMarked test number (q + 1))
+  unfolding leastMarked
+  least-turn q least small is =
+      rw (add-one q) (go (test q) (ltb (number q) least) refl (leastMarked test number q) is)
+    where
+      go : (here lower-here : Bool) → ltb (number q) least ≡ lower-here → (o : Option ℕ) → least ≡ orTop o
+          → cond (here && lower-here) (number q) least ≡ orTop (cond here (lower (number q) o) o)
+      go false lower-here e o is = is
+      go true true e none is = refl
+      go true true e (some w) is = omega (arith, ltb-true (number q) least e)
+      go true false e none is = absurd (omega (arith, ltb-false (number q) least e))
+      go true false e (some w) is = omega (arith, ltb-false (number q) least e)
+
+  -- a least vote is one of the votes, so it stays below the mark for none
+  pub small-turn : (q : ℕ) → number q < 65536 → ((v : ℕ) → leastMarked test number q ≡ some v → v < 65536)
+      → (v : ℕ) → leastMarked test number (q + 1) ≡ some v → v < 65536
+  unfolding leastMarked
+  small-turn q small below v e = go (test q) (leastMarked test number q) below (rw (add-one q) at e)
+    where
+      same : (a b : ℕ) → some a ≡ some b → a ≡ b
+      same a b e = cc
+
+      go : (here : Bool) (o : Option ℕ) → ((w : ℕ) → o ≡ some w → w < 65536)
+          → cond here (lower (number q) o) o ≡ some v → v < 65536
+      go false o below e = below v e
+      go true none below e = omega (arith, small, same (number q) v e)
+      go true (some w) below e = omega (arith, small, below w refl, same (min (number q) w) v e)
+
+  pub highest-turn : (q best : ℕ) → best ≡ highest test number q
+      → cond (test q && ltb best (number q)) (number q) best ≡ highest test number (q + 1)
+  unfolding highest
+  highest-turn q best is = rw (add-one q) (go (test q) (ltb best (number q)) refl)
+    where
+      go : (here higher : Bool) → ltb best (number q) ≡ higher
+          → cond (here && higher) (number q) best
+          ≡ cond here (max (number q) (highest test number q)) (highest test number q)
+      go false higher e = is
+      go true true e = omega (arith, ltb-true best (number q) e)
+      go true false e = omega (arith, ltb-false best (number q) e)

@@ -1,0 +1,256 @@
+-- The three rules on the columns: which slots are possible and backed, which plans are valid and which decide, as
+-- marks.
+-- Assumes nothing.
+use mathlib.Core.Path.{_≡_, refl, sym, ap, ap₂, _∙_, subst}
+use mathlib.Core.Bool.{Bool, true, false, cond, _&&_, and-assoc}
+use mathlib.Core.List.{List}
+use mathlib.Core.Option.{none}
+use Prim.Native.Nat.{ℕ, zero, suc, _+_, _-_, _*_, _/_, _<_, _≤_, max}
+use native.Mathlib.Nat.{zero-add}
+use native.Mathlib.Omega.{arith}
+use lib.Dec.{T, leb, ltb, eqb}
+use lib.ListN.{length, getD}
+use borrow.Author.Tests.{
+  leb-true,
+  leb-false,
+  ltb-true,
+  ltb-false,
+  le-leb,
+  lt-leb,
+  lt-ltb,
+  le-ltb,
+  eq-eqb,
+  ne-eqb,
+}
+use Rattle.crew.specs.declared.Crew.{Crew}
+use Rattle.crew.specs.Thresholds.{Class, one, two, three, E, validAbove}
+use Rattle.ballot.specs.Count.{bit, tally, countIf}
+use Rattle.ballot.specs.Ballot.{Ballot, votes, stamped, lists}
+use Rattle.ballot.specs.Least.{least, leastOf, orZero}
+use Rattle.ballot.specs.Selection.{supports, possible, backed, leading, mostVoted}
+use Rattle.ballot.specs.Validation.{valid}
+use Rattle.ballot.specs.Decision.{fresh, decides}
+use Rattle.inbox.specs.Columns.{Columns, rowOf, polled}
+use Rattle.tally.specs.Marks.{
+  Marks,
+  marked,
+  supporting,
+  above,
+  stampedWith,
+  freshSlot,
+  listing,
+  listedAbove,
+  leastMarked,
+  highest,
+}
+use Rattle.tally.proofs.Polling.{
+  voteAt,
+  onSlot,
+  on-slot,
+  count-polled,
+  length-polled,
+  supports-polled,
+  votes-polled,
+  marked-polled,
+  least-polled,
+  least-same,
+}
+use Rattle.tally.proofs.Listing.{row-lists}
+use Rattle.inbox.proofs.Rows.{by-equality}
+use Rattle.ballot.proofs.Counting.{tally-has}
+
+-- nobody passes a bound where the highest number does not
+highest-within : (test : ℕ → Bool) (number : ℕ → ℕ) (bound n : ℕ)
+    → eqb (tally (λ q. test q && ltb bound (number q)) n) 0 ≡ leb (highest test number n) bound
+unfolding tally highest
+highest-within test number bound zero = sym (le-leb 0 bound (omega arith))
+highest-within test number bound (suc n) =
+    go (test n) (ltb bound (number n)) refl (highest-within test number bound n)
+  where
+    rest : ℕ
+    rest = tally (λ q. test q && ltb bound (number q)) n
+
+    lower : (h : ℕ) → number n ≤ bound → leb (max (number n) h) bound ≡ leb h bound
+    lower h less = by (leb h bound) refl
+      where
+        by : (b : Bool) → leb h bound ≡ b → leb (max (number n) h) bound ≡ b
+        by true e = le-leb _ bound (omega (arith, leb-true h bound e))
+        by false e = lt-leb _ bound (omega (arith, leb-false h bound e))
+
+    go : (here passes : Bool) → ltb bound (number n) ≡ passes → eqb rest 0 ≡ leb (highest test number n) bound
+        → eqb (bit (here && passes) + rest) 0
+        ≡ leb (cond here (max (number n) (highest test number n)) (highest test number n)) bound
+    go false passes e same = rw (zero-add rest) same
+    go true true e same =
+        ne-eqb (1 + rest) 0 (λ z. omega arith)
+        ∙ sym (lt-leb _ bound (omega (arith, ltb-true bound (number n) e)))
+    go true false e same =
+        rw (zero-add rest) (same ∙ sym (lower (highest test number n) (ltb-false bound (number n) e)))
+
+-- no number passes the highest
+at-most-highest : (test : ℕ → Bool) (number : ℕ → ℕ) (n q : ℕ) → q < n → T (test q) → number q ≤ highest test number n
+unfolding highest
+at-most-highest test number zero q less t = absurd (omega arith)
+at-most-highest test number (suc n) q less t =
+    by-equality q n
+    (λ e. last (test n) (subst (λ k. T (test k)) e t) e)
+    (λ e. earlier (test n) (at-most-highest test number n q (omega (arith, e)) t))
+  where
+    last : (b : Bool) → T b → q ≡ n → number q ≤ cond b (max (number n) (highest test number n)) (highest test number n)
+    last true t e = rw e (omega arith)
+    last false t e = absurd t
+
+    earlier : (b : Bool) → number q ≤ highest test number n
+        → number q ≤ cond b (max (number n) (highest test number n)) (highest test number n)
+    earlier true h = omega arith
+    earlier false h = h
+
+nobody-least : (test : ℕ → Bool) (vote : ℕ → ℕ) (n : ℕ) → ((q : ℕ) → q < n → test q ≡ false)
+    → leastMarked test vote n ≡ none
+unfolding leastMarked
+nobody-least test vote zero absent = refl
+nobody-least test vote (suc n) absent =
+    rw (absent n (omega arith)) (nobody-least test vote n (λ q less. absent q (omega arith)))
+
+module _ (crew : Crew) (read : Columns) (n : ℕ) where
+  abbrev ballots : List Ballot
+  ballots = polled read n
+
+  -- a test of a slot that is present
+  abbrev here : ℕ → Bool → Bool
+  here q b = marked (read .present) q && b
+
+  pub possible-slot : (q : ℕ) → onSlot read (possible crew ballots) q
+      ≡ above (read .present) (read .present) (read .votes) (read .stamps) n (E crew) true q
+  unfolding possible
+  possible-slot q =
+      on-slot read (possible crew ballots) q
+      ∙ ap (λ k. here q (ltb (E crew) k)) (supports-polled read n (voteAt read q) (getD (read .stamps) q 0))
+
+  pub backed-one-slot : (q : ℕ) → onSlot read (backed one crew ballots) q
+      ≡ above (read .present) (read .present) (read .votes) (read .stamps) n (E crew) false q
+  unfolding backed
+  backed-one-slot q =
+      on-slot read (backed one crew ballots) q ∙ ap (λ k. here q (ltb (E crew) k)) (votes-polled read n (voteAt read q))
+
+  -- with marks for the possible slots
+  module _ (marks : List Bool) (are : Marks marks n (onSlot read (possible crew ballots))) where
+    pub backed-two-slot : (q : ℕ) → onSlot read (backed two crew ballots) q
+        ≡ above (read .present) marks (read .votes) (read .stamps) n (crew .b) false q
+    unfolding backed
+    backed-two-slot q =
+        on-slot read (backed two crew ballots) q
+        ∙ ap (λ k. here q (ltb (crew .b) k)) (marked-polled read n (voteAt read q) (possible crew ballots) marks are)
+
+    pub backed-three-slot : (q : ℕ) → q < n → onSlot read (backed three crew ballots) q
+        ≡ listedAbove marks (read .present) (read .votes) (read .stamps) (read .histories) n (crew .b) q
+    unfolding backed
+    backed-three-slot q less =
+        let v = voteAt read q in
+        let t = getD (read .stamps) q 0 in
+        let listers = count-polled read n (lists v t) (listing (read .present) (read .histories) v t)
+        (λ k inside. ap (here k) (row-lists read k t v)) in
+        on-slot read (backed three crew ballots) q
+        ∙ sym (and-assoc (marked (read .present) q) (possible crew ballots (rowOf read q)) _)
+        ∙ ap₂ (λ a k. a && ltb (crew .b) k) (sym (are q less ∙ on-slot read (possible crew ballots) q)) listers
+
+  -- how many slots 'any' counts
+  pub counting : length ballots ≡ tally (marked (read .present)) n
+  counting = length-polled read n
+
+  pub unstamped : countIf (stamped 0) ballots ≡ tally (stampedWith (read .present) (read .stamps) 0) n
+  unstamped = count-polled read n (stamped 0) _ (λ q less. refl)
+
+  -- the least vote that passes a test of plans, where marks single out the slots with such votes
+  pub least-of : (f : ℕ → Bool) (marks : List Bool) → Marks marks n (onSlot read (λ m. f (m .vote)))
+      → leastOf f ballots ≡ orZero (leastMarked (marked marks) (voteAt read) n)
+  unfolding leastOf
+  least-of f marks are =
+      ap orZero (least-polled read n (λ m. f (m .vote))
+      ∙ sym (least-same (marked marks) (onSlot read (λ m. f (m .vote))) (voteAt read) n are))
+
+  -- twice a count passes n + b where the count passes half of it
+  half : (sum k : ℕ) → ltb sum (2 * k) ≡ ltb (sum / 2) k
+  half sum k = go (ltb (sum / 2) k) refl
+    where
+      go : (b : Bool) → ltb (sum / 2) k ≡ b → ltb sum (2 * k) ≡ b
+      go true e = lt-ltb sum (2 * k) (omega (arith, ltb-true (sum / 2) k e))
+      go false e = le-ltb sum (2 * k) (omega (arith, ltb-false (sum / 2) k e))
+
+  pub valid-slot : (q : ℕ) → onSlot read (λ m. valid crew ballots (m .vote)) q
+      ≡ above (read .present) (read .present) (read .votes) (read .stamps) n (validAbove crew / 2) false q
+  unfolding valid
+  valid-slot q =
+      on-slot read (λ m. valid crew ballots (m .vote)) q
+      ∙ ap (here q) (half (validAbove crew) _ ∙ ap (ltb (validAbove crew / 2)) (votes-polled read n (voteAt read q)))
+
+  -- at least D is more than D − 1
+  reach : (d k : ℕ) → 1 ≤ d → leb d k ≡ ltb (d - 1) k
+  reach d k h = go (ltb (d - 1) k) refl
+    where
+      go : (b : Bool) → ltb (d - 1) k ≡ b → leb d k ≡ b
+      go true e = le-leb d k (omega (arith, ltb-true (d - 1) k e))
+      go false e = lt-leb d k (omega (arith, ltb-false (d - 1) k e))
+
+  pub decides-slot : (class : Class) (phase : ℕ) (marks : List Bool) → 1 ≤ crew .d
+      → Marks marks n (onSlot read (fresh class phase)) → (q : ℕ)
+      → onSlot read (λ m. decides class crew phase ballots (m .vote)) q
+      ≡ above (read .present) marks (read .votes) (read .stamps) n (crew .d - 1) false q
+  unfolding decides
+  decides-slot class phase marks some are q =
+      on-slot read (λ m. decides class crew phase ballots (m .vote)) q
+      ∙ ap (here q) (reach (crew .d) _ some
+      ∙ ap (ltb (crew .d - 1)) (marked-polled read n (voteAt read q) (fresh class phase) marks are))
+
+  -- in class 1 every slot's vote counts; in the others those with the phase's stamp
+  pub fresh-slot : (class : Class) (phase q : ℕ)
+      → onSlot read (fresh class phase) q ≡ freshSlot class (read .present) (read .stamps) phase q
+  fresh-slot one phase q = on-slot read (fresh one phase) q ∙ both (marked (read .present) q)
+    where
+      both : (b : Bool) → (b && true) ≡ b
+      both true = refl
+      both false = refl
+  fresh-slot two phase q = on-slot read (fresh two phase) q
+  fresh-slot three phase q = on-slot read (fresh three phase) q
+
+  -- how many slots vote for a plan, and how many for the plan of most votes
+  abbrev pub votesFor : ℕ → ℕ
+  votesFor v = tally (supporting (read .present) (read .votes) (read .stamps) v 0) n
+
+  abbrev pub most : ℕ
+  most = highest (marked (read .present)) (λ q. votesFor (voteAt read q)) n
+
+  leads : (v : ℕ) → leading ballots v ≡ leb most (votesFor v)
+  unfolding leading
+  leads v =
+      ap (λ k. eqb k 0) (count-polled read n (λ k. ltb (countIf (votes v) ballots) (countIf (votes (k .vote)) ballots))
+      (λ q. here q (ltb (votesFor v) (votesFor (voteAt read q))))
+      (λ q less. ap₂ (λ a b. here q (ltb a b)) (votes-polled read n v) (votes-polled read n (voteAt read q))))
+      ∙ highest-within (marked (read .present)) (λ q. votesFor (voteAt read q)) (votesFor v) n
+
+  pub leading-slot : 1 ≤ most → (q : ℕ) → onSlot read (λ m. leading ballots (m .vote)) q
+      ≡ above (read .present) (read .present) (read .votes) (read .stamps) n (most - 1) false q
+  leading-slot some q =
+      on-slot read (λ m. leading ballots (m .vote)) q
+      ∙ ap (here q) (leads (voteAt read q) ∙ reach most (votesFor (voteAt read q)) some)
+
+  -- where no plan has a vote, no slot is present
+  pub no-votes : most ≡ 0 → mostVoted ballots ≡ 0
+  unfolding mostVoted leastOf
+  no-votes none-voted =
+      ap orZero (least-polled read n (λ m. leading ballots (m .vote))
+      ∙ nobody-least (onSlot read (λ m. leading ballots (m .vote))) (voteAt read) n
+      (λ q less. on-slot read (λ m. leading ballots (m .vote)) q ∙ absent q less (marked (read .present) q) refl))
+    where
+      itself : (q : ℕ) → marked (read .present) q ≡ true
+          → T (supporting (read .present) (read .votes) (read .stamps) (voteAt read q) 0 q)
+      itself q e = rw (e, eq-eqb (voteAt read q) (voteAt read q) refl) tt
+
+      absent : (q : ℕ) → q < n → (b : Bool) → marked (read .present) q ≡ b → (b && leading ballots (voteAt read q))
+          ≡ false
+      absent q less false e = refl
+      absent q less true e =
+          let own = tally-has (supporting (read .present) (read .votes) (read .stamps) (voteAt read q) 0) n q less
+          (itself q e) in
+          let bound = at-most-highest (marked (read .present)) (λ k. votesFor (voteAt read k)) n q less (rw e tt) in
+          absurd (omega (arith, own, bound, none-voted))

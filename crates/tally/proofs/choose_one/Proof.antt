@@ -1,0 +1,57 @@
+-- `choose_one` meets its contract.
+use mathlib.Core.Path.{sym, _∙_}
+use borrow.Author.Needs.{needs}
+use denote.Ref.{now}
+use Rattle.crew.specs.Thresholds.{one}
+use Rattle.tally.proofs.Choosing.{selection-marked, enough-one}
+use Rattle.tally.proofs.Ruling.{backed-one-slot}
+use Rattle.inbox.specs.Columns.{columns}
+use Rattle.tally.proofs.choose_one.Statement.{statement}
+use Rattle.tally.proofs.choose_one.Tie as tie
+
+cast-n : tie.Need-cast-n
+cast-n c = search needs
+
+bound-requires : tie.Need-bound-requires
+bound-requires c κs = search needs
+
+count-marks-requires : tie.Need-count-marks-requires
+count-marks-requires c κs = search needs
+
+mark-above-requires : tie.Need-mark-above-requires
+mark-above-requires c κs = search needs
+
+backing-of-requires : tie.Need-backing-of-requires
+backing-of-requires c κs = search needs
+
+mul-answer-below-three : tie.Need-mul-answer-below-three
+mul-answer-below-three c = search needs
+
+answer-below-three-requires : tie.Need-answer-below-three-requires
+answer-below-three-requires c κs = search needs
+
+returns : tie.Need-returns
+returns c =
+    let b4 = c .before .before .before .before in
+    let a = b4 .before .before .before .args in
+    let crew = a .crew in
+    let read = columns (now (a .present)) (now (a .votes)) (now (a .stamps)) (now (a .histories)) in
+    let marks = rw (b4 .before .bound .ensures .0) at (c .before .before .before .mark-above .ensures) in
+    let slots = rw (← b4 .before .bound .ensures .0)
+    at (enough-one crew read (crew .n) (b4 .count-marks .result) (b4 .count-marks .ensures .0)) in
+    selection-marked crew read (crew .n) one (c .before .before .before .mark-above .result) _ _ _
+    (λ q less. marks q less ∙ sym (backed-one-slot crew read (crew .n) q))
+    (c .answer-below-three .ensures .0) (c .before .backing-of .ensures) slots
+
+pub choose-one-spec : {M : Type 1} → statement M
+choose-one-spec =
+    tie.close
+    (tie.spec
+    cast-n
+    bound-requires
+    count-marks-requires
+    mark-above-requires
+    backing-of-requires
+    mul-answer-below-three
+    answer-below-three-requires
+    returns)

@@ -1,0 +1,65 @@
+-- `count_marks` meets its contract. The invariant: the count is that of the first q slots.
+use mathlib.Core.Path.{_≡_}
+use Prim.Native.Nat.{_≤_, _-_}
+use native.Mathlib.Omega.{arith}
+use borrow.Author.Needs.{needs}
+use denote.Ref.{now}
+use Rattle.ballot.specs.Count.{tally}
+use Rattle.tally.proofs.Tallies.{tally-next}
+use Rattle.tally.specs.Marks.{marked}
+use Rattle.tally.proofs.count_marks.Statement.{statement}
+use Rattle.tally.proofs.count_marks.Tie as tie
+
+abbrev Inv-loop : tie.InvT-loop
+Inv-loop marks n count₀ q₀ count q = (q ≤ n) × (count ≡ tally (marked marks) q) × (count ≤ q)
+
+abbrev μ-loop : tie.MeasureT-loop
+μ-loop marks n count₀ q₀ count q = n - q
+
+loop-holds : tie.Need-loop-holds Inv-loop μ-loop
+unfolding tally
+loop-holds c = search needs
+
+element-copy-out-one-if : tie.Need-element-copy-out-one-if Inv-loop μ-loop
+element-copy-out-one-if c = search needs
+
+one-if-requires : tie.Need-one-if-requires Inv-loop μ-loop
+one-if-requires c κs = search needs
+
+add-count : tie.Need-add-count Inv-loop μ-loop
+add-count c = search needs
+
+add-q : tie.Need-add-q Inv-loop μ-loop
+add-q c = search needs
+
+loop-less : tie.Need-loop-less Inv-loop μ-loop
+loop-less c = search needs
+
+loop-again : tie.Need-loop-again Inv-loop μ-loop
+loop-again c =
+    let b4 = c .before .before .before .before in
+    omega (arith, tally-next (marked (now (b4 .args .marks))) (c .before .before .before .loop .q), c .one-if .ensures)
+
+returns : tie.Need-returns Inv-loop μ-loop
+returns c =
+    let done : c .before .loop .q ≡ c .before .before .args .n = omega (
+      arith,
+      c .before .loop .inv .0,
+      c .loop-test .left,
+    ) in
+    rw (← done) (c .before .loop .inv .1, c .before .loop .inv .2)
+
+pub count-marks-spec : {M : Type 1} → statement M
+count-marks-spec =
+    tie.close
+    (tie.spec
+    Inv-loop
+    μ-loop
+    loop-holds
+    element-copy-out-one-if
+    one-if-requires
+    add-count
+    add-q
+    loop-less
+    loop-again
+    returns)

@@ -1,0 +1,82 @@
+-- Counts over the columns: marks single out slots, and the rules count marked slots. The functions that run over the
+-- columns promise these numbers; proofs/ joins them to the rules of crate ballot.
+-- Promises of private functions: no public contract cites this file.
+use Prim.Native.Nat.{ℕ, zero, suc, _+_, _*_, _<_, max}
+use mathlib.Core.Path.{_≡_}
+use mathlib.Core.Bool.{Bool, false, not, cond, _&&_, _||_}
+use mathlib.Core.List.{List}
+use mathlib.Core.Option.{Option, none, some}
+use lib.ListN.{getD}
+use lib.Dec.{leb, ltb, eqb}
+use Rattle.crew.specs.Thresholds.{Class, one, two, three}
+use Rattle.ballot.specs.Count.{tally}
+use Rattle.ballot.specs.Least.{lower}
+use Rattle.ballot.specs.Selection.{Backing, nobody, sole, several}
+use Rattle.tally.specs.declared.Backing.{Backing as DeclaredBacking}
+use Rattle.tally.specs.declared.Backing.the-variants.{Nobody, Sole, Several}
+
+abbrev pub marked : List Bool → ℕ → Bool
+marked marks q = getD marks q false
+
+-- these marks single out the slots below n that pass a test
+abbrev pub Marks : List Bool → ℕ → (ℕ → Bool) → Type 0
+Marks marks n test = (q : ℕ) → q < n → marked marks q ≡ test q
+
+-- a marked slot has the vote, or a stamp below the bound
+abbrev pub supporting : List Bool → List ℕ → List ℕ → ℕ → ℕ → ℕ → Bool
+supporting marks votes stamps vote below q =
+    marked marks q && (eqb (getD votes q 0) vote || ltb (getD stamps q 0) below)
+
+-- the stamp's part in the support of slot q, where stamps play a part
+abbrev pub belowOf : Bool → ℕ → ℕ
+belowOf stamped stamp = cond stamped stamp 0
+
+-- more than `threshold` marked slots support what slot q says
+abbrev pub above : List Bool → List Bool → List ℕ → List ℕ → ℕ → ℕ → Bool → ℕ → Bool
+above present marks votes stamps n threshold stamped q =
+    marked present q
+    && ltb threshold (tally (supporting marks votes stamps (getD votes q 0) (belowOf stamped (getD stamps q 0))) n)
+
+-- a slot that is present has this stamp
+abbrev pub stampedWith : List Bool → List ℕ → ℕ → ℕ → Bool
+stampedWith present stamps stamp q = marked present q && eqb (getD stamps q 0) stamp
+
+-- a slot whose vote counts in a decision
+abbrev pub freshSlot : Class → List Bool → List ℕ → ℕ → ℕ → Bool
+freshSlot one present stamps phase q = marked present q
+freshSlot two present stamps phase q = stampedWith present stamps phase q
+freshSlot three present stamps phase q = stampedWith present stamps phase q
+
+-- a slot that is present lists the plan at a phase; a history has no place past phase 63, and 0 there is no plan
+abbrev pub listing : List Bool → List ℕ → ℕ → ℕ → ℕ → Bool
+listing present histories v phase q =
+    marked present q && (ltb phase 64 && (leb 1 v && eqb (getD histories (64 * q + phase) 0) v))
+
+-- a marked slot whose vote more than `threshold` slots list at its stamp
+abbrev pub listedAbove : List Bool → List Bool → List ℕ → List ℕ → List ℕ → ℕ → ℕ → ℕ → Bool
+listedAbove marks present votes stamps histories n threshold q =
+    marked marks q && ltb threshold (tally (listing present histories (getD votes q 0) (getD stamps q 0)) n)
+
+-- the least of the votes of the marked slots below n
+unfoldable pub leastMarked : (ℕ → Bool) → (ℕ → ℕ) → ℕ → Option ℕ
+leastMarked test vote zero = none
+leastMarked test vote (suc n) = cond (test n) (lower (vote n) (leastMarked test vote n)) (leastMarked test vote n)
+
+-- the votes of the marked slots: none, exactly one, or more
+abbrev pub besidesMarked : (ℕ → Bool) → (ℕ → ℕ) → ℕ → Option ℕ → Backing
+besidesMarked test vote n none = nobody
+besidesMarked test vote n (some v) = cond (eqb (tally (λ q. test q && not (eqb (vote q) v)) n) 0) (sole v) several
+
+abbrev pub backingMarked : (ℕ → Bool) → (ℕ → ℕ) → ℕ → Backing
+backingMarked test vote n = besidesMarked test vote n (leastMarked test vote n)
+
+-- the highest of the numbers of the marked slots below n, 0 where there is none
+unfoldable pub highest : (ℕ → Bool) → (ℕ → ℕ) → ℕ → ℕ
+highest test number zero = 0
+highest test number (suc n) = cond (test n) (max (number n) (highest test number n)) (highest test number n)
+
+-- what the code's answer stands for in crate ballot
+abbrev pub backingAs : DeclaredBacking → Backing
+backingAs Nobody = nobody
+backingAs (Sole v) = sole v
+backingAs Several = several
