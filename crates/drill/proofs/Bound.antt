@@ -21,9 +21,10 @@ use Rattle.script.specs.declared.CrewLine.{CrewLine}
 use Rattle.script.specs.declared.CrewLine.the-variants.{Crew as CrewRead, NoCrew}
 use Rattle.print.specs.Texts.{badLine, endLine, longLine}
 use Rattle.print.proofs.Lengths.{result-most, bad-most}
-use Rattle.drill.specs.declared.State.{State}
-use Rattle.drill.specs.Round.{table, resultAt, roundAfter, phaseAfter, goOf}
-use Rattle.drill.specs.Steps.{allowed, after, text, begunOf}
+use Rattle.aisle.specs.declared.State.{State}
+use Rattle.aisle.specs.Round.{table, resultAt, roundAfter, phaseAfter, goOf}
+use Rattle.aisle.specs.Start.{begunOf}
+use Rattle.drill.specs.Steps.{allowed, after, text}
 use Rattle.drill.specs.Run.{isLast, follow, second, crewed, first, drillOf}
 
 -- how many rounds are left before a drill is spent, at most

@@ -25,8 +25,8 @@ use Rattle.script.specs.Fields.{valueFrom, numberOf, numbersFrom, starts}
 use Rattle.print.specs.Texts.{decimalOf, fieldOf, fieldsFrom, resultLine, badLine}
 use Rattle.pending.specs.Pairs.{nothing, withCut, withSay, isCut, saidOf}
 use Rattle.drill.specs.Run.{follow, second, first, drillOf}
-use Rattle.drill.specs.Steps.{begunOf}
-use Rattle.drill.specs.Round.{table, sayBuffer, delivered, slotsOf, nodeAfter, goOf}
+use Rattle.aisle.specs.Start.{begunOf}
+use Rattle.aisle.specs.Round.{table, sayBuffer, delivered, slotsOf, nodeAfter, goOf}
 
 -- `3 4 1 0 3` and `5 5 5 0`
 abbrev beginning : List ℕ

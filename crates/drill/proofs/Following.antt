@@ -21,8 +21,9 @@ use Rattle.print.specs.Texts.{Wrote, badLine, endLine, longLine}
 use Rattle.print.proofs.Writing.{wrote-rest}
 use Rattle.crew.specs.declared.Crew.{Crew}
 use Rattle.node.specs.Soundness.{crewAccepted}
-use Rattle.drill.specs.declared.State.{State}
-use Rattle.drill.specs.Steps.{allowed, after, text, begunOf}
+use Rattle.aisle.specs.declared.State.{State}
+use Rattle.aisle.specs.Start.{begunOf}
+use Rattle.drill.specs.Steps.{allowed, after, text}
 use Rattle.drill.specs.Run.{isLast, follow, second, crewed, first, drillOf}
 
 onto-some : (x : ℕ) (ws : List (List ℕ)) → isLast (onto x ws) ≡ false

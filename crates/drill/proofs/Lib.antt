@@ -1,5 +1,3 @@
-pub mod Tables
-pub mod Slots
 pub mod Stepping
 pub mod Following
 pub mod Bound

@@ -12,9 +12,10 @@ use Rattle.crew.proofs.Facts.{accepts}
 use Rattle.node.specs.Soundness.{isAccepted, crewAccepted}
 use Rattle.script.specs.declared.Command.{Command}
 use Rattle.script.specs.declared.Command.the-variants.{Cut, Say, Go, BadLine}
-use Rattle.drill.specs.declared.State.{State}
-use Rattle.drill.specs.Round.{goOf}
-use Rattle.drill.specs.Steps.{allowed, after, begunOf}
+use Rattle.aisle.specs.declared.State.{State}
+use Rattle.aisle.specs.Round.{goOf}
+use Rattle.aisle.specs.Start.{begunOf}
+use Rattle.drill.specs.Steps.{allowed, after}
 
 -- the crew stays
 same-crew : (st : State) (command : Command) → after st command .crew ≡ st .crew

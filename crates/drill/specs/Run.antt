@@ -12,8 +12,9 @@ use Rattle.script.specs.declared.CrewLine.the-variants.{Crew as CrewRead, NoCre
 use Rattle.print.specs.Texts.{badLine, endLine, longLine}
 use Rattle.crew.specs.declared.Crew.{Crew}
 use Rattle.node.specs.Soundness.{crewAccepted}
-use Rattle.drill.specs.declared.State.{State}
-use Rattle.drill.specs.Steps.{allowed, after, text, begunOf}
+use Rattle.aisle.specs.declared.State.{State}
+use Rattle.aisle.specs.Start.{begunOf}
+use Rattle.drill.specs.Steps.{allowed, after, text}
 
 -- Of the pieces that a script has between its bytes 10 the last is not a line: it is empty, or an unended line.
 abbrev pub isLast : List (List ℕ) → Bool

@@ -2,19 +2,14 @@
 use Prim.Native.Nat.{ℕ}
 use mathlib.Core.Bool.{Bool, false, not, cond, _&&_}
 use mathlib.Core.List.{List, []}
-use lib.ListN.{getD}
 use lib.Dec.{ltb, leb, eqb}
-use Rattle.wire.specs.Outcome.{valueOr}
-use Rattle.crew.specs.declared.Crew.{Crew}
-use Rattle.node.specs.Record.{blank}
-use Rattle.node.specs.Starting.{startOf}
 use Rattle.script.specs.declared.Command.{Command}
 use Rattle.script.specs.declared.Command.the-variants.{Cut, Say, Go, BadLine}
 use Rattle.print.specs.Texts.{resultLine, nodesShown}
 use Rattle.pending.specs.declared.Pending.{Pending}
-use Rattle.pending.specs.Pairs.{nothing, withCut, withSay}
-use Rattle.drill.specs.declared.State.{State}
-use Rattle.drill.specs.Round.{table, isHonest, resultAt, goOf}
+use Rattle.pending.specs.Pairs.{withCut, withSay}
+use Rattle.aisle.specs.declared.State.{State}
+use Rattle.aisle.specs.Round.{table, isHonest, resultAt, goOf}
 
 -- 01: "stamp below the phase in kind 1, at most the phase in kind 3"; "t is 0 in round 2"
 abbrev pub stampFits : ℕ → ℕ → ℕ → Bool
@@ -61,15 +56,3 @@ text st (Say sender receiver plan stamp) = []
 text st Go =
     resultLine (st .phase) (st .round) (nodesShown (st .crew .n)) (table (resultAt (goOf st)) 32) (st .honest)
 text st BadLine = []
-
--- The drill after line 2. A node with plan 0 is not honest: its start is refused.
--- 01: "n initial plans, 0 for a node that is not honest"; "Run is 1."
-unfoldable pub begunOf : Crew → List ℕ → State
-begunOf crew plans = record {
-  crew = crew;
-  phase = 1;
-  round = 1;
-  honest = table (λ i. leb 1 (getD plans i 0)) 32;
-  nodes = table (λ i. valueOr blank (startOf crew i 1 (getD plans i 0))) 32;
-  pending = nothing;
-}

@@ -1,3 +1,4 @@
+-- `follow_crew` meets its contract.
 use Rattle.drill.proofs.Following.{second-unended, second-good, second-bad, wrote-as}
 use Rattle.drill.proofs.Stepping.{begun-small}
 use borrow.Author.Needs.{needs}

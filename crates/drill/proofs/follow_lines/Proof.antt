@@ -1,3 +1,5 @@
+-- `follow_lines` meets its contract. The invariant: what has been written, and what the lines left
+-- print, is what all of them print.
 use Rattle.drill.proofs.Following.{follow-end, follow-unended, follow-bad, follow-wrote}
 use Rattle.drill.proofs.Stepping.{still-small}
 use Rattle.drill.specs.Run.{follow}

@@ -1,3 +1,4 @@
+-- `is_accepted` meets its contract.
 use mathlib.Core.Path.{ap, sym, _∙_}
 use borrow.Author.Needs.{needs}
 use Rattle.crew.specs.Acceptance.{answered}

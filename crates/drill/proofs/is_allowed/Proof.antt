@@ -1,3 +1,4 @@
+-- `is_allowed` meets its contract.
 use borrow.Author.Needs.{needs}
 use Rattle.drill.proofs.is_allowed.Statement.{statement}
 use Rattle.drill.proofs.is_allowed.Tie as tie

@@ -1,3 +1,4 @@
+-- `perform` meets its contract.
 use Rattle.drill.proofs.Stepping.{go-unspent}
 use Rattle.print.proofs.Writing.{wrote-none}
 use native.Mathlib.Omega.{arith}

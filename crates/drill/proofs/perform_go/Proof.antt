@@ -1,4 +1,7 @@
+-- `perform_go` meets its contract.
+use mathlib.Core.Path.{_∙_}
 use borrow.Author.Needs.{needs}
+use Rattle.aisle.proofs.Going.{gone-round}
 use Rattle.drill.proofs.perform_go.Statement.{statement}
 use Rattle.drill.proofs.perform_go.Tie as tie
 
@@ -24,9 +27,11 @@ returns : tie.Need-returns
 returns c =
     let b4 = c .before .before .before .before in
     let b8 = b4 .before .before .before .before in
-    let b9 = b8 .before in (
-      b9 .go .ensures,
-      rw (← b9 .go .ensures, ← b8 .results-of .ensures) (b4 .result-line .ensures .0),
+    let b9 = b8 .before in
+    let start = b9 .before .before in
+    let round = b9 .go .ensures ∙ gone-round (start .args .state) (start .pre .0) (start .pre .1) in (
+      round,
+      rw (← round, ← b8 .results-of .ensures) (b4 .result-line .ensures .0),
       b4 .result-line .ensures .1,
     )
 

@@ -1,3 +1,4 @@
+-- `run` meets its contract.
 use Rattle.crew.specs.declared.Crew.{Crew}
 use Rattle.drill.proofs.Following.{wrote-as, run-long, run-unended, run-good, run-refused, run-none}
 use Rattle.drill.proofs.Stepping.{crew-small}

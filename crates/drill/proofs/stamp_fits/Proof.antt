@@ -1,3 +1,4 @@
+-- `stamp_fits` meets its contract.
 use borrow.Author.Tests.{eq-eqb, ne-eqb}
 use Rattle.drill.proofs.stamp_fits.Statement.{statement}
 use Rattle.drill.proofs.stamp_fits.Tie as tie

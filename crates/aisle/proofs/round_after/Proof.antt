@@ -1,7 +1,8 @@
+-- `round_after` meets its contract.
 use borrow.Author.Tests.{le-leb, lt-leb, eq-eqb, ne-eqb}
 use borrow.Author.Needs.{needs}
-use Rattle.drill.proofs.round_after.Statement.{statement}
-use Rattle.drill.proofs.round_after.Tie as tie
+use Rattle.aisle.proofs.round_after.Statement.{statement}
+use Rattle.aisle.proofs.round_after.Tie as tie
 
 returns : tie.Need-returns
 returns c = simp (le-leb _ _ (c .if1 .taken))

@@ -1,5 +1,6 @@
-use Rattle.drill.proofs.Tables.{Filled, filled-none, filled-more, filled-all}
-use Rattle.drill.specs.Steps.{begunOf}
+-- `begin` meets its contract. The invariant: the first i nodes have started.
+use Rattle.aisle.proofs.Tables.{Filled, filled-none, filled-more, filled-all}
+use Rattle.aisle.specs.Start.{begunOf}
 use Rattle.node.specs.Starting.{startOf}
 use Rattle.node.specs.Record.{blank}
 use Rattle.wire.specs.Outcome.{valueOr}
@@ -7,8 +8,8 @@ use lib.ListN.{getD}
 use Prim.Native.Nat.{_-_}
 use mathlib.Core.Path.{refl}
 use borrow.Author.Needs.{needs}
-use Rattle.drill.proofs.begin.Statement.{statement}
-use Rattle.drill.proofs.begin.Tie as tie
+use Rattle.aisle.proofs.begin.Statement.{statement}
+use Rattle.aisle.proofs.begin.Tie as tie
 
 abbrev Inv-loop : tie.InvT-loop
 Inv-loop crew plans nodes₀ i₀ nodes i = Filled (λ j. valueOr blank (startOf crew j 1 (getD plans j 0))) 32 nodes i

@@ -1,10 +1,11 @@
-use Rattle.drill.proofs.Slots.{selection-said}
+-- `write_say` meets its contract.
+use Rattle.aisle.proofs.Slots.{selection-said}
 use mathlib.Core.Path.{_∙_}
-use Rattle.drill.specs.Round.{sayBuffer}
+use Rattle.aisle.specs.Round.{sayBuffer}
 use borrow.Author.Tests.{eq-eqb, ne-eqb}
 use borrow.Author.Needs.{needs}
-use Rattle.drill.proofs.write_say.Statement.{statement}
-use Rattle.drill.proofs.write_say.Tie as tie
+use Rattle.aisle.proofs.write_say.Statement.{statement}
+use Rattle.aisle.proofs.write_say.Tie as tie
 
 returns : tie.Need-returns
 unfolding sayBuffer

@@ -1,11 +1,12 @@
-use Rattle.drill.proofs.Tables.{Filled, filled-none, filled-more, filled-all}
+-- `honest_of` meets its contract. The invariant: the first i places say whether the node has a plan.
+use Rattle.aisle.proofs.Tables.{Filled, filled-none, filled-more, filled-all}
 use lib.Dec.{leb}
 use lib.ListN.{take, getD}
 use Prim.Native.Nat.{_-_}
 use mathlib.Core.Path.{refl}
 use borrow.Author.Needs.{needs}
-use Rattle.drill.proofs.honest_of.Statement.{statement}
-use Rattle.drill.proofs.honest_of.Tie as tie
+use Rattle.aisle.proofs.honest_of.Statement.{statement}
+use Rattle.aisle.proofs.honest_of.Tie as tie
 
 abbrev Inv-loop : tie.InvT-loop
 Inv-loop plans honest₀ i₀ honest i = Filled (λ j. leb 1 (getD plans j 0)) 32 honest i

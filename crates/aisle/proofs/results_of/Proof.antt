@@ -1,11 +1,12 @@
-use Rattle.drill.proofs.Tables.{Filled, filled-none, filled-more, filled-all}
-use Rattle.drill.specs.Round.{resultAt}
+-- `results_of` meets its contract. The invariant: the first i results stand in their places.
+use Rattle.aisle.proofs.Tables.{Filled, filled-none, filled-more, filled-all}
+use Rattle.aisle.specs.Round.{resultAt}
 use lib.ListN.{take}
 use Prim.Native.Nat.{_-_}
 use mathlib.Core.Path.{refl}
 use borrow.Author.Needs.{needs}
-use Rattle.drill.proofs.results_of.Statement.{statement}
-use Rattle.drill.proofs.results_of.Tie as tie
+use Rattle.aisle.proofs.results_of.Statement.{statement}
+use Rattle.aisle.proofs.results_of.Tie as tie
 
 abbrev Inv-loop : tie.InvT-loop
 Inv-loop state results₀ i₀ results i = Filled (resultAt state) 32 results i

@@ -1,7 +1,8 @@
+-- `phase_after` meets its contract.
 use borrow.Author.Tests.{le-leb, lt-leb}
 use borrow.Author.Needs.{needs}
-use Rattle.drill.proofs.phase_after.Statement.{statement}
-use Rattle.drill.proofs.phase_after.Tie as tie
+use Rattle.aisle.proofs.phase_after.Statement.{statement}
+use Rattle.aisle.proofs.phase_after.Tie as tie
 
 add-result : tie.Need-add-result
 add-result c = search needs

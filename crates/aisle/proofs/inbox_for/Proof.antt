@@ -1,11 +1,12 @@
+-- `inbox_for` meets its contract. The invariant: the slots of the first senders hold what reaches the receiver.
 use mathlib.Core.Path.{refl, _≡_}
 use native.Mathlib.Omega.{arith}
-use Rattle.drill.proofs.Slots.{Laid, laid-none, laid-more, laid-long, laid-all}
+use Rattle.aisle.proofs.Slots.{Laid, laid-none, laid-more, laid-long, laid-all}
 use lib.ListN.{length}
 use Prim.Native.Nat.{_≤_, _-_}
 use borrow.Author.Needs.{needs}
-use Rattle.drill.proofs.inbox_for.Statement.{statement}
-use Rattle.drill.proofs.inbox_for.Tie as tie
+use Rattle.aisle.proofs.inbox_for.Statement.{statement}
+use Rattle.aisle.proofs.inbox_for.Tie as tie
 
 abbrev Inv-loop : tie.InvT-loop
 Inv-loop state receiver inbox₀ n sender₀ inbox sender =

@@ -1,10 +1,10 @@
 -- What a go does among the nodes: document 01, 'The drill' and 'The list in demand 3'. Every honest node writes its
 -- coming message, then every honest node takes the round, with an inbox of what reaches it.
 use Prim.Native.Nat.{ℕ, zero, suc, _+_}
-use mathlib.Core.Bool.{Bool, false, cond}
+use mathlib.Core.Bool.{Bool, false, cond, _&&_}
 use mathlib.Core.List.{List, [], _∷_, _++_}
 use lib.ListN.{getD, replicate}
-use lib.Dec.{leb, eqb}
+use lib.Dec.{leb, ltb, eqb}
 use Rattle.wire.specs.Outcome.{valueOr}
 use Rattle.message.specs.Fields.{Body, selection, validation, decision, Message}
 use Rattle.message.specs.Writing.{bufferOf as messageBuffer}
@@ -12,7 +12,7 @@ use Rattle.node.specs.declared.Node.{Node}
 use Rattle.node.specs.Sending.{bufferOf as nodeBuffer}
 use Rattle.rounds.specs.Taking.{takeOf}
 use Rattle.pending.specs.Pairs.{nothing, isCut, saidOf}
-use Rattle.drill.specs.declared.State.{State}
+use Rattle.aisle.specs.declared.State.{State}
 
 -- f 0 to f (n - 1)
 unfoldable pub table : {A : Type 0} → (ℕ → A) → ℕ → List A
@@ -97,3 +97,11 @@ goOf st = record {
   nodes = table (nodeAfter st) 32;
   pending = nothing;
 }
+
+-- Whether a round can be run: every node has its place, and the phases are not spent.
+abbrev pub ready : State → Bool
+ready st = leb (st .crew .n) 32 && ltb (st .phase) 64
+
+-- 01: "When the records are spent, every call is refused with 8 and the round leaves all as it was."
+unfoldable pub gone : State → State
+gone st = cond (ready st) (goOf st) st

@@ -1,10 +1,11 @@
-use Rattle.drill.proofs.Tables.{Filled, filled-none, filled-more, filled-all}
-use Rattle.drill.specs.Round.{nodeAfter, goOf}
+-- `whole_round` meets its contract. The invariant: the first receivers have taken the round.
+use Rattle.aisle.proofs.Tables.{Filled, filled-none, filled-more, filled-all}
+use Rattle.aisle.specs.Round.{nodeAfter, goOf}
 use Prim.Native.Nat.{_-_}
 use mathlib.Core.Path.{refl}
 use borrow.Author.Needs.{needs}
-use Rattle.drill.proofs.go.Statement.{statement}
-use Rattle.drill.proofs.go.Tie as tie
+use Rattle.aisle.proofs.whole_round.Statement.{statement}
+use Rattle.aisle.proofs.whole_round.Tie as tie
 
 abbrev Inv-loop : tie.InvT-loop
 Inv-loop state crew honest nodes₀ receiver₀ nodes receiver = Filled (nodeAfter state) 32 nodes receiver
@@ -59,8 +60,8 @@ returns c =
       ← c .empty .ensures,
     )
 
-pub go-spec : {M : Type 1} → statement M
-go-spec =
+pub whole-round-spec : {M : Type 1} → statement M
+whole-round-spec =
     tie.close
     (tie.spec
     Inv-loop

@@ -1,8 +1,9 @@
-use Rattle.drill.specs.Round.{delivered}
+-- `deliver` meets its contract.
+use Rattle.aisle.specs.Round.{delivered}
 use mathlib.Core.Path.{sym, _∙_}
 use borrow.Author.Needs.{needs}
-use Rattle.drill.proofs.deliver.Statement.{statement}
-use Rattle.drill.proofs.deliver.Tie as tie
+use Rattle.aisle.proofs.deliver.Statement.{statement}
+use Rattle.aisle.proofs.deliver.Tie as tie
 
 is-cut-requires : tie.Need-is-cut-requires
 is-cut-requires c κs = search needs

@@ -1,10 +1,11 @@
-use Rattle.drill.specs.Round.{nodeAfter}
+-- `take_round` meets its contract.
+use Rattle.aisle.specs.Round.{nodeAfter}
 use lib.Seq.{length-take-le}
 use native.Mathlib.Omega.{arith}
 use mathlib.Core.Path.{sym}
 use borrow.Author.Needs.{needs}
-use Rattle.drill.proofs.take_round.Statement.{statement}
-use Rattle.drill.proofs.take_round.Tie as tie
+use Rattle.aisle.proofs.take_round.Statement.{statement}
+use Rattle.aisle.proofs.take_round.Tie as tie
 
 inbox-for-requires : tie.Need-inbox-for-requires
 inbox-for-requires c κs = search needs

@@ -6,7 +6,7 @@ use native.Mathlib.Numerals.{add-one}
 use native.Mathlib.Omega.{arith}
 use lib.ListN.{length, take, set, length-set}
 use lib.Seq.{take-suc, take-all, take-set-le, getD-set-same}
-use Rattle.drill.specs.Round.{table}
+use Rattle.aisle.specs.Round.{table}
 
 -- i places of n are filled
 pub record Filled {A : Type 0} (f : ℕ → A) (n : ℕ) (l : List A) (i : ℕ) : Type 0 where

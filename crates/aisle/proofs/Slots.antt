@@ -10,8 +10,8 @@ use lib.Seq.{take-at, drop-at}
 use borrow.Author.Tests.{le-leb}
 use Rattle.message.specs.Fields.{selection}
 use Rattle.message.specs.Writing.{listed, bufferOf, selectionBufferOf}
-use Rattle.drill.specs.declared.State.{State}
-use Rattle.drill.specs.Round.{delivered, slotsOf}
+use Rattle.aisle.specs.declared.State.{State}
+use Rattle.aisle.specs.Round.{delivered, slotsOf}
 
 -- a selection that lists no phase has no entries
 pub selection-said : (phase plan stamp : ℕ) (history slot : List ℕ)

@@ -1,0 +1,24 @@
+-- The aisle at the start of a drill: document 01, 'The drill'.
+use Prim.Native.Nat.{ℕ}
+use mathlib.Core.List.{List}
+use lib.ListN.{getD}
+use lib.Dec.{leb}
+use Rattle.wire.specs.Outcome.{valueOr}
+use Rattle.crew.specs.declared.Crew.{Crew}
+use Rattle.node.specs.Record.{blank}
+use Rattle.node.specs.Starting.{startOf}
+use Rattle.pending.specs.Pairs.{nothing}
+use Rattle.aisle.specs.declared.State.{State}
+use Rattle.aisle.specs.Round.{table}
+
+-- The drill after line 2. A node with plan 0 is not honest: its start is refused.
+-- 01: "n initial plans, 0 for a node that is not honest"; "Run is 1."
+unfoldable pub begunOf : Crew → List ℕ → State
+begunOf crew plans = record {
+  crew = crew;
+  phase = 1;
+  round = 1;
+  honest = table (λ i. leb 1 (getD plans i 0)) 32;
+  nodes = table (λ i. valueOr blank (startOf crew i 1 (getD plans i 0))) 32;
+  pending = nothing;
+}
