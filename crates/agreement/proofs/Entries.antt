@@ -12,7 +12,7 @@ use Rattle.wire.specs.Entry.{Entry}
 use Rattle.crew.specs.declared.Crew.{Crew}
 use Rattle.crew.specs.Thresholds.{one, two, three, classOf}
 use Rattle.crew.proofs.Facts.{Accepts}
-use Rattle.message.specs.Writing.{entryOf, listed}
+use Rattle.writer.specs.Writing.{entryOf, listed}
 use Rattle.model.specs.Node as model
 use Rattle.model.specs.Node.{entriesBelow, entriesSaid}
 use Rattle.node.specs.declared.Node.{Node}

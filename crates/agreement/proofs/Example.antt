@@ -19,7 +19,7 @@ use Rattle.crew.specs.Acceptance.{acceptOf}
 use Rattle.message.specs.Bounds.{entriesOk}
 use Rattle.message.specs.Encoding.{entryBytes, encode}
 use Rattle.message.specs.Reading.{entriesIn, bodyAt, tested, readOf}
-use Rattle.message.specs.Writing.{listed}
+use Rattle.writer.specs.Writing.{listed}
 use Rattle.ballot.specs.Count.{tally, countIf, gather}
 use Rattle.ballot.specs.Ballot.{Ballot, lists, sameBallot}
 use Rattle.ballot.specs.Least.{least, leastOf}

@@ -13,7 +13,7 @@ use Rattle.crew.specs.declared.Crew.{Crew}
 use Rattle.crew.specs.Thresholds.{one, classOf}
 use Rattle.crew.proofs.Facts.{accepts}
 use Rattle.message.specs.Reading.{readOf}
-use Rattle.message.specs.Writing.{listed, selectionOf, validationOf, decisionOf}
+use Rattle.writer.specs.Writing.{listed, selectionOf, validationOf, decisionOf}
 use Rattle.model.specs.Node as model
 use Rattle.model.specs.Node.{Round, selecting, validating, deciding, say, number}
 use Rattle.node.specs.declared.Node.{Node}

@@ -9,7 +9,7 @@ use lib.ListN.{length, take, drop, replicate, length-append, length-replicate, r
 use lib.Seq.{take-at, drop-at}
 use borrow.Author.Tests.{le-leb}
 use Rattle.message.specs.Fields.{selection}
-use Rattle.message.specs.Writing.{listed, bufferOf, selectionBufferOf}
+use Rattle.writer.specs.Writing.{listed, bufferOf, selectionBufferOf}
 use Rattle.aisle.specs.declared.State.{State}
 use Rattle.aisle.specs.Round.{delivered, slotsOf}
 

@@ -7,7 +7,7 @@ use lib.ListN.{getD, replicate}
 use lib.Dec.{leb, ltb, eqb}
 use Rattle.wire.specs.Outcome.{valueOr}
 use Rattle.message.specs.Fields.{Body, selection, validation, decision, Message}
-use Rattle.message.specs.Writing.{bufferOf as messageBuffer}
+use Rattle.writer.specs.Writing.{bufferOf as messageBuffer}
 use Rattle.node.specs.declared.Node.{Node}
 use Rattle.node.specs.Sending.{bufferOf as nodeBuffer}
 use Rattle.rounds.specs.Taking.{takeOf}

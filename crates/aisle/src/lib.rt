@@ -54,14 +54,14 @@ fn write_say(slot: &mut [u8], phase: u8, round: u8, plan: u16, stamp: u8)
         return;
     }
     if round == Node::SELECTION {
-        message::write_selection(slot, RUN, phase, plan, stamp, [0u16; 64], 0);
+        writer::write_selection(slot, RUN, phase, plan, stamp, [0u16; 64], 0);
         return;
     }
     if round == Node::VALIDATION {
-        message::write_validation(slot, RUN, phase, plan);
+        writer::write_validation(slot, RUN, phase, plan);
         return;
     }
-    message::write_decision(slot, RUN, phase, plan, stamp);
+    writer::write_decision(slot, RUN, phase, plan, stamp);
 }
 
 // Writes what a sender sends a receiver to the front of the receiver's slot for it.

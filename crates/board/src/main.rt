@@ -46,7 +46,7 @@ fn put_vote(inbox: &mut [u8], q: usize, phase: u8, vote: u16, stamp: u8) {
         let start = SLOT * q;
         let end = start + SLOT;
         if end <= inbox.len() {
-            message::write_selection(&mut inbox[start..end], 1, phase, vote, stamp, [0u16; 64], 0);
+            writer::write_selection(&mut inbox[start..end], 1, phase, vote, stamp, [0u16; 64], 0);
         }
     }
 }

@@ -14,7 +14,7 @@ use Rattle.message.specs.Fields.{Message}
 use Rattle.message.specs.Bounds.{within, Fits}
 use Rattle.message.specs.Encoding.{sizeOf, encode}
 use Rattle.message.specs.Reading.{readOf}
-use Rattle.message.proofs.WriteLaws.{encode-length}
+use Rattle.message.proofs.EncodeLaws.{encode-length}
 use Rattle.codec.proofs.Written.{read-of-encode}
 use Rattle.codec.proofs.Read.{encode-of-read}
 

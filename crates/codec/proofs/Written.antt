@@ -17,7 +17,7 @@ use Rattle.message.specs.Bounds.{phaseOk, planOk, bodyOk, entriesOk, within, Pl
 use Rattle.message.specs.Encoding.{sizeOf, entryBytes, encode}
 use Rattle.message.specs.Reading.{lengthAt, entriesIn, bodyAt, framed, readOf}
 use Rattle.message.proofs.ReadLaws.{Passes, passes-read}
-use Rattle.message.proofs.WriteLaws.{encode-length}
+use Rattle.message.proofs.EncodeLaws.{encode-length}
 
 -- entries that are written are read to themselves
 entries-written : (es : List Entry) (tail : List ℕ) → PlansFit es → entriesIn (length es) (entryBytes es ++ tail) ≡ es

@@ -3,7 +3,7 @@ use mathlib.Core.Path.{_≡_, refl}
 use mathlib.Core.List.{List, [], _∷_, _++_}
 use Prim.Native.Nat.{ℕ, _+_}
 use Rattle.crew.specs.Acceptance.{acceptOf}
-use Rattle.message.specs.Writing.{writeOf, listed}
+use Rattle.writer.specs.Writing.{writeOf, listed}
 use Rattle.message.specs.Reading.{entriesIn, bodyAt, tested, readOf}
 use Rattle.message.specs.Encoding.{entryBytes, encode}
 use Rattle.message.specs.Bounds.{entriesOk}

@@ -10,7 +10,7 @@ use native.Mathlib.Omega.{arith}
 use lib.ListN.{length, getD, set, drop, replicate, length-set, length-replicate}
 use lib.Seq.{getD-drop, getD-set-same, getD-set-other}
 use Rattle.message.specs.Bounds.{entriesOk}
-use Rattle.message.specs.Writing.{listed}
+use Rattle.writer.specs.Writing.{listed}
 use Rattle.ballot.specs.Count.{gather, push}
 use Rattle.ballot.specs.Ballot.{Ballot}
 use Rattle.inbox.specs.Columns.{Columns, columns, PhasesBelow, laid, put, filled, slotOf, empty}

@@ -13,7 +13,7 @@ use borrow.Author.Tests.{leb-true, ltb-true, eqb-true, eqb-false, le-leb, lt-ltb
 use Rattle.wire.specs.Entry.{Entry}
 use Rattle.wire.proofs.Tests.{both-true}
 use Rattle.message.specs.Bounds.{planOk, entriesOk}
-use Rattle.message.specs.Writing.{listed}
+use Rattle.writer.specs.Writing.{listed}
 use Rattle.inbox.specs.Columns.{PhasesBelow, laid}
 
 -- no entry is laid at this place

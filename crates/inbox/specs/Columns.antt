@@ -8,7 +8,7 @@ use mathlib.Core.List.{List, [], _∷_}
 use mathlib.Core.Option.{Option, none, some}
 use lib.ListN.{getD, set, replicate, drop}
 use Rattle.wire.specs.Entry.{Entry}
-use Rattle.message.specs.Writing.{listed}
+use Rattle.writer.specs.Writing.{listed}
 use Rattle.message.specs.Reading.{entriesIn}
 use Rattle.ballot.specs.Count.{gather}
 use Rattle.ballot.specs.Ballot.{Ballot}

@@ -1,4 +1,3 @@
+pub mod EncodeLaws
 pub mod EntryLaws
 pub mod ReadLaws
-pub mod HistoryLaws
-pub mod WriteLaws

@@ -2,4 +2,3 @@ pub mod Fields
 pub mod Bounds
 pub mod Encoding
 pub mod Reading
-pub mod Writing

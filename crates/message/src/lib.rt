@@ -1,14 +1,12 @@
-// Messages: reading any bytes, and writing fields within their bounds. It knows nothing of crews.
+// Messages: their layout and bounds, and reading any bytes. It knows nothing of crews.
 // What a slice is read to stands in specs/Reading.antt, a message's bytes in specs/Encoding.antt, its bounds in
-// specs/Bounds.antt; that reading and writing undo each other is proved in crate codec.
+// specs/Bounds.antt. Crate writer writes messages; that reading and writing undo each other is proved in crate codec.
 ghost use mathlib.Core.Path.{_≡_};
 ghost use Prim.Native.Nat.{_+_, _*_, _<_, _≤_};
 ghost use lib.ListN.{length, getD, drop};
-ghost use lib.Seq.{sets};
 ghost use Rattle.wire.specs.Outcome.{require};
-ghost use Rattle.wire.specs.Bytes.{numberAt, bytesOf};
+ghost use Rattle.wire.specs.Bytes.{numberAt};
 ghost use Rattle.message.specs.Bounds.{phaseOk, planOk, entriesOk, within};
-ghost use Rattle.message.specs.Encoding.{header, entryBytes};
 ghost use Rattle.message.specs.Reading.{
   lengthAt,
   messageWith,
@@ -27,51 +25,40 @@ ghost use Rattle.message.specs.Reading.{
   entryAs,
   answered as readAs,
 };
-ghost use Rattle.message.specs.Writing.{
-  entryOf,
-  listed,
-  validationOf,
-  decisionOf,
-  writeOf,
-  writeSelectionOf,
-  bufferOf,
-  selectionBufferOf,
-  answered as writtenAs,
-};
 
 // The layout. 01: "Header of 9 bytes: length (2, counting every byte of the message), kind (2), run (4), phase (1)."
 const HEADER: usize = 9;
 
-const LENGTH_AT: usize = 0;
+pub const LENGTH_AT: usize = 0;
 
-const KIND_AT: usize = 2;
+pub const KIND_AT: usize = 2;
 
-const RUN_AT: usize = 4;
+pub const RUN_AT: usize = 4;
 
-const PHASE_AT: usize = 8;
+pub const PHASE_AT: usize = 8;
 // The vote of a selection or decision, the plan of a validation.
-const PLAN_AT: usize = 9;
+pub const PLAN_AT: usize = 9;
 
-const STAMP_AT: usize = 11;
+pub const STAMP_AT: usize = 11;
 
-const COUNT_AT: usize = 12;
+pub const COUNT_AT: usize = 12;
 
-const ENTRIES_AT: usize = 13;
+pub const ENTRIES_AT: usize = 13;
 // An entry is a phase (1) and a plan (2).
-const ENTRY_SIZE: usize = 3;
+pub const ENTRY_SIZE: usize = 3;
 
 // The kinds and their lengths; a selection is as long as its entries make it.
-const SELECTION: u16 = 1;
+pub const SELECTION: u16 = 1;
 
-const VALIDATION: u16 = 2;
+pub const VALIDATION: u16 = 2;
 
-const DECISION: u16 = 3;
+pub const DECISION: u16 = 3;
 
-const VALIDATION_LENGTH: u16 = 11;
+pub const VALIDATION_LENGTH: u16 = 11;
 
-const DECISION_LENGTH: u16 = 12;
+pub const DECISION_LENGTH: u16 = 12;
 
-const SELECTION_LENGTH: u16 = 13;
+pub const SELECTION_LENGTH: u16 = 13;
 
 // The last phase of a run. A message lists entries of earlier phases only, so no more of them than this.
 const LAST_PHASE: u8 = 63;
@@ -114,20 +101,6 @@ pub struct Entry {
     pub plan: u16,
 }
 
-// Why writing refuses; `number` in specs/Writing.antt has 01's numbers.
-pub enum WriteRefusal {
-    // The fields break a bound of the message.
-    OutOfBounds,
-    // The buffer is shorter than the message.
-    Short,
-}
-
-// What writing a message answers: its length, or a refusal.
-pub enum Writing {
-    Bytes(usize),
-    Refused(WriteRefusal),
-}
-
 fn wide(x: u8) -> u16
     ensures { λ r. ⌜ (r ≡ x) × (r < 256) ⌝ }
 {
@@ -161,13 +134,13 @@ fn is_framed(s: &[u8]) -> bool
     (HEADER <= size) & (size <= s.len())
 }
 
-fn is_phase(phase: u8) -> bool
+pub fn is_phase(phase: u8) -> bool
     ensures { λ r. ⌜ r ≡ phaseOk phase ⌝ }
 {
     (1 <= phase) & (phase <= LAST_PHASE)
 }
 
-fn is_plan(plan: u16) -> bool
+pub fn is_plan(plan: u16) -> bool
     ensures { λ r. ⌜ r ≡ planOk plan ⌝ }
 {
     1 <= plan
@@ -373,147 +346,4 @@ pub fn entry_at(part: &[u8], i: usize) -> Entry
     } else {
         Entry { phase: 0, plan: 0 }
     }
-}
-
-fn put16(buf: &mut [u8], place: usize, number: u16)
-    requires { ⌜ place + 1 < length (now buf) ⌝ }
-    ensures { λ _. ⌜ now (buf .exit) ≡ sets (now (buf .entry)) place (bytesOf 2 number) ⌝ }
-{
-    buf[place] = (number % 256) as u8;
-    buf[place + 1] = (number / 256 % 256) as u8;
-}
-
-fn put_run(buf: &mut [u8], run: u32)
-    requires { ⌜ 9 ≤ length (now buf) ⌝ }
-    ensures { λ _. ⌜ now (buf .exit) ≡ sets (now (buf .entry)) 4 (bytesOf 4 run) ⌝ }
-{
-    buf[RUN_AT] = (run % 256) as u8;
-    buf[RUN_AT + 1] = (run / 256 % 256) as u8;
-    buf[RUN_AT + 2] = (run / 256 / 256 % 256) as u8;
-    buf[RUN_AT + 3] = (run / 256 / 256 / 256 % 256) as u8;
-}
-
-fn put_header(buf: &mut [u8], size: u16, kind: u16, run: u32, phase: u8)
-    requires { ⌜ 9 ≤ length (now buf) ⌝ }
-    ensures { λ _. ⌜ now (buf .exit) ≡ sets (now (buf .entry)) 0 (header size kind run phase) ⌝ }
-{
-    put16(buf, LENGTH_AT, size);
-    put16(buf, KIND_AT, kind);
-    put_run(buf, run);
-    buf[PHASE_AT] = phase;
-}
-
-// Writes a validation. Fields that break a bound are refused, then a buffer that is too short.
-pub fn write_validation(buf: &mut [u8], run: u32, phase: u8, plan: u16) -> Writing
-    ensures { λ r. ⌜ (writtenAs r ≡ writeOf (validationOf run phase plan) (now (buf .entry)))
-        × (now (buf .exit) ≡ bufferOf (validationOf run phase plan) (now (buf .entry))) ⌝ }
-{
-    let allowed = is_phase(phase) & is_plan(plan);
-    if allowed {
-        if buf.len() < VALIDATION_LENGTH as usize {
-            return Writing::Refused(WriteRefusal::Short);
-        }
-        put_header(buf, VALIDATION_LENGTH, VALIDATION, run, phase);
-        put16(buf, PLAN_AT, plan);
-        return Writing::Bytes(VALIDATION_LENGTH as usize);
-    }
-    Writing::Refused(WriteRefusal::OutOfBounds)
-}
-
-// Writes a decision. Fields that break a bound are refused, then a buffer that is too short.
-pub fn write_decision(buf: &mut [u8], run: u32, phase: u8, vote: u16, stamp: u8) -> Writing
-    ensures { λ r. ⌜ (writtenAs r ≡ writeOf (decisionOf run phase vote stamp) (now (buf .entry)))
-        × (now (buf .exit) ≡ bufferOf (decisionOf run phase vote stamp) (now (buf .entry))) ⌝ }
-{
-    let allowed = is_phase(phase) & (is_plan(vote) & (stamp <= phase));
-    if allowed {
-        if buf.len() < DECISION_LENGTH as usize {
-            return Writing::Refused(WriteRefusal::Short);
-        }
-        put_header(buf, DECISION_LENGTH, DECISION, run, phase);
-        put16(buf, PLAN_AT, vote);
-        buf[STAMP_AT] = stamp;
-        return Writing::Bytes(DECISION_LENGTH as usize);
-    }
-    Writing::Refused(WriteRefusal::OutOfBounds)
-}
-
-// 1 for a phase that has a plan, else 0.
-fn one_if_plan(phase: u8, plan: u16) -> usize
-    ensures { λ r. ⌜ (r ≡ length (entryOf phase plan)) × (r ≤ 1) ⌝ }
-{
-    if is_plan(plan) { 1 } else { 0 }
-}
-
-// How many of the first phases have a plan.
-fn count_entries(history: [u16; 64], phases: u8) -> usize
-    requires { ⌜ phases ≤ 63 ⌝ }
-    ensures { λ r. ⌜ (r ≡ length (listed history 0 phases)) × (r ≤ phases) ⌝ }
-{
-    let mut count: usize = 0;
-    let mut phase: u8 = 0;
-    while phase < phases {
-        count = count + one_if_plan(phase, history[phase as usize]);
-        phase = phase + 1;
-    }
-    count
-}
-
-// Writes the entry of a phase that has a plan, and answers the place after it.
-fn put_entry(buf: &mut [u8], place: usize, phase: u8, plan: u16) -> usize
-    requires { ⌜ place + length (entryBytes (entryOf phase plan)) ≤ length (now buf) ⌝ }
-    ensures { λ r. ⌜ (r ≡ place + length (entryBytes (entryOf phase plan)))
-        × (now (buf .exit) ≡ sets (now (buf .entry)) place (entryBytes (entryOf phase plan))) ⌝ }
-{
-    if is_plan(plan) {
-        buf[place] = phase;
-        put16(buf, place + 1, plan);
-        place + ENTRY_SIZE
-    } else {
-        place
-    }
-}
-
-// Writes the entries of the first phases.
-fn put_entries(buf: &mut [u8], history: [u16; 64], phases: u8)
-    requires { ⌜ (phases ≤ 63) × (13 + length (entryBytes (listed history 0 phases)) ≤ length (now buf)) ⌝ }
-    ensures { λ _. ⌜ now (buf .exit) ≡ sets (now (buf .entry)) 13 (entryBytes (listed history 0 phases)) ⌝ }
-{
-    let mut place: usize = ENTRIES_AT;
-    let mut phase: u8 = 0;
-    while phase < phases {
-        place = put_entry(buf, place, phase, history[phase as usize]);
-        phase = phase + 1;
-    }
-}
-
-// Writes a selection with the non-empty entries among the first `phases` of a history, where 0 is an empty entry.
-// Fields that break a bound are refused, and more phases than the message's own; then a buffer that is too short.
-pub fn write_selection(
-    buf: &mut [u8],
-    run: u32,
-    phase: u8,
-    vote: u16,
-    stamp: u8,
-    history: [u16; 64],
-    phases: u8,
-) -> Writing
-    ensures { λ r. ⌜ (writtenAs r ≡ writeSelectionOf run phase vote stamp history phases (now (buf .entry)))
-        × (now (buf .exit) ≡ selectionBufferOf run phase vote stamp history phases (now (buf .entry))) ⌝ }
-{
-    let allowed = (phases <= phase) & (is_phase(phase) & (is_plan(vote) & (stamp < phase)));
-    if allowed {
-        let count = count_entries(history, phases);
-        let size = SELECTION_LENGTH as usize + ENTRY_SIZE * count;
-        if buf.len() < size {
-            return Writing::Refused(WriteRefusal::Short);
-        }
-        put_header(buf, size as u16, SELECTION, run, phase);
-        put16(buf, PLAN_AT, vote);
-        buf[STAMP_AT] = stamp;
-        buf[COUNT_AT] = count as u8;
-        put_entries(buf, history, phases);
-        return Writing::Bytes(size);
-    }
-    Writing::Refused(WriteRefusal::OutOfBounds)
 }

@@ -11,8 +11,8 @@ use lib.Dec.{leb, eqb}
 use borrow.Author.Tests.{leb-true, eqb-true, eqb-false, lt-ltb, le-leb, eq-eqb, ne-eqb}
 use Rattle.message.specs.Fields.{Message}
 use Rattle.message.specs.Bounds.{within, PlansFit, Fits}
-use Rattle.message.specs.Writing.{listed, selectionOf, validationOf, decisionOf}
-use Rattle.message.proofs.WriteLaws.{allowed-within}
+use Rattle.writer.specs.Writing.{listed, selectionOf, validationOf, decisionOf}
+use Rattle.writer.proofs.WriteLaws.{allowed-within}
 use Rattle.node.specs.declared.Node.{Node}
 use Rattle.node.specs.Sending.{listedPhases, comingOf}
 use Rattle.node.proofs.Facts.{Sound, Typed, last-round}

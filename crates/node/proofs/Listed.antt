@@ -21,7 +21,7 @@ use lib.ListN.{getD}
 use lib.Dec.{leb}
 use borrow.Author.Tests.{leb-true, leb-false}
 use Rattle.wire.specs.Entry.{Entry}
-use Rattle.message.specs.Writing.{listed}
+use Rattle.writer.specs.Writing.{listed}
 use Rattle.node.specs.declared.Node.{Node}
 use Rattle.node.specs.Sending.{listedPhases}
 

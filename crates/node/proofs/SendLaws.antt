@@ -14,11 +14,11 @@ use Rattle.wire.specs.Outcome.{Outcome, accepted, refused, require}
 use Rattle.wire.proofs.Outcomes.{passed}
 use Rattle.message.specs.Fields.{Message}
 use Rattle.message.specs.Encoding.{encode}
-use Rattle.message.specs.Writing as message
-use Rattle.message.specs.declared.WriteRefusal.{WriteRefusal}
-use Rattle.message.specs.declared.WriteRefusal.the-variants.{OutOfBounds, Short}
-use Rattle.message.specs.declared.Writing.the-variants.{Refused}
-use Rattle.message.proofs.WriteLaws.{encode-length}
+use Rattle.writer.specs.Writing as writer
+use Rattle.writer.specs.declared.WriteRefusal.{WriteRefusal}
+use Rattle.writer.specs.declared.WriteRefusal.the-variants.{OutOfBounds, Short}
+use Rattle.writer.specs.declared.Writing.the-variants.{Refused}
+use Rattle.message.proofs.EncodeLaws.{encode-length}
 use Rattle.node.specs.declared.Node.{Node}
 use Rattle.node.specs.Soundness.{sound}
 use Rattle.node.specs.Sending.{listedPhases, encoded, comingBytes, writeOf, bufferAfter, bufferOf}
@@ -26,32 +26,32 @@ use Rattle.node.proofs.Facts.{sound-facts}
 use Rattle.node.proofs.Coming.{Says, selects, says-coming, coming-silent, selection-allowed, says-within}
 
 same-after : (m : Message) (buffer : List ℕ) (outcome : Outcome ℕ)
-    → message.bufferAfter m buffer outcome ≡ bufferAfter (encode m) buffer outcome
+    → writer.bufferAfter m buffer outcome ≡ bufferAfter (encode m) buffer outcome
 same-after m buffer (accepted size) = refl
 same-after m buffer (refused number) = refl
 
 -- a sound, unspent record
 module _ (d : Node) (buffer : List ℕ) (ok : sound d ≡ true) (left : d .phase < 64) where
   writer-agrees : (m : Message) → Says d m
-      → (message.writeOf m buffer ≡ writeOf d buffer) × (message.bufferOf m buffer ≡ bufferOf d buffer)
-  unfolding writeOf message.writeOf
+      → (writer.writeOf m buffer ≡ writeOf d buffer) × (writer.bufferOf m buffer ≡ bufferOf d buffer)
+  unfolding writeOf writer.writeOf
   writer-agrees m says =
       let bounds = says-within (sound-facts d ok) left says in
       let said = says-coming says in
       let long = encode-length m in
-      let wrote : message.writeOf m buffer ≡ writeOf d buffer
+      let wrote : writer.writeOf m buffer ≡ writeOf d buffer
       = simp (ok, lt-ltb (d .phase) 64 left, bounds, said, long) in
       let same = ap₂ (λ outcome bytes. bufferAfter bytes buffer outcome) wrote (sym (ap encoded said)) in
-      (wrote, same-after m buffer (message.writeOf m buffer) ∙ same)
+      (wrote, same-after m buffer (writer.writeOf m buffer) ∙ same)
 
   pub message-written : {m : Message} {outcome : Outcome ℕ} {after : List ℕ} → Says d m
-      → (outcome ≡ message.writeOf m buffer) × (after ≡ message.bufferOf m buffer)
+      → (outcome ≡ writer.writeOf m buffer) × (after ≡ writer.bufferOf m buffer)
       → (outcome ≡ writeOf d buffer) × (after ≡ bufferOf d buffer)
   message-written {m} says wrote = let agrees = writer-agrees m says in (wrote .0 ∙ agrees .0, wrote .1 ∙ agrees .1)
 
   pub selection-written : {phases : ℕ} {outcome : Outcome ℕ} {after : List ℕ} → d .round ≡ 1 → phases ≡ listedPhases d
-      → (outcome ≡ message.writeSelectionOf (d .run) (d .phase) (d .vote) (d .stamp) (d .history) phases buffer)
-      × (after ≡ message.selectionBufferOf (d .run) (d .phase) (d .vote) (d .stamp) (d .history) phases buffer)
+      → (outcome ≡ writer.writeSelectionOf (d .run) (d .phase) (d .vote) (d .stamp) (d .history) phases buffer)
+      × (after ≡ writer.selectionBufferOf (d .run) (d .phase) (d .vote) (d .stamp) (d .history) phases buffer)
       → (outcome ≡ writeOf d buffer) × (after ≡ bufferOf d buffer)
   selection-written one same wrote =
       let few = selection-allowed (sound-facts d ok) left one .0 in
@@ -104,7 +104,7 @@ never-out-of-bounds d buffer = go (sound d) (ltb (d .phase) 64) (leb (length (co
     go false b c e = let z : _≡_ {A = ℕ} 7 13 = cc in omega arith
 
 -- so a writer that refuses has found the buffer too short
-pub only-short : (why : WriteRefusal) → message.answered (Refused why) ≢ refused 13
-    → refused 9 ≡ message.answered (Refused why)
+pub only-short : (why : WriteRefusal) → writer.answered (Refused why) ≢ refused 13
+    → refused 9 ≡ writer.answered (Refused why)
 only-short OutOfBounds h = absurd (h refl)
 only-short Short h = refl

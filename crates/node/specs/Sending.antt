@@ -8,7 +8,7 @@ use lib.Dec.{leb, ltb, eqb}
 use Rattle.wire.specs.Outcome.{Outcome, accepted, refused, require}
 use Rattle.message.specs.Fields.{Message}
 use Rattle.message.specs.Encoding.{encode}
-use Rattle.message.specs.Writing.{selectionOf, validationOf, decisionOf}
+use Rattle.writer.specs.Writing.{selectionOf, validationOf, decisionOf}
 use Rattle.node.specs.Soundness.{sound}
 use Rattle.node.specs.declared.Node.{Node}
 use Rattle.node.specs.declared.SendRefusal.{SendRefusal}

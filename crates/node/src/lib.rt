@@ -2,12 +2,12 @@
 // Each operation is what a definition says: specs/Starting.antt, specs/Soundness.antt and specs/Sending.antt.
 use crew::Acceptance;
 use crew::Crew;
-use message::Writing;
+use writer::Writing;
 ghost use mathlib.Core.Path.{_≡_};
 ghost use mathlib.Core.Bool.{true};
 ghost use Prim.Native.Nat.{_<_};
 ghost use Rattle.wire.specs.Outcome.{refused, verdict, valueOr};
-ghost use Rattle.message.specs.Writing.{answered as writtenAs};
+ghost use Rattle.writer.specs.Writing.{answered as writtenAs};
 ghost use Rattle.node.specs.Record.{blank, begun};
 ghost use Rattle.node.specs.Soundness.{
   crewAccepted,
@@ -293,7 +293,7 @@ impl Node {
         if self.round == Node::SELECTION {
             let history = self.history;
             let phases = self.listed_phases();
-            return message::write_selection(
+            return writer::write_selection(
                 buf,
                 self.run,
                 self.phase,
@@ -305,11 +305,11 @@ impl Node {
         }
         if self.round == Node::VALIDATION {
             if Node::NO_PLAN < self.select {
-                return message::write_validation(buf, self.run, self.phase, self.select);
+                return writer::write_validation(buf, self.run, self.phase, self.select);
             }
             return Writing::Bytes(0);
         }
-        message::write_decision(buf, self.run, self.phase, self.vote, self.stamp)
+        writer::write_decision(buf, self.run, self.phase, self.vote, self.stamp)
     }
 
     // Writes the coming message to the front of a lent buffer, or says why not; the record comes back unchanged.

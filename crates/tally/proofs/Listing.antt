@@ -13,7 +13,7 @@ use lib.ListN.{getD, drop}
 use lib.Seq.{getD-drop}
 use borrow.Author.Tests.{leb-true, leb-false, ltb-true, eqb-true, le-leb, lt-ltb, lt-leb, eq-eqb, ne-eqb}
 use Rattle.wire.specs.Entry.{Entry}
-use Rattle.message.specs.Writing.{entryOf, listed}
+use Rattle.writer.specs.Writing.{entryOf, listed}
 use Rattle.ballot.specs.Count.{bit, countIf}
 use Rattle.ballot.specs.Ballot.{isEntry, lists}
 use Rattle.ballot.proofs.Counting.{count-append}

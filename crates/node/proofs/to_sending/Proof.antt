@@ -2,7 +2,7 @@
 -- Assumes nothing.
 use mathlib.Core.Path.{sym, ap, _∙_}
 use borrow.Author.Needs.{needs}
-use Rattle.message.specs.Writing.{answered}
+use Rattle.writer.specs.Writing.{answered}
 use Rattle.node.proofs.SendLaws.{only-short}
 use Rattle.node.proofs.to_sending.Statement.{statement}
 use Rattle.node.proofs.to_sending.Tie as tie

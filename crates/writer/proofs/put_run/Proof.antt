@@ -2,8 +2,8 @@
 use native.Mathlib.Omega.{arith}
 use lib.ListN.{length-set}
 use borrow.Author.Needs.{needs}
-use Rattle.message.proofs.put_run.Statement.{statement}
-use Rattle.message.proofs.put_run.Tie as tie
+use Rattle.writer.proofs.put_run.Statement.{statement}
+use Rattle.writer.proofs.put_run.Tie as tie
 
 cast-buf : tie.Need-cast-buf
 cast-buf c = search needs

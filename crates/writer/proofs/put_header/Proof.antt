@@ -2,8 +2,8 @@
 use native.Mathlib.Omega.{arith}
 use lib.ListN.{length-set}
 use borrow.Author.Needs.{needs}
-use Rattle.message.proofs.put_header.Statement.{statement}
-use Rattle.message.proofs.put_header.Tie as tie
+use Rattle.writer.proofs.put_header.Statement.{statement}
+use Rattle.writer.proofs.put_header.Tie as tie
 
 put16-requires : tie.Need-put16-requires
 put16-requires c κs = search needs

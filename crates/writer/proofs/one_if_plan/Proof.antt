@@ -1,8 +1,8 @@
 -- `one_if_plan` meets its contract.
 use mathlib.Core.Path.{sym, _∙_}
 use borrow.Author.Needs.{needs}
-use Rattle.message.proofs.one_if_plan.Statement.{statement}
-use Rattle.message.proofs.one_if_plan.Tie as tie
+use Rattle.writer.proofs.one_if_plan.Statement.{statement}
+use Rattle.writer.proofs.one_if_plan.Tie as tie
 
 is-plan-requires : tie.Need-is-plan-requires
 is-plan-requires c κs = search needs

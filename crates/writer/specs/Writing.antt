@@ -8,13 +8,13 @@ use lib.ListN.{length, getD, drop}
 use lib.Dec.{leb}
 use Rattle.wire.specs.Outcome.{Outcome, accepted, refused, require}
 use Rattle.wire.specs.Entry.{Entry}
 use Rattle.message.specs.Fields.{Message, selection, validation, decision}
 use Rattle.message.specs.Bounds.{within}
 use Rattle.message.specs.Encoding.{encode, sizeOf}
-use Rattle.message.specs.declared.WriteRefusal.{WriteRefusal}
-use Rattle.message.specs.declared.WriteRefusal.the-variants.{Short, OutOfBounds}
-use Rattle.message.specs.declared.Writing.{Writing}
-use Rattle.message.specs.declared.Writing.the-variants.{Bytes, Refused}
+use Rattle.writer.specs.declared.WriteRefusal.{WriteRefusal}
+use Rattle.writer.specs.declared.WriteRefusal.the-variants.{Short, OutOfBounds}
+use Rattle.writer.specs.declared.Writing.{Writing}
+use Rattle.writer.specs.declared.Writing.the-variants.{Bytes, Refused}
 
 -- the message's length, or the number of the refusal
 unfoldable pub writeOf : Message → List ℕ → Outcome ℕ

@@ -12,10 +12,10 @@ use lib.Seq.{sets, sets-eq}
 use borrow.Author.Tests.{le-leb, lt-leb, leb-true}
 use Rattle.wire.specs.Outcome.{accepted, refused}
 use Rattle.wire.proofs.Tests.{both-true}
-use Rattle.message.specs.Fields.{Body, selection, validation, decision, Message}
+use Rattle.message.specs.Fields.{Message}
 use Rattle.message.specs.Bounds.{phaseOk, planOk, within}
-use Rattle.message.specs.Encoding.{kindOf, sizeOf, bodyBytes, header, encode}
-use Rattle.message.specs.Writing.{
+use Rattle.message.specs.Encoding.{sizeOf, encode}
+use Rattle.writer.specs.Writing.{
   listed,
   selectionOf,
   writeOf,
@@ -23,17 +23,8 @@ use Rattle.message.specs.Writing.{
   bufferOf,
   selectionBufferOf,
 }
-use Rattle.message.proofs.HistoryLaws.{entry-bytes-length, listed-count, listed-ok}
-
--- 01: "length (2, counting every byte of the message)"
-pub encode-length : (m : Message) → length (encode m) ≡ sizeOf (m .body)
-unfolding encode
-encode-length m = go (m .body)
-  where
-    go : (body : Body) → length (header (sizeOf body) (kindOf body) (m .run) (m .phase) ++ bodyBytes body) ≡ sizeOf body
-    go (selection vote stamp entries) = omega (arith, entry-bytes-length entries)
-    go (validation plan) = refl
-    go (decision vote stamp) = refl
+use Rattle.message.proofs.EncodeLaws.{encode-length}
+use Rattle.writer.proofs.HistoryLaws.{listed-count, listed-ok}
 
 -- stores from the front of a buffer on
 pub sets-front : (bs l : List ℕ) → length bs ≤ length l → sets l 0 bs ≡ bs ++ drop (length bs) l

@@ -6,10 +6,10 @@ use native.Mathlib.Nat.{sub-zero}
 use native.Mathlib.Omega.{arith}
 use lib.ListN.{length}
 use borrow.Author.Needs.{needs}
-use Rattle.message.proofs.HistoryLaws.{count-turn, listed-end}
-use Rattle.message.specs.Writing.{listed}
-use Rattle.message.proofs.count_entries.Statement.{statement}
-use Rattle.message.proofs.count_entries.Tie as tie
+use Rattle.writer.proofs.HistoryLaws.{count-turn, listed-end}
+use Rattle.writer.specs.Writing.{listed}
+use Rattle.writer.proofs.count_entries.Statement.{statement}
+use Rattle.writer.proofs.count_entries.Tie as tie
 
 abbrev Inv-loop : tie.InvT-loop
 Inv-loop phases history count₀ phase₀ count phase =

@@ -6,12 +6,12 @@ use lib.ListN.{length, length-set}
 use borrow.Author.Needs.{needs}
 use denote.Ref.{now}
 use Rattle.wire.specs.Outcome.{accepted}
-use Rattle.message.proofs.HistoryLaws.{entry-bytes-length}
-use Rattle.message.proofs.WriteLaws.{allowed-within, selection-written, selection-too-short, selection-out-of-bounds}
+use Rattle.message.proofs.EncodeLaws.{entry-bytes-length}
+use Rattle.writer.proofs.WriteLaws.{allowed-within, selection-written, selection-too-short, selection-out-of-bounds}
 use Rattle.message.specs.Encoding.{encode}
-use Rattle.message.specs.Writing.{listed}
-use Rattle.message.proofs.write_selection.Statement.{statement}
-use Rattle.message.proofs.write_selection.Tie as tie
+use Rattle.writer.specs.Writing.{listed}
+use Rattle.writer.proofs.write_selection.Statement.{statement}
+use Rattle.writer.proofs.write_selection.Tie as tie
 
 is-phase-requires : tie.Need-is-phase-requires
 is-phase-requires c κs = search needs

@@ -1,13 +1,11 @@
--- `write_decision` meets its contract.
-use native.Mathlib.Omega.{arith}
-use lib.ListN.{length-set}
+-- `write_validation` meets its contract.
 use borrow.Author.Needs.{needs}
 use denote.Ref.{now}
-use Rattle.message.proofs.WriteLaws.{written, too-short, out-of-bounds}
+use Rattle.writer.proofs.WriteLaws.{written, too-short, out-of-bounds}
 use Rattle.message.specs.Encoding.{encode}
-use Rattle.message.specs.Writing.{decisionOf}
-use Rattle.message.proofs.write_decision.Statement.{statement}
-use Rattle.message.proofs.write_decision.Tie as tie
+use Rattle.writer.specs.Writing.{validationOf}
+use Rattle.writer.proofs.write_validation.Statement.{statement}
+use Rattle.writer.proofs.write_validation.Tie as tie
 
 is-phase-requires : tie.Need-is-phase-requires
 is-phase-requires c κs = search needs
@@ -22,7 +20,7 @@ returns : tie.Need-returns
 returns c =
     let b4 = c .before .before .before .before in
     let a = b4 .before .args in
-    too-short (decisionOf (a .run) (a .phase) (a .vote) (a .stamp)) (now (a .buf))
+    too-short (validationOf (a .run) (a .phase) (a .plan)) (now (a .buf))
     (simp (
       c .before .before .before .is-phase .ensures,
       c .before .before .is-plan .ensures,
@@ -34,16 +32,11 @@ put-header-requires c κs = search needs
 put16-requires : tie.Need-put16-requires
 put16-requires c κs = search needs
 
-slice-write-buf : tie.Need-slice-write-buf
-slice-write-buf c = search needs
-
-cast-t11 : tie.Need-cast-t11
-cast-t11 c = search needs
+cast-t8 : tie.Need-cast-t8
+cast-t8 c = search needs
 
 same-length : tie.Need-same-length
-same-length c =
-    let b4 = c .before .before .before .before in
-    simp length-set (omega (arith, c .before .before .put16 .kept .0, b4 .before .before .put-header .kept .0))
+same-length c = search needs
 
 returns-2 : tie.Need-returns-2
 unfolding encode
@@ -53,7 +46,7 @@ returns-2 c =
     let b12 = b8 .before .before .before .before in
     let a = b12 .before .args in
     simp (c .before .before .put16 .ensures, b4 .before .before .put-header .ensures)
-    (written (decisionOf (a .run) (a .phase) (a .vote) (a .stamp)) (now (a .buf))
+    (written (validationOf (a .run) (a .phase) (a .plan)) (now (a .buf))
     (simp (
       b8 .before .before .before .is-phase .ensures,
       b8 .before .before .is-plan .ensures,
@@ -61,11 +54,11 @@ returns-2 c =
 
 returns-3 : tie.Need-returns-3
 returns-3 c = let a = c .before .before .before .before .args in
-    out-of-bounds (decisionOf (a .run) (a .phase) (a .vote) (a .stamp)) (now (a .buf))
+    out-of-bounds (validationOf (a .run) (a .phase) (a .plan)) (now (a .buf))
     (simp (c .before .before .is-phase .ensures, c .before .is-plan .ensures) at (c .if1 .left))
 
-pub write-decision-spec : {M : Type 1} → statement M
-write-decision-spec =
+pub write-validation-spec : {M : Type 1} → statement M
+write-validation-spec =
     tie.close
     (tie.spec
     is-phase-requires
@@ -74,8 +67,7 @@ write-decision-spec =
     returns
     put-header-requires
     put16-requires
-    slice-write-buf
-    cast-t11
+    cast-t8
     same-length
     returns-2
     returns-3)

@@ -1,8 +1,8 @@
 -- `put16` meets its contract.
 use native.Mathlib.Numerals.{add-one}
 use borrow.Author.Needs.{needs}
-use Rattle.message.proofs.put16.Statement.{statement}
-use Rattle.message.proofs.put16.Tie as tie
+use Rattle.writer.proofs.put16.Statement.{statement}
+use Rattle.writer.proofs.put16.Tie as tie
 
 cast-buf : tie.Need-cast-buf
 cast-buf c = search needs

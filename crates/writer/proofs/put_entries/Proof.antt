@@ -7,11 +7,11 @@ use native.Mathlib.Omega.{arith}
 use lib.ListN.{length}
 use lib.Seq.{sets}
 use borrow.Author.Needs.{needs}
-use Rattle.message.proofs.HistoryLaws.{room-turn, stores-turn, listed-end}
+use Rattle.writer.proofs.HistoryLaws.{room-turn, stores-turn, listed-end}
 use Rattle.message.specs.Encoding.{entryBytes}
-use Rattle.message.specs.Writing.{listed}
-use Rattle.message.proofs.put_entries.Statement.{statement}
-use Rattle.message.proofs.put_entries.Tie as tie
+use Rattle.writer.specs.Writing.{listed}
+use Rattle.writer.proofs.put_entries.Statement.{statement}
+use Rattle.writer.proofs.put_entries.Tie as tie
 
 abbrev Inv-loop : tie.InvT-loop
 Inv-loop buf₀ phases history place₀ phase₀ buf place phase =

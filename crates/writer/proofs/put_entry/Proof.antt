@@ -5,9 +5,9 @@ use native.Mathlib.Numerals.{towards-suc}
 use native.Mathlib.Omega.{arith}
 use lib.ListN.{length-set}
 use borrow.Author.Needs.{needs}
 use Rattle.message.specs.Encoding.{entryBytes}
-use Rattle.message.proofs.put_entry.Statement.{statement}
-use Rattle.message.proofs.put_entry.Tie as tie
+use Rattle.writer.proofs.put_entry.Statement.{statement}
+use Rattle.writer.proofs.put_entry.Tie as tie
 
 is-plan-requires : tie.Need-is-plan-requires
 is-plan-requires c κs = search needs

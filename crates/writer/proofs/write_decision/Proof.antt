@@ -1,11 +1,13 @@
--- `write_validation` meets its contract.
+-- `write_decision` meets its contract.
+use native.Mathlib.Omega.{arith}
+use lib.ListN.{length-set}
 use borrow.Author.Needs.{needs}
 use denote.Ref.{now}
-use Rattle.message.proofs.WriteLaws.{written, too-short, out-of-bounds}
+use Rattle.writer.proofs.WriteLaws.{written, too-short, out-of-bounds}
 use Rattle.message.specs.Encoding.{encode}
-use Rattle.message.specs.Writing.{validationOf}
-use Rattle.message.proofs.write_validation.Statement.{statement}
-use Rattle.message.proofs.write_validation.Tie as tie
+use Rattle.writer.specs.Writing.{decisionOf}
+use Rattle.writer.proofs.write_decision.Statement.{statement}
+use Rattle.writer.proofs.write_decision.Tie as tie
 
 is-phase-requires : tie.Need-is-phase-requires
 is-phase-requires c κs = search needs
@@ -20,7 +22,7 @@ returns : tie.Need-returns
 returns c =
     let b4 = c .before .before .before .before in
     let a = b4 .before .args in
-    too-short (validationOf (a .run) (a .phase) (a .plan)) (now (a .buf))
+    too-short (decisionOf (a .run) (a .phase) (a .vote) (a .stamp)) (now (a .buf))
     (simp (
       c .before .before .before .is-phase .ensures,
       c .before .before .is-plan .ensures,
@@ -32,11 +34,16 @@ put-header-requires c κs = search needs
 put16-requires : tie.Need-put16-requires
 put16-requires c κs = search needs
 
-cast-t8 : tie.Need-cast-t8
-cast-t8 c = search needs
+slice-write-buf : tie.Need-slice-write-buf
+slice-write-buf c = search needs
+
+cast-t11 : tie.Need-cast-t11
+cast-t11 c = search needs
 
 same-length : tie.Need-same-length
-same-length c = search needs
+same-length c =
+    let b4 = c .before .before .before .before in
+    simp length-set (omega (arith, c .before .before .put16 .kept .0, b4 .before .before .put-header .kept .0))
 
 returns-2 : tie.Need-returns-2
 unfolding encode
@@ -46,7 +53,7 @@ returns-2 c =
     let b12 = b8 .before .before .before .before in
     let a = b12 .before .args in
     simp (c .before .before .put16 .ensures, b4 .before .before .put-header .ensures)
-    (written (validationOf (a .run) (a .phase) (a .plan)) (now (a .buf))
+    (written (decisionOf (a .run) (a .phase) (a .vote) (a .stamp)) (now (a .buf))
     (simp (
       b8 .before .before .before .is-phase .ensures,
       b8 .before .before .is-plan .ensures,
@@ -54,11 +61,11 @@ returns-2 c =
 
 returns-3 : tie.Need-returns-3
 returns-3 c = let a = c .before .before .before .before .args in
-    out-of-bounds (validationOf (a .run) (a .phase) (a .plan)) (now (a .buf))
+    out-of-bounds (decisionOf (a .run) (a .phase) (a .vote) (a .stamp)) (now (a .buf))
     (simp (c .before .before .is-phase .ensures, c .before .is-plan .ensures) at (c .if1 .left))
 
-pub write-validation-spec : {M : Type 1} → statement M
-write-validation-spec =
+pub write-decision-spec : {M : Type 1} → statement M
+write-decision-spec =
     tie.close
     (tie.spec
     is-phase-requires
@@ -67,7 +74,8 @@ write-validation-spec =
     returns
     put-header-requires
     put16-requires
-    cast-t8
+    slice-write-buf
+    cast-t11
     same-length
     returns-2
     returns-3)

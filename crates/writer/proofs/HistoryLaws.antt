@@ -1,10 +1,9 @@
--- The entries listed from a history: how many bytes they take, that they keep their bounds, and what the loops over
--- them go by.
+-- The entries listed from a history: that they keep their bounds, and what the loops over them go by.
 -- Assumes nothing.
 use mathlib.Core.Path.{_≡_, refl, ap, sym, _∙_}
 use mathlib.Core.Bool.{Bool, true, false, cond}
 use mathlib.Core.List.{List, [], _∷_, _++_}
-use Prim.Native.Nat.{ℕ, zero, suc, _+_, _*_, _-_, _<_, _≤_}
+use Prim.Native.Nat.{ℕ, zero, suc, _+_, _-_, _<_, _≤_}
 use native.Mathlib.Nat.{add-zero, add-suc, suc-add}
 use native.Mathlib.Omega.{arith}
 use lib.Dec.{leb}
@@ -12,15 +11,9 @@ use lib.ListN.{length, getD, set, length-append}
 use lib.Seq.{sets}
 use borrow.Author.Tests.{le-leb, lt-ltb}
 use Rattle.wire.specs.Entry.{Entry}
 use Rattle.message.specs.Bounds.{entriesOk}
 use Rattle.message.specs.Encoding.{entryBytes}
-use Rattle.message.specs.Writing.{entryOf, listed}
-
--- an entry takes three bytes
-pub entry-bytes-length : (es : List Entry) → length (entryBytes es) ≡ 3 * length es
-unfolding entryBytes
-entry-bytes-length [] = refl
-entry-bytes-length (e ∷ es) = omega (arith, entry-bytes-length es)
+use Rattle.writer.specs.Writing.{entryOf, listed}
 
 pub entry-bytes-append : (es ks : List Entry) → entryBytes (es ++ ks) ≡ entryBytes es ++ entryBytes ks
 unfolding entryBytes

@@ -1,0 +1,193 @@
+// Writing messages from fields within their bounds. It knows nothing of crews.
+// What a writer answers and leaves in the buffer stands in specs/Writing.antt; the layout and the bounds are crate
+// message's.
+use message::COUNT_AT;
+use message::DECISION;
+use message::DECISION_LENGTH;
+use message::ENTRIES_AT;
+use message::ENTRY_SIZE;
+use message::KIND_AT;
+use message::LENGTH_AT;
+use message::PHASE_AT;
+use message::PLAN_AT;
+use message::RUN_AT;
+use message::SELECTION;
+use message::SELECTION_LENGTH;
+use message::STAMP_AT;
+use message::VALIDATION;
+use message::VALIDATION_LENGTH;
+ghost use mathlib.Core.Path.{_≡_};
+ghost use Prim.Native.Nat.{_+_, _<_, _≤_};
+ghost use lib.ListN.{length};
+ghost use lib.Seq.{sets};
+ghost use Rattle.wire.specs.Bytes.{bytesOf};
+ghost use Rattle.message.specs.Encoding.{header, entryBytes};
+ghost use Rattle.writer.specs.Writing.{
+  entryOf,
+  listed,
+  validationOf,
+  decisionOf,
+  writeOf,
+  writeSelectionOf,
+  bufferOf,
+  selectionBufferOf,
+  answered as writtenAs,
+};
+
+// Why writing refuses; `number` in specs/Writing.antt has 01's numbers.
+pub enum WriteRefusal {
+    // The fields break a bound of the message.
+    OutOfBounds,
+    // The buffer is shorter than the message.
+    Short,
+}
+
+// What writing a message answers: its length, or a refusal.
+pub enum Writing {
+    Bytes(usize),
+    Refused(WriteRefusal),
+}
+
+fn put16(buf: &mut [u8], place: usize, number: u16)
+    requires { ⌜ place + 1 < length (now buf) ⌝ }
+    ensures { λ _. ⌜ now (buf .exit) ≡ sets (now (buf .entry)) place (bytesOf 2 number) ⌝ }
+{
+    buf[place] = (number % 256) as u8;
+    buf[place + 1] = (number / 256 % 256) as u8;
+}
+
+fn put_run(buf: &mut [u8], run: u32)
+    requires { ⌜ 9 ≤ length (now buf) ⌝ }
+    ensures { λ _. ⌜ now (buf .exit) ≡ sets (now (buf .entry)) 4 (bytesOf 4 run) ⌝ }
+{
+    buf[RUN_AT] = (run % 256) as u8;
+    buf[RUN_AT + 1] = (run / 256 % 256) as u8;
+    buf[RUN_AT + 2] = (run / 256 / 256 % 256) as u8;
+    buf[RUN_AT + 3] = (run / 256 / 256 / 256 % 256) as u8;
+}
+
+fn put_header(buf: &mut [u8], size: u16, kind: u16, run: u32, phase: u8)
+    requires { ⌜ 9 ≤ length (now buf) ⌝ }
+    ensures { λ _. ⌜ now (buf .exit) ≡ sets (now (buf .entry)) 0 (header size kind run phase) ⌝ }
+{
+    put16(buf, LENGTH_AT, size);
+    put16(buf, KIND_AT, kind);
+    put_run(buf, run);
+    buf[PHASE_AT] = phase;
+}
+
+// Writes a validation. Fields that break a bound are refused, then a buffer that is too short.
+pub fn write_validation(buf: &mut [u8], run: u32, phase: u8, plan: u16) -> Writing
+    ensures { λ r. ⌜ (writtenAs r ≡ writeOf (validationOf run phase plan) (now (buf .entry)))
+        × (now (buf .exit) ≡ bufferOf (validationOf run phase plan) (now (buf .entry))) ⌝ }
+{
+    let allowed = message::is_phase(phase) & message::is_plan(plan);
+    if allowed {
+        if buf.len() < VALIDATION_LENGTH as usize {
+            return Writing::Refused(WriteRefusal::Short);
+        }
+        put_header(buf, VALIDATION_LENGTH, VALIDATION, run, phase);
+        put16(buf, PLAN_AT, plan);
+        return Writing::Bytes(VALIDATION_LENGTH as usize);
+    }
+    Writing::Refused(WriteRefusal::OutOfBounds)
+}
+
+// Writes a decision. Fields that break a bound are refused, then a buffer that is too short.
+pub fn write_decision(buf: &mut [u8], run: u32, phase: u8, vote: u16, stamp: u8) -> Writing
+    ensures { λ r. ⌜ (writtenAs r ≡ writeOf (decisionOf run phase vote stamp) (now (buf .entry)))
+        × (now (buf .exit) ≡ bufferOf (decisionOf run phase vote stamp) (now (buf .entry))) ⌝ }
+{
+    let allowed = message::is_phase(phase) & (message::is_plan(vote) & (stamp <= phase));
+    if allowed {
+        if buf.len() < DECISION_LENGTH as usize {
+            return Writing::Refused(WriteRefusal::Short);
+        }
+        put_header(buf, DECISION_LENGTH, DECISION, run, phase);
+        put16(buf, PLAN_AT, vote);
+        buf[STAMP_AT] = stamp;
+        return Writing::Bytes(DECISION_LENGTH as usize);
+    }
+    Writing::Refused(WriteRefusal::OutOfBounds)
+}
+
+// 1 for a phase that has a plan, else 0.
+fn one_if_plan(phase: u8, plan: u16) -> usize
+    ensures { λ r. ⌜ (r ≡ length (entryOf phase plan)) × (r ≤ 1) ⌝ }
+{
+    if message::is_plan(plan) { 1 } else { 0 }
+}
+
+// How many of the first phases have a plan.
+fn count_entries(history: [u16; 64], phases: u8) -> usize
+    requires { ⌜ phases ≤ 63 ⌝ }
+    ensures { λ r. ⌜ (r ≡ length (listed history 0 phases)) × (r ≤ phases) ⌝ }
+{
+    let mut count: usize = 0;
+    let mut phase: u8 = 0;
+    while phase < phases {
+        count = count + one_if_plan(phase, history[phase as usize]);
+        phase = phase + 1;
+    }
+    count
+}
+
+// Writes the entry of a phase that has a plan, and answers the place after it.
+fn put_entry(buf: &mut [u8], place: usize, phase: u8, plan: u16) -> usize
+    requires { ⌜ place + length (entryBytes (entryOf phase plan)) ≤ length (now buf) ⌝ }
+    ensures { λ r. ⌜ (r ≡ place + length (entryBytes (entryOf phase plan)))
+        × (now (buf .exit) ≡ sets (now (buf .entry)) place (entryBytes (entryOf phase plan))) ⌝ }
+{
+    if message::is_plan(plan) {
+        buf[place] = phase;
+        put16(buf, place + 1, plan);
+        place + ENTRY_SIZE
+    } else {
+        place
+    }
+}
+
+// Writes the entries of the first phases.
+fn put_entries(buf: &mut [u8], history: [u16; 64], phases: u8)
+    requires { ⌜ (phases ≤ 63) × (13 + length (entryBytes (listed history 0 phases)) ≤ length (now buf)) ⌝ }
+    ensures { λ _. ⌜ now (buf .exit) ≡ sets (now (buf .entry)) 13 (entryBytes (listed history 0 phases)) ⌝ }
+{
+    let mut place: usize = ENTRIES_AT;
+    let mut phase: u8 = 0;
+    while phase < phases {
+        place = put_entry(buf, place, phase, history[phase as usize]);
+        phase = phase + 1;
+    }
+}
+
+// Writes a selection with the non-empty entries among the first `phases` of a history, where 0 is an empty entry.
+// Fields that break a bound are refused, and more phases than the message's own; then a buffer that is too short.
+pub fn write_selection(
+    buf: &mut [u8],
+    run: u32,
+    phase: u8,
+    vote: u16,
+    stamp: u8,
+    history: [u16; 64],
+    phases: u8,
+) -> Writing
+    ensures { λ r. ⌜ (writtenAs r ≡ writeSelectionOf run phase vote stamp history phases (now (buf .entry)))
+        × (now (buf .exit) ≡ selectionBufferOf run phase vote stamp history phases (now (buf .entry))) ⌝ }
+{
+    let allowed = (phases <= phase)
+        & (message::is_phase(phase) & (message::is_plan(vote) & (stamp < phase)));
+    if allowed {
+        let count = count_entries(history, phases);
+        let size = SELECTION_LENGTH as usize + ENTRY_SIZE * count;
+        if buf.len() < size {
+            return Writing::Refused(WriteRefusal::Short);
+        }
+        put_header(buf, size as u16, SELECTION, run, phase);
+        put16(buf, PLAN_AT, vote);
+        buf[STAMP_AT] = stamp;
+        buf[COUNT_AT] = count as u8;
+        put_entries(buf, history, phases);
+        return Writing::Bytes(size);
+    }
+    Writing::Refused(WriteRefusal::OutOfBounds)
+}
