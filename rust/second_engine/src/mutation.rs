@@ -12,13 +12,13 @@ pub enum Mutation {
     MajorityOfArrivalsValidates,
     /// and in the decision.
     MajorityOfArrivalsDecides,
-    /// 01: "The newest stamp wins."
+    /// 01: "The newest stamp wins.", in class 1 too, where only liars show a stamp
     NewestStampWins,
     /// 01: "After a failed validation, going back to the plan this node selected.", read as its select,
     BackToOwnSelection,
     /// and as its own history entry at the stamp (the source's line 24).
     BackToOwnHistory,
-    /// 01: "Deciding in class 3 on votes with older stamps."
+    /// 01: "Deciding in class 3 on votes with older stamps.", and in class 2
     OldStampsDecide,
     /// 01: "Letting one malformed slot spoil the inbox."
     MalformedSlotSpoils,

@@ -78,7 +78,7 @@ fn check(node: &Node, inbox: &[u8]) -> Result<(), Refusal> {
 
 /// The selection that the counting slots give.
 fn selection(crew: Crew, ballots: &[Ballot], mutation: Mutation) -> Selection {
-    if mutation == Mutation::NewestStampWins && crew.class != 1 {
+    if mutation == Mutation::NewestStampWins {
         return newest_stamp(ballots);
     }
     let e = crew.e();
@@ -259,7 +259,7 @@ fn take_decision(node: &mut Node, ballots: &[Ballot], mutation: Mutation) {
 /// The least plan that stands in enough slots.
 fn decided(node: &Node, ballots: &[Ballot], mutation: Mutation) -> Option<u16> {
     let class = node.crew.class;
-    let is_any_stamp = class == 1 || (class == 3 && mutation == Mutation::OldStampsDecide);
+    let is_any_stamp = class == 1 || mutation == Mutation::OldStampsDecide;
     let is_deciding = |ballot: &&Ballot| is_any_stamp || ballot.stamp == node.phase;
     let needed = match mutation {
         Mutation::MajorityOfArrivalsDecides => ballots.len() / 2 + 1,
