@@ -57,3 +57,14 @@ fn properties_of_runs_find_mutants() {
         println!("{mutation:?}: {found}");
     }
 }
+
+/// What docs/DECISIONS.md argues: in class 2, going back to the own selection splits and stalls no run.
+#[test]
+fn own_selection_does_no_harm_in_class_2() {
+    let wrong = Second { mutation: Mutation::BackToOwnSelection };
+    for seed in seeds("runs of class 2 that go back to the own selection", 400) {
+        if let Err(failure) = runs::drive_class(&mut Random::new(seed), 2, &wrong, None) {
+            panic!("seed {seed}: {failure}");
+        }
+    }
+}
