@@ -54,7 +54,7 @@ unfolding comingOf
 coming-silent d two silent = simp (ne-eqb (d .round) 1 (λ e. omega arith), eq-eqb (d .round) 2 two, silent)
 
 -- a node lists no phases but those before its own
-listed-before : (d : Node) → listedPhases d ≤ d .phase
+pub listed-before : (d : Node) → listedPhases d ≤ d .phase
 listed-before d = go (eqb (d .crew .class) 3)
   where
     go : (third : Bool) → cond third (d .phase) 0 ≤ d .phase

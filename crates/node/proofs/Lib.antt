@@ -3,5 +3,6 @@ pub mod Facts
 pub mod StartLaws
 pub mod Coming
 pub mod SendLaws
+pub mod Lengths
 pub mod Listed
 pub mod ReadBack

@@ -1,0 +1,39 @@
+-- What the engine's answers say of the definitions' outcomes, as the functions for C and Rust use them.
+-- Assumes nothing.
+use mathlib.Core.Path.{_≡_, refl, ap, _∙_}
+use mathlib.Core.List.{List, [], _∷_, _++_}
+use Prim.Native.Nat.{ℕ, _*_, _≤_}
+use native.Mathlib.Omega.{arith}
+use lib.ListN.{length, drop, drop-of-length-le}
+use lib.Seq.{sets}
+use borrow.Author.Tests.{le-ltb}
+use Rattle.wire.specs.Outcome.{Outcome, accepted, refused, verdict, valueOr}
+use Rattle.message.proofs.WriteLaws.{sets-front}
+use Rattle.node.specs.declared.Node.{Node}
+use Rattle.image.specs.Layout.{imageOf}
+use Rattle.boundary.specs.Answers.{answerOf, done, recordAfter, fieldBytes, entryIn}
+
+-- An operation that gives a record, of which a caller sees whether it was accepted and the record beside that.
+module _ (image : List ℕ) (before : Node) where
+  pub when-accepted : (outcome : Outcome Node) → accepted tt ≡ verdict outcome
+      → (0 ≡ answerOf done outcome) × (imageOf (valueOr before outcome) ≡ recordAfter image outcome)
+  when-accepted (accepted d) e = (refl, refl)
+  when-accepted (refused number) e = absurd (let z : _≡_ {A = ℕ} 0 1 = cc in omega arith)
+
+  pub when-refused : (outcome : Outcome Node) (number : ℕ) → refused number ≡ verdict outcome
+      → (16777216 * number ≡ answerOf done outcome) × (image ≡ recordAfter image outcome)
+  when-refused (accepted d) number e = absurd (let z : _≡_ {A = ℕ} 0 1 = cc in omega arith)
+  when-refused (refused number′) number e = (ap (answerOf done) e, refl)
+
+-- ten stores fill ten bytes
+pub fields-laid : (fields : List ℕ) (kind run phase vote stamp count : ℕ) → length fields ≡ 10
+    → sets fields 0 (fieldBytes kind run phase vote stamp count) ≡ fieldBytes kind run phase vote stamp count
+fields-laid fields kind run phase vote stamp count long =
+    let bytes = fieldBytes kind run phase vote stamp count in
+    let over : length fields ≤ 10 = omega arith in
+    let none : drop 10 fields ≡ [] = drop-of-length-le fields over in
+    sets-front bytes fields (omega arith) ∙ ap (λ (tail : List ℕ). bytes ++ tail) none
+
+-- messages of kinds 2 and 3 have no entry to show
+pub entry-of-none : (i : ℕ) → entryIn [] i ≡ refused 27
+entry-of-none i = rw (le-ltb i 0 (omega arith))

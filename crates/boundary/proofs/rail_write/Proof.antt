@@ -1,0 +1,71 @@
+-- `rail_write` meets its contract.
+use mathlib.Core.Path.{sym, _∙_}
+use native.Mathlib.Omega.{arith}
+use borrow.Author.Needs.{needs}
+use denote.Ref.{now}
+use Rattle.node.proofs.Lengths.{write-length}
+use Rattle.boundary.proofs.rail_write.Statement.{statement}
+use Rattle.boundary.proofs.rail_write.Tie as tie
+
+fits-requires : tie.Need-fits-requires
+fits-requires c κs = search needs
+
+load-requires : tie.Need-load-requires
+load-requires c κs = search needs
+
+write-requires : tie.Need-write-requires
+write-requires c κs = search needs
+
+sending-answer-requires : tie.Need-sending-answer-requires
+sending-answer-requires c κs =
+    let b4 = c .before .before .before .before in
+    let b8 = b4 .before .before .before .before in
+    rw (c .before .before .write .ensures .0) (omega (
+      arith,
+      write-length (b4 .load .result) (now
+          (b8 .before .args .buffer)),
+    ))
+
+same-length : tie.Need-same-length
+same-length c = search needs
+
+returns : tie.Need-returns
+returns c =
+    let b4 = c .before .before .before .before in (
+      rw (
+        c .sending-answer .ensures,
+        c .before .before .before .write .ensures .0,
+        b4 .before .load .ensures,
+        sym
+            (b4 .before .before .before .fits2 .ensures) ∙ b4 .before .before .if1 .taken,
+      ),
+      rw (
+        c .before .before .before .write .ensures .2,
+        b4 .before .load .ensures,
+        sym
+            (b4 .before .before .before .fits2 .ensures) ∙ b4 .before .before .if1 .taken,
+      ),
+    )
+
+refusal-requires : tie.Need-refusal-requires
+refusal-requires c κs = search needs
+
+returns-2 : tie.Need-returns-2
+returns-2 c = (
+  rw (c .refusal .ensures, sym (c .before .before .fits2 .ensures) ∙ c .before .if1 .left),
+  rw (sym
+      (c .before .before .fits2 .ensures) ∙ c .before .if1 .left),
+)
+
+pub rail-write-spec : {M : Type 1} → statement M
+rail-write-spec =
+    tie.close
+    (tie.spec
+    fits-requires
+    load-requires
+    write-requires
+    sending-answer-requires
+    same-length
+    returns
+    refusal-requires
+    returns-2)

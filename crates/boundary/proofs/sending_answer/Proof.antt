@@ -1,0 +1,47 @@
+-- `sending_answer` meets its contract.
+use mathlib.Core.Path.{sym, ap}
+use native.Mathlib.Omega.{arith}
+use borrow.Author.Needs.{needs}
+use Rattle.boundary.specs.Answers.{answerOf, itself}
+use Rattle.node.specs.Sending.{answered}
+use Rattle.wire.specs.Outcome.{valueOr}
+use Rattle.boundary.proofs.sending_answer.Statement.{statement}
+use Rattle.boundary.proofs.sending_answer.Tie as tie
+
+enum-known-answer : tie.Need-enum-known-answer
+enum-known-answer c = search needs
+
+cast-result : tie.Need-cast-result
+cast-result c = let same = ap (λ a. valueOr 0 (answered a)) (c .before .answer .given .1) in omega (
+  arith,
+  same,
+  c .before .before .before .pre,
+)
+
+enum-known-answer-2 : tie.Need-enum-known-answer-2
+enum-known-answer-2 c = search needs
+
+send-number-requires : tie.Need-send-number-requires
+send-number-requires c κs = search needs
+
+refusal-requires : tie.Need-refusal-requires
+refusal-requires c κs = search needs
+
+returns : tie.Need-returns
+returns c = search needs
+
+returns-2 : tie.Need-returns-2
+returns-2 c = rw (c .refusal .ensures, c .before .send-number .ensures .0) (sym (ap (λ a. answerOf itself
+    (answered a)) (c .before .before .before .answer2 .given .1)))
+
+pub sending-answer-spec : {M : Type 1} → statement M
+sending-answer-spec =
+    tie.close
+    (tie.spec
+    enum-known-answer
+    cast-result
+    enum-known-answer-2
+    send-number-requires
+    refusal-requires
+    returns
+    returns-2)

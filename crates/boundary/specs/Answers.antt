@@ -1,0 +1,102 @@
+-- What the functions for C and Rust answer, and what they leave in what they are lent: the engine's own definitions on
+-- the record whose image is lent.
+use Prim.Native.Nat.{ℕ, _+_, _*_, _/_}
+use mathlib.Core.List.{List, [], _∷_, _++_}
+use lib.ListN.{length}
+use lib.Dec.{ltb, eqb}
+use Rattle.wire.specs.Outcome.{Outcome, accepted, refused, require, after, verdict}
+use Rattle.wire.specs.Entry.{Entry}
+use Rattle.wire.specs.Bytes.{bytesOf}
+use Rattle.crew.specs.declared.Crew.{Crew}
+use Rattle.message.specs.Fields.{Body, selection, validation, decision, Message}
+use Rattle.message.specs.Encoding.{kindOf}
+use Rattle.message.specs.Reading.{readOf, entriesPartOf, entryAt}
+use Rattle.ballot.specs.Selection.{Choice, plan, any, nothing}
+use Rattle.node.specs.declared.Node.{Node}
+use Rattle.node.specs.Soundness.{sound}
+use Rattle.node.specs.Starting.{startOf}
+use Rattle.node.specs.Sending.{writeOf, comingBytes, bufferAfter}
+use Rattle.rounds.specs.Taking.{takeOf}
+use Rattle.rounds.specs.Asking.{askOf}
+use Rattle.image.specs.Layout.{imageFits, imageOf, recordIn}
+
+-- An answer is one number: a value below 16,777,216, or 16,777,216 times the number of a refusal.
+abbrev pub answerOf : {A : Type 0} → (A → ℕ) → Outcome A → ℕ
+answerOf value (accepted a) = value a
+answerOf value (refused number) = 16777216 * number
+
+-- the value of what has none to give
+abbrev pub done : {A : Type 0} → A → ℕ
+done a = 0
+
+-- the value of what is a number already
+abbrev pub itself : ℕ → ℕ
+itself value = value
+
+-- the value of a selection: a plan's own number; 0, which no plan has, for 'none'; 65,536 for 'any'
+abbrev pub choiceNumber : Choice → ℕ
+choiceNumber (plan v) = v
+choiceNumber any = 65536
+choiceNumber nothing = 0
+
+-- the value of an entry of a history
+abbrev pub entryNumber : Entry → ℕ
+entryNumber e = 65536 * e .phase + e .plan
+
+abbrev pub crewOf : ℕ → ℕ → ℕ → ℕ → ℕ → Crew
+crewOf class n b f d = record { class = class; n = n; b = b; f = f; d = d }
+
+-- An operation on a lent image: 25 where it is not as long as an image, which is tested first, else the engine's own.
+abbrev pub onImage : {A : Type 0} → List ℕ → Outcome A → Outcome A
+onImage image outcome = require (imageFits image) 25 outcome
+
+-- the image that is left: that of the record which the operation gives, or the bytes as they were where it is refused
+abbrev pub recordAfter : List ℕ → Outcome Node → List ℕ
+recordAfter image (accepted d) = imageOf d
+recordAfter image (refused number) = image
+
+abbrev pub startInto : List ℕ → Crew → ℕ → ℕ → ℕ → Outcome Node
+startInto image crew own run first = onImage image (startOf crew own run first)
+
+abbrev pub writeFrom : List ℕ → List ℕ → Outcome ℕ
+writeFrom image buffer = onImage image (writeOf (recordIn image) buffer)
+
+-- the whole buffer after writing
+abbrev pub bufferFrom : List ℕ → List ℕ → List ℕ
+bufferFrom image buffer = bufferAfter (comingBytes (recordIn image)) buffer (writeFrom image buffer)
+
+abbrev pub takeFrom : List ℕ → List ℕ → Outcome Node
+takeFrom image inbox = onImage image (takeOf (recordIn image) inbox)
+
+abbrev pub askFrom : List ℕ → List ℕ → Outcome Choice
+askFrom image inbox = onImage image (askOf (recordIn image) inbox)
+
+-- the standing result of a sound record; 7 where it is not sound
+abbrev pub resultFrom : List ℕ → Outcome ℕ
+resultFrom image = onImage image (require (sound (recordIn image)) 7 (accepted (recordIn image .result)))
+
+-- A message's fields in ten bytes: kind (1), run (4), phase (1), plan or vote (2), stamp (1), how many entries (1).
+abbrev pub fieldBytes : ℕ → ℕ → ℕ → ℕ → ℕ → ℕ → List ℕ
+fieldBytes kind run phase vote stamp count =
+    kind ∷ (bytesOf 4 run ++ (phase ∷ (bytesOf 2 vote ++ (stamp ∷ count ∷ []))))
+
+-- a kind without stamp or entries has 0 there
+abbrev pub fieldsOf : ℕ → ℕ → Body → List ℕ
+fieldsOf run phase (selection vote stamp entries) = fieldBytes 1 run phase vote stamp (length entries)
+fieldsOf run phase (validation v) = fieldBytes 2 run phase v 0 0
+fieldsOf run phase (decision vote stamp) = fieldBytes 3 run phase vote stamp 0
+
+-- 26 where the lent slice does not have ten bytes, which is tested first
+abbrev pub readInto : List ℕ → List ℕ → Outcome Message
+readInto bytes fields = require (eqb (length fields) 10) 26 (readOf bytes)
+
+abbrev pub fieldsAfter : List ℕ → Outcome Message → List ℕ
+fieldsAfter fields (accepted m) = fieldsOf (m .run) (m .phase) (m .body)
+fieldsAfter fields (refused number) = fields
+
+-- entry i of the part that shows a message's entries; 27 where there is none
+abbrev pub entryIn : List ℕ → ℕ → Outcome Entry
+entryIn part i = require (ltb i (length part / 3)) 27 (accepted (entryAt part i))
+
+abbrev pub entryFrom : List ℕ → ℕ → Outcome Entry
+entryFrom bytes i = after (verdict (readOf bytes)) (entryIn (entriesPartOf bytes (readOf bytes)) i)

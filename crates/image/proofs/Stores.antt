@@ -1,0 +1,83 @@
+-- Laying plans one after the other, and reading them so: what the loops go by.
+-- Assumes nothing.
+use mathlib.Core.Path.{_≡_, refl, ap, sym, _∙_}
+use mathlib.Core.List.{List, [], _∷_, _++_, append-nil}
+use Prim.Native.Nat.{ℕ, zero, suc, _+_, _*_, _-_, _<_, _≤_}
+use native.Mathlib.Omega.{arith}
+use native.Mathlib.Numerals.{add-one}
+use lib.ListN.{length, getD, set, drop, replicate, drop-of-length-le}
+use lib.Seq.{sets, drop-cons}
+use Rattle.wire.specs.Bytes.{numberAt, bytesOf}
+use Rattle.message.proofs.HistoryLaws.{sets-append}
+use Rattle.message.proofs.WriteLaws.{sets-front}
+use Rattle.node.specs.declared.Node.{Node}
+use Rattle.image.specs.Layout.{historyBytes, scalarBytes, imageOf, plansIn}
+
+-- two bytes each
+pub history-bytes-length : (plans : List ℕ) → length (historyBytes plans) ≡ 2 * length plans
+unfolding historyBytes
+history-bytes-length [] = refl
+history-bytes-length (plan ∷ plans) = omega (arith, history-bytes-length plans)
+
+pub plans-length : (s : List ℕ) (place count : ℕ) → length (plansIn s place count) ≡ count
+unfolding plansIn
+plans-length s place zero = refl
+plans-length s place (suc count) = omega (arith, plans-length s (place + 2) count)
+
+-- the plans laid over an empty history are the history
+pub read-start : (s : List ℕ) → sets (replicate 64 0) 0 (plansIn s 21 64) ≡ plansIn s 21 64
+read-start s =
+    let plans = plansIn s 21 64 in
+    let long : length plans ≡ 64 = plans-length s 21 64 in
+    let room : length plans ≤ length (replicate {A = ℕ} 64 0) = omega arith in
+    let none : drop (length plans) (replicate {A = ℕ} 64 0) ≡ [] = rw long refl in
+    sets-front plans (replicate 64 0) room ∙ ap (λ (rest : List ℕ). plans ++ rest) none ∙ append-nil plans
+
+-- A turn of the loop that reads the plans: those left, laid over what is there, end in the same plans.
+pub read-turn : (s history whole : List ℕ) (i plan : ℕ) → i < 64 → plan ≡ numberAt 2 s (21 + 2 * i)
+    → sets history i (plansIn s (21 + 2 * i) (64 - i)) ≡ whole
+    → sets (set history i plan) (i + 1) (plansIn s (21 + 2 * (i + 1)) (64 - (i + 1))) ≡ whole
+unfolding plansIn
+read-turn s history whole i plan more is e =
+    let left : 64 - i ≡ suc (64 - suc i) = omega arith in
+    let next : 21 + 2 * i + 2 ≡ 21 + 2 * (i + 1) = omega arith in
+    rw (is, ← next, add-one i) (rw left at e)
+
+-- none is left
+pub read-end : (s history whole : List ℕ) (i : ℕ) → 64 ≤ i
+    → sets history i (plansIn s (21 + 2 * i) (64 - i)) ≡ whole → history ≡ whole
+unfolding plansIn
+read-end s history whole i done e =
+    let left : 64 - i ≡ 0 = omega arith in
+    rw left at e
+
+-- A turn of the loop that lays the plans: those left end in the same bytes.
+pub lay-turn : (history image next whole : List ℕ) (i : ℕ) → i < length history
+    → next ≡ sets image (21 + 2 * i) (bytesOf 2 (getD history i 0))
+    → sets image (21 + 2 * i) (historyBytes (drop i history)) ≡ whole
+    → sets next (21 + 2 * (i + 1)) (historyBytes (drop (i + 1) history)) ≡ whole
+unfolding historyBytes
+lay-turn history image next whole i more is e =
+    let place : 21 + 2 * (i + 1) ≡ 21 + 2 * i + 2 = omega arith in
+    let first = bytesOf 2 (getD history i 0) in
+    let split = sets-append first (historyBytes (drop (suc i) history)) image (21 + 2 * i) in
+    rw (is, place, add-one i, ← split) (rw (drop-cons history i 0 more) at e)
+
+-- none is left
+pub lay-end : (history image whole : List ℕ) (i : ℕ) → length history ≤ i
+    → sets image (21 + 2 * i) (historyBytes (drop i history)) ≡ whole → image ≡ whole
+unfolding historyBytes
+lay-end history image whole i done e = rw (drop-of-length-le history done) at e
+
+-- the scalars and then the plans fill an image whole
+pub image-laid : (d : Node) (image : List ℕ) → length image ≡ 149 → length (d .history) ≡ 64
+    → sets (sets image 0 (scalarBytes d)) 21 (historyBytes (d .history)) ≡ imageOf d
+image-laid d image long plans =
+    let bytes = scalarBytes d in
+    let rest = historyBytes (d .history) in
+    let whole : length (bytes ++ rest) ≡ 149 = omega (arith, history-bytes-length (d .history)) in
+    let room : length (bytes ++ rest) ≤ length image = omega arith in
+    let over : length image ≤ length (bytes ++ rest) = omega arith in
+    let none : drop (length (bytes ++ rest)) image ≡ [] = drop-of-length-le image over in
+    sym (sets-append bytes rest image 0) ∙ sets-front (bytes ++ rest) image room
+    ∙ ap (λ (tail : List ℕ). (bytes ++ rest) ++ tail) none ∙ append-nil (bytes ++ rest)

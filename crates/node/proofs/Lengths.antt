@@ -1,0 +1,51 @@
+-- No coming message is longer than a slot of an inbox: a buffer of 202 bytes is long enough for every one.
+-- Assumes nothing.
+use mathlib.Core.Path.{_≡_, refl}
+use mathlib.Core.Bool.{Bool, true, false, cond}
+use mathlib.Core.List.{List}
+use mathlib.Core.Option.{none, some}
+use Prim.Native.Nat.{ℕ, _≤_, _<_}
+use native.Mathlib.Omega.{arith}
+use lib.ListN.{length}
+use lib.Dec.{leb, eqb}
+use Rattle.wire.specs.Outcome.{Outcome, accepted, refused, valueOr}
+use Rattle.message.specs.Fields.{Message}
+use Rattle.message.specs.Writing.{selectionOf, validationOf, decisionOf}
+use Rattle.message.proofs.HistoryLaws.{listed-count}
+use Rattle.message.proofs.WriteLaws.{encode-length}
+use Rattle.node.specs.declared.Node.{Node}
+use Rattle.node.specs.Sending.{listedPhases, comingOf, encoded, comingBytes, writeOf}
+use Rattle.node.proofs.Coming.{listed-before}
+use Rattle.node.proofs.SendLaws.{write-accepted}
+
+pub coming-length : (d : Node) → d .phase < 64 → length (comingBytes d) ≤ 202
+unfolding comingOf
+coming-length d left = go (eqb (d .round) 1) (eqb (d .round) 2) (leb 1 (d .select))
+  where
+    selects : Message
+    selects = selectionOf (d .run) (d .phase) (d .vote) (d .stamp) (d .history) (listedPhases d)
+
+    validates : Message
+    validates = validationOf (d .run) (d .phase) (d .select)
+
+    decides : Message
+    decides = decisionOf (d .run) (d .phase) (d .vote) (d .stamp)
+
+    go : (first second chosen : Bool)
+        → length (encoded (cond first (some selects) (cond second (cond chosen (some validates) none) (some decides))))
+        ≤ 202
+    go true second chosen =
+        omega (arith, encode-length selects, listed-count (d .history) 0 (listedPhases d), listed-before d)
+    go false true true = omega (arith, encode-length validates)
+    go false true false = omega arith
+    go false false chosen = omega (arith, encode-length decides)
+
+-- what an accepted write answers is no longer than that
+pub write-length : (d : Node) (buffer : List ℕ) → valueOr 0 (writeOf d buffer) ≤ 202
+write-length d buffer = go (writeOf d buffer) refl
+  where
+    go : (outcome : Outcome ℕ) → writeOf d buffer ≡ outcome → valueOr 0 outcome ≤ 202
+    go (accepted size) e =
+        let w = write-accepted d buffer size e in
+        omega (arith, coming-length d (w .1), w .2)
+    go (refused number) e = omega arith
