@@ -183,8 +183,9 @@ pub extern "C" fn rail_write(image: &[u8], buffer: &mut [u8]) -> u32
     ensures { λ r. ⌜ (r ≡ answerOf itself (writeFrom (now (image .entry)) (now (buffer .entry))))
         × (now (buffer .exit) ≡ bufferFrom (now (image .entry)) (now (buffer .entry))) ⌝ }
 {
-    if image::fits(image) {
-        let sent = image::load(image).write(buffer);
+    let loaded = image::load(image);
+    if loaded.fits {
+        let sent = loaded.node.write(buffer);
         let answer = sent.answer;
         return sending_answer(answer);
     }
@@ -198,8 +199,9 @@ pub extern "C" fn rail_take(image: &mut [u8], inbox: &[u8]) -> u32
         × (now (image .exit)
         ≡ recordAfter (now (image .entry)) (takeFrom (now (image .entry)) (now (inbox .entry)))) ⌝ }
 {
-    if image::fits(image) {
-        let taken = rounds::take(image::load(image), inbox);
+    let loaded = image::load(image);
+    if loaded.fits {
+        let taken = rounds::take(loaded.node, inbox);
         let answer = taken.answer;
         match answer {
             Taking::Accepted => {
@@ -231,8 +233,9 @@ fn asking_answer(answer: Asking) -> u32
 pub extern "C" fn rail_ask(image: &[u8], inbox: &[u8]) -> u32
     ensures { λ r. ⌜ r ≡ answerOf choiceNumber (askFrom (now (image .entry)) (now (inbox .entry))) ⌝ }
 {
-    if image::fits(image) {
-        let asked = rounds::ask(image::load(image), inbox);
+    let loaded = image::load(image);
+    if loaded.fits {
+        let asked = rounds::ask(loaded.node, inbox);
         let answer = asked.answer;
         return asking_answer(answer);
     }
@@ -244,8 +247,9 @@ pub extern "C" fn rail_ask(image: &[u8], inbox: &[u8]) -> u32
 pub extern "C" fn rail_result(image: &[u8]) -> u32
     ensures { λ r. ⌜ r ≡ answerOf itself (resultFrom (now (image .entry))) ⌝ }
 {
-    if image::fits(image) {
-        let node = image::load(image);
+    let loaded = image::load(image);
+    if loaded.fits {
+        let node = loaded.node;
         if node.is_sound() {
             return node.result as u32;
         }

@@ -11,6 +11,7 @@ use lib.Dec.{eqb}
 use Rattle.wire.specs.Bytes.{numberAt, bytesOf}
 use Rattle.crew.specs.declared.Crew.{Crew}
 use Rattle.node.specs.declared.Node.{Node}
+use Rattle.node.specs.Record.{blank}
 
 abbrev pub crewBytes : Crew → List ℕ
 crewBytes c = c .class ∷ c .n ∷ c .b ∷ c .f ∷ c .d ∷ []
@@ -61,6 +62,10 @@ recordIn s = record {
 -- whether a slice is as long as an image
 abbrev pub imageFits : List ℕ → Bool
 imageFits s = eqb (length s) 149
+
+-- the record that a slice is the image of, or a blank one where it has another length
+abbrev pub loadOf : List ℕ → Node
+loadOf s = cond (imageFits s) (recordIn s) blank
 
 -- what storing a record leaves in a lent slice: its image, or the slice as it was where it has another length
 abbrev pub imageAfter : Node → List ℕ → List ℕ

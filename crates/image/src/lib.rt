@@ -17,6 +17,7 @@ ghost use Rattle.image.specs.Layout.{
   plansIn,
   recordIn,
   imageFits,
+  loadOf,
   imageAfter,
 };
 
@@ -53,13 +54,6 @@ const RESULT_AT: usize = 19;
 
 const HISTORY_AT: usize = 21;
 
-// The byte at a place, 0 where the slice ends before it.
-fn byte_at(s: &[u8], place: usize) -> u8
-    ensures { λ r. ⌜ r ≡ getD (now (s .entry)) place 0 ⌝ }
-{
-    if place < s.len() { s[place] } else { 0 }
-}
-
 fn wide(x: u8) -> u16
     ensures { λ r. ⌜ (r ≡ x) × (r < 256) ⌝ }
 {
@@ -68,33 +62,36 @@ fn wide(x: u8) -> u16
 
 // The little-endian number of two bytes from a place on.
 fn u16_at(s: &[u8], place: usize) -> u16
-    requires { ⌜ place < 149 ⌝ }
+    requires { ⌜ place + 1 < length (now s) ⌝ }
     ensures { λ r. ⌜ r ≡ numberAt 2 (now (s .entry)) place ⌝ }
 {
-    wide(byte_at(s, place)) + 256 * wide(byte_at(s, place + 1))
+    wide(s[place]) + 256 * wide(s[place + 1])
 }
 
 // The run, the one number of four bytes.
 fn run_at(s: &[u8]) -> u32
+    requires { ⌜ 149 ≤ length (now s) ⌝ }
     ensures { λ r. ⌜ r ≡ numberAt 4 (now (s .entry)) 6 ⌝ }
 {
     (u16_at(s, RUN_AT) as u32) + 65536 * (u16_at(s, RUN_AT + 2) as u32)
 }
 
 fn crew_in(s: &[u8]) -> Crew
+    requires { ⌜ 149 ≤ length (now s) ⌝ }
     ensures { λ r. ⌜ r ≡ recordIn (now (s .entry)) .crew ⌝ }
 {
     Crew {
-        class: byte_at(s, CLASS_AT),
-        n: byte_at(s, N_AT),
-        b: byte_at(s, B_AT),
-        f: byte_at(s, F_AT),
-        d: byte_at(s, D_AT),
+        class: s[CLASS_AT],
+        n: s[N_AT],
+        b: s[B_AT],
+        f: s[F_AT],
+        d: s[D_AT],
     }
 }
 
 // The plans of the history, the last bytes of an image.
 fn history_in(s: &[u8]) -> [u16; 64]
+    requires { ⌜ 149 ≤ length (now s) ⌝ }
     ensures { λ r. ⌜ r ≡ plansIn (now (s .entry)) 21 64 ⌝ }
 {
     let mut history = [Node::NO_PLAN; Node::PHASES];
@@ -113,22 +110,44 @@ pub fn fits(s: &[u8]) -> bool
     s.len() == LENGTH
 }
 
-// The record whose image a slice is. Bytes that a shorter slice does not have are taken for 0: ask `fits` first.
-pub fn load(s: &[u8]) -> Node
+// The record that 149 bytes are the image of.
+fn record_in(s: &[u8]) -> Node
+    requires { ⌜ 149 ≤ length (now s) ⌝ }
     ensures { λ r. ⌜ r ≡ recordIn (now (s .entry)) ⌝ }
 {
     Node {
         crew: crew_in(s),
-        own: byte_at(s, OWN_AT),
+        own: s[OWN_AT],
         run: run_at(s),
-        phase: byte_at(s, PHASE_AT),
-        round: byte_at(s, ROUND_AT),
+        phase: s[PHASE_AT],
+        round: s[ROUND_AT],
         vote: u16_at(s, VOTE_AT),
         base: u16_at(s, BASE_AT),
-        stamp: byte_at(s, STAMP_AT),
+        stamp: s[STAMP_AT],
         select: u16_at(s, SELECT_AT),
         result: u16_at(s, RESULT_AT),
         history: history_in(s),
+    }
+}
+
+// What loading an image gives: the record, or a blank one where the slice is not as long as an image.
+pub struct Loaded {
+    pub fits: bool,
+    pub node: Node,
+}
+
+pub fn load(s: &[u8]) -> Loaded
+    ensures { λ r. ⌜ (r .fits ≡ imageFits (now (s .entry))) × (r .node ≡ loadOf (now (s .entry))) ⌝ }
+{
+    if s.len() == LENGTH {
+        return Loaded {
+            fits: true,
+            node: record_in(s),
+        };
+    }
+    Loaded {
+        fits: false,
+        node: node::blank_node(),
     }
 }
 

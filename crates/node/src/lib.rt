@@ -85,8 +85,8 @@ pub struct Sent {
     pub node: Node,
 }
 
-// The record of a refused start.
-fn blank_node() -> Node
+// The record of a refused start: all 0, and not sound.
+pub fn blank_node() -> Node
     ensures { λ r. ⌜ r ≡ blank ⌝ }
 {
     Node {

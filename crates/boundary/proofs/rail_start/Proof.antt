@@ -52,6 +52,7 @@ same-length-2 c = search needs
 returns-2 : tie.Need-returns-2
 returns-2 c =
     let b4 = c .before .before .before .before in
+    let b4 = b4 in
     let b8 = b4 .before .before .before .before in
     let a = b8 .before .before .args in
     let fits = sym (b4 .before .before .before .fits2 .ensures) ∙ b4 .before .before .if1 .taken in

@@ -7,9 +7,6 @@ use Rattle.rounds.specs.Taking.{takeOf, answered}
 use Rattle.boundary.proofs.rail_take.Statement.{statement}
 use Rattle.boundary.proofs.rail_take.Tie as tie
 
-fits-requires : tie.Need-fits-requires
-fits-requires c κs = search needs
-
 load-requires : tie.Need-load-requires
 load-requires c κs = search needs
 
@@ -30,17 +27,13 @@ returns c =
     let b4 = c .before .before .before .before in
     let b8 = b4 .before .before .before .before in
     let b12 = b8 .before .before .before .before in
-    let fits = sym (b8 .before .before .fits2 .ensures) ∙ b8 .before .if1 .taken in
+    let d = b8 .load .result .node in
+    let fits = sym (b8 .load .ensures .0) ∙ b4 .before .before .before .if1 .taken in
+    let is = rw fits at (b8 .load .ensures .1) in
     let told = sym (ap answered (b4 .enum-told .given .1)) ∙ b4 .before .before .take .ensures .0 in
-    let w = when-accepted (now (b12 .before .before .args .image)) (b4 .before .before .before .load .result)
-    (takeOf (b4 .before .before .before .load .result) (now (b12 .before .before .args .inbox))) told in (
-      rw (fits, ← b4 .before .before .before .load .ensures) (w .0),
-      rw (
-        c .before .before .store .ensures .1,
-        fits,
-        b4 .before .before .take .ensures .1,
-        ← b4 .before .before .before .load .ensures,
-      ) (w .1),
+    let w = when-accepted (now (b12 .args .image)) d (takeOf d (now (b12 .args .inbox))) told in (
+      rw (fits, ← is) (w .0),
+      rw (c .before .before .store .ensures .1, fits, b4 .before .before .take .ensures .1, ← is) (w .1),
     )
 
 enum-known-answer : tie.Need-enum-known-answer
@@ -59,13 +52,14 @@ returns-2 : tie.Need-returns-2
 returns-2 c =
     let b4 = c .before .before .before .before in
     let b8 = b4 .before .before .before .before in
-    let b12 = b8 .before .before .before .before in
-    let fits = sym (b8 .before .fits2 .ensures) ∙ b8 .if1 .taken in
+    let d = b4 .before .before .before .load .result .node in
+    let fits = sym (b4 .before .before .before .load .ensures .0) ∙ b4 .before .before .if1 .taken in
+    let is = rw fits at (b4 .before .before .before .load .ensures .1) in
     let told = sym (ap answered (c .before .before .before .answer .given .1)) ∙ b4 .before .take .ensures .0 in
-    let w = when-refused (now (b12 .before .args .image)) (b4 .before .before .load .result) (takeOf
-    (b4 .before .before .load .result) (now (b12 .before .args .inbox))) _ told in (
-      rw (c .refusal .ensures, c .before .round-number .ensures .0, fits, ← b4 .before .before .load .ensures) (w .0),
-      rw (fits, ← b4 .before .before .load .ensures) (w .1),
+    let w = when-refused (now (b8 .before .before .before .args .image)) d (takeOf d (now
+    (b8 .before .before .before .args .inbox))) _ told in (
+      rw (c .refusal .ensures, c .before .round-number .ensures .0, fits, ← is) (w .0),
+      rw (fits, ← is) (w .1),
     )
 
 refusal-requires-2 : tie.Need-refusal-requires-2
@@ -75,7 +69,7 @@ same-length-3 : tie.Need-same-length-3
 same-length-3 c = search needs
 
 returns-3 : tie.Need-returns-3
-returns-3 c = let fits = sym (c .before .before .fits2 .ensures) ∙ c .before .if1 .left in (
+returns-3 c = let fits = sym (c .before .before .load .ensures .0) ∙ c .before .if1 .left in (
   rw
       (c .refusal2 .ensures, fits),
   rw fits,
@@ -85,7 +79,6 @@ pub rail-take-spec : {M : Type 1} → statement M
 rail-take-spec =
     tie.close
     (tie.spec
-    fits-requires
     load-requires
     take-requires
     enum-told

@@ -7,9 +7,6 @@ use Rattle.node.proofs.Lengths.{write-length}
 use Rattle.boundary.proofs.rail_write.Statement.{statement}
 use Rattle.boundary.proofs.rail_write.Tie as tie
 
-fits-requires : tie.Need-fits-requires
-fits-requires c κs = search needs
-
 load-requires : tie.Need-load-requires
 load-requires c κs = search needs
 
@@ -22,8 +19,8 @@ sending-answer-requires c κs =
     let b8 = b4 .before .before .before .before in
     rw (c .before .before .write .ensures .0) (omega (
       arith,
-      write-length (b4 .load .result) (now
-          (b8 .before .args .buffer)),
+      write-length (b4 .before .load .result .node) (now
+          (b8 .args .buffer)),
     ))
 
 same-length : tie.Need-same-length
@@ -31,37 +28,31 @@ same-length c = search needs
 
 returns : tie.Need-returns
 returns c =
-    let b4 = c .before .before .before .before in (
+    let b4 = c .before .before .before .before in
+    let fits = sym (b4 .before .before .load .ensures .0) ∙ b4 .before .if1 .taken in (
       rw (
         c .sending-answer .ensures,
         c .before .before .before .write .ensures .0,
-        b4 .before .load .ensures,
-        sym
-            (b4 .before .before .before .fits2 .ensures) ∙ b4 .before .before .if1 .taken,
+        b4 .before .before .load .ensures .1,
+        fits,
       ),
-      rw (
-        c .before .before .before .write .ensures .2,
-        b4 .before .load .ensures,
-        sym
-            (b4 .before .before .before .fits2 .ensures) ∙ b4 .before .before .if1 .taken,
-      ),
+      rw (c .before .before .before .write .ensures .2, b4 .before .before .load .ensures .1, fits),
     )
 
 refusal-requires : tie.Need-refusal-requires
 refusal-requires c κs = search needs
 
 returns-2 : tie.Need-returns-2
-returns-2 c = (
-  rw (c .refusal .ensures, sym (c .before .before .fits2 .ensures) ∙ c .before .if1 .left),
-  rw (sym
-      (c .before .before .fits2 .ensures) ∙ c .before .if1 .left),
+returns-2 c = let fits = sym (c .before .before .load .ensures .0) ∙ c .before .if1 .left in (
+  rw
+      (c .refusal .ensures, fits),
+  rw fits,
 )
 
 pub rail-write-spec : {M : Type 1} → statement M
 rail-write-spec =
     tie.close
     (tie.spec
-    fits-requires
     load-requires
     write-requires
     sending-answer-requires
