@@ -1,0 +1,267 @@
+//! Times the proved engine's archive against the second engine, both in this one run, on the same inboxes, in turn.
+//! docs/BENCHMARK.md says what is measured. Usage: benchmark [REPETITIONS]; it prints the tables of that file.
+
+use archive::{image, Archive};
+use comparison::Engine;
+use generators::messages::Fields;
+use rail::RECORD;
+use second_engine::inbox::SLOT;
+use second_engine::{rounds, Crew, Node};
+use std::hint::black_box;
+use std::time::Instant;
+
+/// The crews, by class and n: the most liars that the class allows, for n = 4 in classes 1 and 2 one node out of reach.
+const CREWS: [[Crew; 3]; 3] = [
+    [Crew::new(1, 4, 0, 1, 3), Crew::new(1, 16, 3, 0, 13), Crew::new(1, 32, 6, 0, 26)],
+    [Crew::new(2, 4, 0, 1, 3), Crew::new(2, 16, 3, 1, 12), Crew::new(2, 32, 7, 0, 25)],
+    [Crew::new(3, 4, 1, 0, 3), Crew::new(3, 16, 5, 0, 11), Crew::new(3, 32, 10, 0, 22)],
+];
+
+const PHASES: [u8; 2] = [1, 63];
+
+#[derive(Clone, Copy, Debug, PartialEq, Eq)]
+enum Operation {
+    Ask,
+    Take,
+}
+
+/// What the slots say: every slot counts in both.
+#[derive(Clone, Copy, Debug, PartialEq, Eq)]
+enum Votes {
+    /// All slots have one vote and one stamp.
+    Agreed,
+    /// Slots differ in vote, stamp and history, so that no plan is backed early.
+    Mixed,
+}
+
+struct Row {
+    operation: Operation,
+    crew: Crew,
+    round: u8,
+    phase: u8,
+    /// For each of `Votes`.
+    times: [Times; 2],
+}
+
+/// Medians, in nanoseconds for each call.
+#[derive(Clone, Copy)]
+struct Times {
+    engine: f64,
+    second: f64,
+    floor: f64,
+}
+
+impl Times {
+    fn ratio(self) -> f64 {
+        self.engine / self.second
+    }
+}
+
+fn main() {
+    let repetitions = std::env::args().nth(1).map_or(31, |text| text.parse().expect("REPETITIONS is a number"));
+    let mut rows = Vec::new();
+    for operation in [Operation::Ask, Operation::Take] {
+        for crews in CREWS {
+            for round in rounds_of(operation, crews[0].class) {
+                for phase in PHASES {
+                    for crew in crews {
+                        let times = [Votes::Agreed, Votes::Mixed]
+                            .map(|votes| measure(repetitions, operation, &node(crew, phase, round), votes));
+                        rows.push(Row { operation, crew, round, phase, times });
+                    }
+                }
+            }
+        }
+    }
+    print_rows(&rows);
+    print_growth(&rows);
+    print_image(repetitions);
+    let above = rows.iter().flat_map(|row| row.times).filter(|times| times.ratio() > 1.0).count();
+    println!("{} rows, two inboxes each: {above} ratios above 1.0", rows.len());
+}
+
+fn rounds_of(operation: Operation, class: u8) -> Vec<u8> {
+    match (operation, class) {
+        (Operation::Ask, _) => vec![1],
+        (Operation::Take, 1) => vec![1, 3],
+        (Operation::Take, _) => vec![1, 2, 3],
+    }
+}
+
+/// A record at this place with a full history, as after phases that all selected.
+fn node(crew: Crew, phase: u8, round: u8) -> Node {
+    let mut node = Node::start(crew, 0, 1, 5).expect("the crews are accepted");
+    let selected = usize::from(phase) + usize::from(round != 1);
+    node.history[..selected].fill(5);
+    (node.phase, node.round, node.select) = (phase, round, 5);
+    node
+}
+
+/// A full inbox: every slot counts, and in class 3 lists every earlier phase.
+fn inbox(node: &Node, votes: Votes) -> Vec<u8> {
+    let n = usize::from(node.crew.n);
+    let mut inbox = vec![0; SLOT * n];
+    for (q, slot) in inbox.chunks_exact_mut(SLOT).enumerate() {
+        let bytes = message(node, votes, q).layout();
+        slot[..bytes.len()].copy_from_slice(&bytes);
+    }
+    inbox
+}
+
+fn message(node: &Node, votes: Votes, q: usize) -> Fields {
+    let plan = match votes {
+        Votes::Agreed => 5,
+        Votes::Mixed => 5 + (q % 3) as u16,
+    };
+    let highest = if node.round == 1 { node.phase - 1 } else { node.phase };
+    let stamp = match (node.crew.class, votes) {
+        (1, _) => 0,
+        (_, Votes::Agreed) => highest,
+        (_, Votes::Mixed) => highest - (q % 4).min(usize::from(highest)) as u8,
+    };
+    let entries: Vec<(u8, u16)> = match (node.crew.class, node.round) {
+        (3, 1) => (0..node.phase).map(|phase| (phase, plan)).collect(),
+        _ => Vec::new(),
+    };
+    Fields {
+        kind: u16::from(node.round),
+        run: node.run,
+        phase: node.phase,
+        plan,
+        stamp,
+        k: entries.len() as u8,
+        entries,
+    }
+}
+
+/// The medians of both engines and of the floor, each repetition timing the three in turn.
+fn measure(repetitions: usize, operation: Operation, node: &Node, votes: Votes) -> Times {
+    let inbox = inbox(node, votes);
+    check(operation, node, &inbox);
+    let record = image::of(node);
+    let engine = || match operation {
+        Operation::Ask => _ = black_box(rail::ask(black_box(&record), black_box(&inbox))),
+        Operation::Take => {
+            let mut next = *black_box(&record);
+            _ = black_box(rail::take(&mut next, black_box(&inbox)));
+            black_box(&next);
+        }
+    };
+    let second = || match operation {
+        Operation::Ask => _ = black_box(rounds::ask(black_box(node), black_box(&inbox))),
+        Operation::Take => {
+            let mut next = *black_box(node);
+            _ = black_box(rounds::take(&mut next, black_box(&inbox)));
+            black_box(&next);
+        }
+    };
+    let floor = || _ = black_box(black_box(&inbox).iter().fold(0u8, |sum, &byte| sum.wrapping_add(byte)));
+    let [engine, second, floor] = medians(repetitions, [&engine, &second, &floor]);
+    Times { engine, second, floor }
+}
+
+/// What is timed is accepted, and both engines answer it alike.
+fn check(operation: Operation, node: &Node, inbox: &[u8]) {
+    let archive = Archive { drill: Default::default() };
+    let (mut one, mut other) = (*node, *node);
+    match operation {
+        Operation::Ask => assert_eq!(archive.ask(&mut one, inbox), Ok(rounds::ask(&other, inbox).expect("asked"))),
+        Operation::Take => {
+            rounds::take(&mut other, inbox).expect("the second engine takes the round");
+            archive.take(&mut one, inbox).expect("the engine takes the round");
+        }
+    }
+    assert_eq!(one, other);
+}
+
+fn medians<const N: usize>(repetitions: usize, calls: [&dyn Fn(); N]) -> [f64; N] {
+    // As many calls as take about a fifth of a millisecond.
+    let counts = calls.map(|call| {
+        let start = Instant::now();
+        (0..64).for_each(|_| call());
+        (64 * 200_000 / start.elapsed().as_nanos().max(1) as usize).max(1)
+    });
+    let mut times: [Vec<f64>; N] = std::array::from_fn(|_| Vec::new());
+    for _ in 0..repetitions {
+        for ((call, count), times) in calls.iter().zip(counts).zip(&mut times) {
+            let start = Instant::now();
+            (0..count).for_each(|_| call());
+            times.push(start.elapsed().as_nanos() as f64 / count as f64);
+        }
+    }
+    times.map(|mut times| {
+        times.sort_by(f64::total_cmp);
+        times[times.len() / 2]
+    })
+}
+
+fn print_rows(rows: &[Row]) {
+    println!("| operation | class | round | phase | n | agreed: engine | second | ratio | mixed: engine | second | ratio | floor |");
+    println!("|---|---|---|---|---|---|---|---|---|---|---|---|");
+    for row in rows {
+        let [agreed, mixed] = row.times;
+        println!(
+            "| {} | {} | {} | {} | {} | {:.0} | {:.0} | {:.2} | {:.0} | {:.0} | {:.2} | {:.0} |",
+            name(row.operation),
+            row.crew.class,
+            row.round,
+            row.phase,
+            row.crew.n,
+            agreed.engine,
+            agreed.second,
+            agreed.ratio(),
+            mixed.engine,
+            mixed.second,
+            mixed.ratio(),
+            agreed.floor,
+        );
+    }
+    println!();
+}
+
+fn name(operation: Operation) -> &'static str {
+    match operation {
+        Operation::Ask => "ask",
+        Operation::Take => "take",
+    }
+}
+
+/// How many times the time of n = 4 the time of n = 32 is, 8 times the bytes.
+fn print_growth(rows: &[Row]) {
+    println!("| operation | class | round | phase | agreed: engine | second | mixed: engine | second |");
+    println!("|---|---|---|---|---|---|---|---|");
+    for crews in rows.chunks_exact(3) {
+        let (few, many) = (&crews[0], &crews[2]);
+        let growth = |of: fn(&Times) -> f64, votes: usize| of(&many.times[votes]) / of(&few.times[votes]);
+        println!(
+            "| {} | {} | {} | {} | {:.1} | {:.1} | {:.1} | {:.1} |",
+            name(few.operation),
+            few.crew.class,
+            few.round,
+            few.phase,
+            growth(|times| times.engine, 0),
+            growth(|times| times.second, 0),
+            growth(|times| times.engine, 1),
+            growth(|times| times.second, 1),
+        );
+    }
+    println!();
+}
+
+/// What stands around every call of the archive and of no call of the second engine: images.
+fn print_image(repetitions: usize) {
+    let node = node(CREWS[2][2], 63, 1);
+    let record = image::of(&node);
+    let result = || _ = black_box(rail::result(black_box(&record)));
+    let start = || {
+        let mut record = [0; RECORD];
+        _ = black_box(rail::start(black_box([3, 32, 10, 0, 22]), 0, 1, 5, &mut record));
+        black_box(&record);
+    };
+    let sound = || _ = black_box(black_box(&node).is_sound());
+    let [result, start, sound] = medians(repetitions, [&result, &start, &sound]);
+    println!("| reading an image and testing it (`rail_result`) | the same test in the second engine, without an image | starting and writing an image (`rail_start`) |");
+    println!("|---|---|---|");
+    println!("| {result:.0} | {sound:.0} | {start:.0} |");
+    println!();
+}

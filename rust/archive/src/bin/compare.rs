@@ -1,0 +1,154 @@
+//! Holds the proved engine's archive and drill against the second engine: all small crews, random cases of every
+//! operation and of the boundary, and every mutant, which has to be told from the archive.
+//! Usage: compare DRILL [MINUTES]. Without MINUTES each operation gets its number of cases once; with MINUTES it gets
+//! them again and again, with new seeds, until the time is over. SEED sets the first seed.
+
+use archive::{boundary, Archive, Boundary};
+use comparison::cases::same;
+use comparison::{compare, Engine, Operation, Second};
+use generators::crews;
+use second_engine::Mutation;
+use std::panic::{catch_unwind, AssertUnwindSafe};
+use std::process::exit;
+use std::time::{Duration, Instant, SystemTime, UNIX_EPOCH};
+
+/// How many cases of an operation are made in one go. Together they take about a minute on one core.
+fn cases_of(operation: Operation) -> u64 {
+    match operation {
+        Operation::Accept | Operation::Start | Operation::Write | Operation::Read => 200_000,
+        Operation::Round => 200_000,
+        Operation::Run => 1_000,
+        Operation::Drill => 2_000,
+    }
+}
+
+fn cases_of_boundary(boundary: Boundary) -> u64 {
+    match boundary {
+        Boundary::Lengths | Boundary::Images => 100_000,
+        Boundary::Results | Boundary::Messages => 200_000,
+    }
+}
+
+fn main() {
+    let arguments: Vec<String> = std::env::args().skip(1).collect();
+    let (drill, minutes) = match arguments.as_slice() {
+        [drill] => (drill, None),
+        [drill, minutes] => (drill, Some(minutes.parse::<u64>().unwrap_or_else(|_| usage()))),
+        _ => usage(),
+    };
+    let archive = Archive { drill: drill.into() };
+    let start = Instant::now();
+    let first = first_seed(minutes.is_some());
+    let outcome = match minutes {
+        None => compare_once(&archive, first),
+        Some(minutes) => compare_for(&archive, first, Duration::from_secs(60 * minutes)),
+    };
+    if let Err(difference) = outcome {
+        println!("{difference}");
+        println!("the engines differ");
+        exit(1);
+    }
+    println!("the engines give the same answers ({} s)", start.elapsed().as_secs());
+}
+
+fn usage() -> ! {
+    eprintln!("usage: compare DRILL [MINUTES]");
+    exit(2);
+}
+
+/// The first seed: SEED, or 1, or for a search that goes on one that no search before it had.
+fn first_seed(is_new: bool) -> u64 {
+    match std::env::var("SEED") {
+        Ok(text) => text.parse().unwrap_or_else(|_| panic!("SEED is not a number: {text}")),
+        Err(_) if is_new => SystemTime::now().duration_since(UNIX_EPOCH).map_or(1, |since| since.as_secs() << 24),
+        Err(_) => 1,
+    }
+}
+
+fn compare_once(archive: &Archive, first: u64) -> Result<(), String> {
+    compare_small_crews(archive)?;
+    compare_all(archive, first, 1)?;
+    tell_mutants(archive)
+}
+
+fn compare_for(archive: &Archive, first: u64, time: Duration) -> Result<(), String> {
+    let start = Instant::now();
+    compare_once(archive, first)?;
+    let mut go = 1;
+    while start.elapsed() < time {
+        compare_all(archive, first, go + 1)?;
+        go += 1;
+    }
+    Ok(())
+}
+
+/// Every crew of small values.
+fn compare_small_crews(archive: &Archive) -> Result<(), String> {
+    let mut count = 0;
+    for crew in crews::small() {
+        same(&crew, archive.accept(crew), Second::default().accept(crew))?;
+        count += 1;
+    }
+    println!("small crews: all {count} the same");
+    Ok(())
+}
+
+/// The cases of this go of every operation, each go with the seeds that follow those of the one before.
+fn compare_all(archive: &Archive, first: u64, go: u64) -> Result<(), String> {
+    for operation in Operation::ALL {
+        compare_seeds(&format!("{operation:?}"), first, go, cases_of(operation), |seed| {
+            compare(operation, seed, archive, &Second::default())
+        })?;
+    }
+    for part in Boundary::ALL {
+        let cases = cases_of_boundary(part);
+        compare_seeds(&format!("boundary, {part:?}"), first, go, cases, |seed| boundary::compare(part, seed))?;
+    }
+    Ok(())
+}
+
+fn compare_seeds(
+    name: &str,
+    first: u64,
+    go: u64,
+    cases: u64,
+    compare_seed: impl Fn(u64) -> Result<(), String>,
+) -> Result<(), String> {
+    let cases = match std::env::var("CASES") {
+        Ok(text) => text.parse().unwrap_or_else(|_| panic!("CASES is not a number: {text}")),
+        Err(_) => cases,
+    };
+    let from = first + (go - 1) * cases;
+    let start = Instant::now();
+    for seed in from..from + cases {
+        // A panic is an answer that no engine may give; its message has been printed.
+        catch_unwind(AssertUnwindSafe(|| compare_seed(seed)))
+            .unwrap_or_else(|_| Err(format!("{name}, seed {seed}: a panic")))?;
+    }
+    println!("{name}: first seed {from}, {cases} cases the same ({:.1} s)", start.elapsed().as_secs_f64());
+    Ok(())
+}
+
+/// All decisions of a run are on one plan, so that these are no change there. Only single rounds tell them.
+const IN_AGREEMENT: [Mutation; 2] = [Mutation::ResultReplaced, Mutation::GreatestDecides];
+
+/// The comparison has teeth: it tells every mutant of the second engine from the archive.
+fn tell_mutants(archive: &Archive) -> Result<(), String> {
+    const ROUNDS: u64 = 2_000;
+    const RUNS: u64 = 50;
+    const DRILLS: u64 = 100;
+    println!("mutants told from the archive by how many of {ROUNDS} rounds, {RUNS} runs, {DRILLS} drill scripts:");
+    for mutation in Mutation::MUTANTS {
+        let count = |operation, cases| {
+            let is_told = |seed: &u64| compare(operation, *seed, archive, &Second { mutation }).is_err();
+            (1..=cases).filter(is_told).count()
+        };
+        let (rounds, runs, drills) =
+            (count(Operation::Round, ROUNDS), count(Operation::Run, RUNS), count(Operation::Drill, DRILLS));
+        println!("  {mutation:?}: {rounds}, {runs}, {drills}");
+        if rounds == 0 || (runs == 0 && !IN_AGREEMENT.contains(&mutation)) {
+            return Err(format!("{mutation:?} is not told from the archive"));
+        }
+    }
+    Ok(())
+}

@@ -1,0 +1,94 @@
+//! The proved engine, as a comparison calls it: the archive's functions on images, and the proved drill program.
+//! An answer that no operation may give ends the comparison with a panic that tells it.
+
+use crate::image;
+use comparison::Engine;
+use rail::{Refused, FIELDS, RECORD};
+use second_engine::message::{ENTRY, SELECTION_LENGTH};
+use second_engine::{Crew, Message, Node, Refusal, Selection};
+use std::io::Write;
+use std::path::PathBuf;
+use std::process::{Command, Stdio};
+
+/// The proved engine.
+#[derive(Clone, Debug)]
+pub struct Archive {
+    /// The drill program.
+    pub drill: PathBuf,
+}
+
+/// The five numbers of a crew, in the order of a call.
+pub fn numbers(crew: Crew) -> [u8; 5] {
+    [crew.class, crew.n, crew.b, crew.f, crew.d]
+}
+
+/// The paper's refusal of this number.
+fn refusal(refused: Refused) -> Refusal {
+    Refusal::from_number(refused.0).unwrap_or_else(|| panic!("the archive refuses with {}", refused.0))
+}
+
+/// An answer whose value says nothing more, and is 0.
+fn done(answer: rail::Answer) -> Result<(), Refusal> {
+    let value = answer.map_err(refusal)?;
+    assert_eq!(value, 0, "the value of a call that has none");
+    Ok(())
+}
+
+impl Engine for Archive {
+    fn accept(&self, crew: Crew) -> Result<(), Refusal> {
+        done(rail::accept(numbers(crew)))
+    }
+
+    fn start(&self, crew: Crew, own: u8, run: u32, plan: u16) -> Result<Node, Refusal> {
+        let mut record = [0xa5; RECORD];
+        done(rail::start(numbers(crew), own, run, plan, &mut record))?;
+        Ok(image::node(&record))
+    }
+
+    fn write(&self, node: &mut Node, buffer: &mut [u8]) -> Result<usize, Refusal> {
+        let record = image::of(node);
+        let length = rail::write(&record, buffer).map_err(refusal)?;
+        Ok(length as usize)
+    }
+
+    fn read(&self, slice: &[u8]) -> Result<Message, Refusal> {
+        let mut fields = [0xa5; FIELDS];
+        done(rail::read(slice, &mut fields))?;
+        Ok(image::message(&fields).unwrap_or_else(|| panic!("the archive reads a message of kind {}", fields[0])))
+    }
+
+    fn entries<'a>(&self, slice: &'a [u8]) -> &'a [u8] {
+        let mut fields = [0; FIELDS];
+        match rail::read(slice, &mut fields) {
+            Ok(_) if fields[0] == 1 => &slice[SELECTION_LENGTH..][..ENTRY * usize::from(fields[9])],
+            _ => &[],
+        }
+    }
+
+    fn ask(&self, node: &mut Node, inbox: &[u8]) -> Result<Selection, Refusal> {
+        let value = rail::ask(&image::of(node), inbox).map_err(refusal)?;
+        Ok(match value {
+            0 => Selection::None,
+            rail::ANY => Selection::Any,
+            plan => Selection::Plan(u16::try_from(plan).unwrap_or_else(|_| panic!("the archive selects {plan}"))),
+        })
+    }
+
+    fn take(&self, node: &mut Node, inbox: &[u8]) -> Result<(), Refusal> {
+        let mut record = image::of(node);
+        let answer = done(rail::take(&mut record, inbox));
+        // Also where it is refused, so that a comparison sees a record that was written all the same.
+        *node = image::node(&record);
+        answer
+    }
+
+    fn drill(&self, input: &[u8]) -> Vec<u8> {
+        let start = Command::new(&self.drill).stdin(Stdio::piped()).stdout(Stdio::piped()).spawn();
+        let mut child = start.unwrap_or_else(|failure| panic!("{}: {failure}", self.drill.display()));
+        let mut standard_input = child.stdin.take().expect("standard input is piped");
+        // A program that has read enough may close its end; what it printed is compared all the same.
+        let _ = standard_input.write_all(input);
+        drop(standard_input);
+        child.wait_with_output().expect("the drill's output is read").stdout
+    }
+}

@@ -1,0 +1,67 @@
+//! The archive's functions, and the one place where they are called. include/rail.h declares the same for C.
+//!
+//! Why the calls are sound: a slice goes as its pointer and its length, so the callee may touch these bytes and no
+//! others; a Rust slice's pointer is not null, even where it is empty; `&mut` overlaps nothing else that is lent; and
+//! the functions keep no pointer once they have returned. They need nothing of the bytes' values.
+
+unsafe extern "C" {
+    fn rail_accept(class: u8, n: u8, b: u8, f: u8, d: u8) -> u32;
+    fn rail_start(
+        class: u8,
+        n: u8,
+        b: u8,
+        f: u8,
+        d: u8,
+        own: u8,
+        run: u32,
+        plan: u16,
+        record: *mut u8,
+        record_length: usize,
+    ) -> u32;
+    fn rail_write(record: *const u8, record_length: usize, buffer: *mut u8, buffer_length: usize) -> u32;
+    fn rail_take(record: *mut u8, record_length: usize, inbox: *const u8, inbox_length: usize) -> u32;
+    fn rail_ask(record: *const u8, record_length: usize, inbox: *const u8, inbox_length: usize) -> u32;
+    fn rail_result(record: *const u8, record_length: usize) -> u32;
+    fn rail_read(bytes: *const u8, bytes_length: usize, fields: *mut u8, fields_length: usize) -> u32;
+    fn rail_entry(bytes: *const u8, bytes_length: usize, i: usize) -> u32;
+}
+
+pub fn accept([class, n, b, f, d]: [u8; 5]) -> u32 {
+    // SAFETY: it takes numbers only.
+    unsafe { rail_accept(class, n, b, f, d) }
+}
+
+pub fn start([class, n, b, f, d]: [u8; 5], own: u8, run: u32, plan: u16, record: &mut [u8]) -> u32 {
+    // SAFETY: pointer and length are those of a slice that is lent to be written.
+    unsafe { rail_start(class, n, b, f, d, own, run, plan, record.as_mut_ptr(), record.len()) }
+}
+
+pub fn write(record: &[u8], buffer: &mut [u8]) -> u32 {
+    // SAFETY: each pointer and length are those of a slice; only the buffer, which is lent to be, is written.
+    unsafe { rail_write(record.as_ptr(), record.len(), buffer.as_mut_ptr(), buffer.len()) }
+}
+
+pub fn take(record: &mut [u8], inbox: &[u8]) -> u32 {
+    // SAFETY: each pointer and length are those of a slice; only the record, which is lent to be, is written.
+    unsafe { rail_take(record.as_mut_ptr(), record.len(), inbox.as_ptr(), inbox.len()) }
+}
+
+pub fn ask(record: &[u8], inbox: &[u8]) -> u32 {
+    // SAFETY: each pointer and length are those of a slice; nothing is written.
+    unsafe { rail_ask(record.as_ptr(), record.len(), inbox.as_ptr(), inbox.len()) }
+}
+
+pub fn result(record: &[u8]) -> u32 {
+    // SAFETY: pointer and length are those of a slice; nothing is written.
+    unsafe { rail_result(record.as_ptr(), record.len()) }
+}
+
+pub fn read(bytes: &[u8], fields: &mut [u8]) -> u32 {
+    // SAFETY: each pointer and length are those of a slice; only the fields, which are lent to be, are written.
+    unsafe { rail_read(bytes.as_ptr(), bytes.len(), fields.as_mut_ptr(), fields.len()) }
+}
+
+pub fn entry(bytes: &[u8], i: usize) -> u32 {
+    // SAFETY: pointer and length are those of a slice; nothing is written.
+    unsafe { rail_entry(bytes.as_ptr(), bytes.len(), i) }
+}

@@ -1,0 +1,79 @@
+//! The proved engine for Rust programs: safe functions over its archive (docs/LINKING.md), on numbers and lent bytes.
+//! A record is kept as its image of 149 bytes. Any bytes may be lent: lengths and contents are tested behind the call.
+
+mod calls;
+
+/// How many bytes a record's image has.
+pub const RECORD: usize = 149;
+/// How many bytes the fields of a read message have.
+pub const FIELDS: usize = 10;
+/// How many bytes an inbox has for each node.
+pub const SLOT: usize = 202;
+/// A buffer of so many bytes is long enough for every message.
+pub const LONGEST: usize = 202;
+/// What asking answers for 'any', which is no plan's number; 0 is 'none'.
+pub const ANY: u32 = 65_536;
+
+/// The number of a refusal: 01's 1 to 14, or one of the three below.
+#[derive(Clone, Copy, Debug, PartialEq, Eq)]
+pub struct Refused(pub u8);
+
+impl Refused {
+    /// The record's slice is not 149 bytes long. This is tested before everything else.
+    pub const WRONG_RECORD: Refused = Refused(25);
+    /// The fields' slice is not 10 bytes long. This is tested before everything else.
+    pub const WRONG_FIELDS: Refused = Refused(26);
+    /// The message has no such entry.
+    pub const NO_ENTRY: Refused = Refused(27);
+}
+
+/// A value below 2^24, or the refusal; where a call is refused, no lent byte is written.
+pub type Answer = Result<u32, Refused>;
+
+/// An answer is a value, or 2^24 times the number of a refusal.
+fn answer(number: u32) -> Answer {
+    match (number >> 24) as u8 {
+        0 => Ok(number),
+        refused => Err(Refused(refused)),
+    }
+}
+
+/// Accepts a crew: class, n, b, f, D.
+pub fn accept(crew: [u8; 5]) -> Answer {
+    answer(calls::accept(crew))
+}
+
+/// Starts a node and writes its record's image.
+pub fn start(crew: [u8; 5], own: u8, run: u32, plan: u16, record: &mut [u8]) -> Answer {
+    answer(calls::start(crew, own, run, plan, record))
+}
+
+/// Writes the coming message to the buffer's front; the value is its length, 0 for silence.
+pub fn write(record: &[u8], buffer: &mut [u8]) -> Answer {
+    answer(calls::write(record, buffer))
+}
+
+/// Takes the coming round: the image becomes the next record's.
+pub fn take(record: &mut [u8], inbox: &[u8]) -> Answer {
+    answer(calls::take(record, inbox))
+}
+
+/// Asks for the coming selection; the value is a plan, 0 for 'none' or `ANY`.
+pub fn ask(record: &[u8], inbox: &[u8]) -> Answer {
+    answer(calls::ask(record, inbox))
+}
+
+/// The record's standing result, 0 before it has one.
+pub fn result(record: &[u8]) -> Answer {
+    answer(calls::result(record))
+}
+
+/// Reads the message at the front of a slice and lays its fields out.
+pub fn read(bytes: &[u8], fields: &mut [u8]) -> Answer {
+    answer(calls::read(bytes, fields))
+}
+
+/// Entry i of the message at the front of a slice: 65,536 times its phase, and its plan.
+pub fn entry(bytes: &[u8], i: usize) -> Answer {
+    answer(calls::entry(bytes, i))
+}
