@@ -2,6 +2,7 @@
 
 pub mod cases;
 pub mod engine;
+pub mod mutants;
 pub mod runs;
 pub mod seeds;
 

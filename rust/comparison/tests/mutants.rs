@@ -1,5 +1,6 @@
 //! The comparison has teeth: it tells every mutant from the engine, and finds no difference where there is none.
 
+use comparison::mutants::{tell_all, Cases};
 use comparison::runs;
 use comparison::seeds::seeds;
 use comparison::{compare, Operation, Second};
@@ -21,28 +22,11 @@ fn the_engine_is_equal_to_itself() {
     }
 }
 
-/// How many cases of the operation tell the mutant apart.
-fn count_told(operation: Operation, mutation: Mutation, cases: u64) -> usize {
-    let told = |seed| compare(operation, seed, &Second::default(), &Second { mutation }).is_err();
-    (1..=cases).filter(|&seed| told(seed)).count()
-}
-
-/// All decisions of a run are on one plan, so that these are no change there. Only single rounds tell them.
-const IN_AGREEMENT: [Mutation; 2] = [Mutation::ResultReplaced, Mutation::GreatestDecides];
-
 #[test]
 fn every_mutant_is_told_from_the_engine() {
-    const ROUNDS: u64 = 2_000;
-    const RUNS: u64 = 100;
-    const DRILLS: u64 = 200;
-    println!("of {ROUNDS} rounds, {RUNS} runs, {DRILLS} drill scripts");
-    for mutation in Mutation::MUTANTS {
-        let rounds = count_told(Operation::Round, mutation, ROUNDS);
-        let runs = count_told(Operation::Run, mutation, RUNS);
-        let drills = count_told(Operation::Drill, mutation, DRILLS);
-        println!("{mutation:?}: {rounds}, {runs}, {drills}");
-        assert!(rounds > 0, "{mutation:?} in rounds");
-        assert!(runs > 0 || IN_AGREEMENT.contains(&mutation), "{mutation:?} in runs");
+    let cases = Cases { rounds: 2_000, runs: 100, drills: 200 };
+    if let Err(failure) = tell_all(&Second::default(), cases) {
+        panic!("{failure}");
     }
 }
 

@@ -5,9 +5,9 @@
 
 use archive::{boundary, Archive, Boundary};
 use comparison::cases::same;
+use comparison::mutants::{tell_all, Cases};
 use comparison::{compare, Engine, Operation, Second};
 use generators::crews;
-use second_engine::Mutation;
 use std::panic::{catch_unwind, AssertUnwindSafe};
 use std::process::exit;
 use std::time::{Duration, Instant, SystemTime, UNIX_EPOCH};
@@ -15,17 +15,17 @@ use std::time::{Duration, Instant, SystemTime, UNIX_EPOCH};
 /// How many cases of an operation are made in one go. Together they take about a minute on one core.
 fn cases_of(operation: Operation) -> u64 {
     match operation {
-        Operation::Accept | Operation::Start | Operation::Write | Operation::Read => 200_000,
-        Operation::Round => 200_000,
-        Operation::Run => 1_000,
-        Operation::Drill => 2_000,
+        Operation::Accept | Operation::Start | Operation::Write | Operation::Read | Operation::Round => 1_000_000,
+        Operation::Run => 5_000,
+        Operation::Drill => 3_000,
     }
 }
 
 fn cases_of_boundary(boundary: Boundary) -> u64 {
     match boundary {
-        Boundary::Lengths | Boundary::Images => 100_000,
-        Boundary::Results | Boundary::Messages => 200_000,
+        Boundary::Lengths => 200_000,
+        Boundary::Images => 500_000,
+        Boundary::Results | Boundary::Messages => 1_000_000,
     }
 }
 
@@ -68,7 +68,7 @@ fn first_seed(is_new: bool) -> u64 {
 fn compare_once(archive: &Archive, first: u64) -> Result<(), String> {
     compare_small_crews(archive)?;
     compare_all(archive, first, 1)?;
-    tell_mutants(archive)
+    tell_all(archive, Cases { rounds: 2_000, runs: 100, drills: 100 })
 }
 
 fn compare_for(archive: &Archive, first: u64, time: Duration) -> Result<(), String> {
@@ -126,29 +126,5 @@ fn compare_seeds(
             .unwrap_or_else(|_| Err(format!("{name}, seed {seed}: a panic")))?;
     }
     println!("{name}: first seed {from}, {cases} cases the same ({:.1} s)", start.elapsed().as_secs_f64());
-    Ok(())
-}
-
-/// All decisions of a run are on one plan, so that these are no change there. Only single rounds tell them.
-const IN_AGREEMENT: [Mutation; 2] = [Mutation::ResultReplaced, Mutation::GreatestDecides];
-
-/// The comparison has teeth: it tells every mutant of the second engine from the archive.
-fn tell_mutants(archive: &Archive) -> Result<(), String> {
-    const ROUNDS: u64 = 2_000;
-    const RUNS: u64 = 50;
-    const DRILLS: u64 = 100;
-    println!("mutants told from the archive by how many of {ROUNDS} rounds, {RUNS} runs, {DRILLS} drill scripts:");
-    for mutation in Mutation::MUTANTS {
-        let count = |operation, cases| {
-            let is_told = |seed: &u64| compare(operation, *seed, archive, &Second { mutation }).is_err();
-            (1..=cases).filter(is_told).count()
-        };
-        let (rounds, runs, drills) =
-            (count(Operation::Round, ROUNDS), count(Operation::Run, RUNS), count(Operation::Drill, DRILLS));
-        println!("  {mutation:?}: {rounds}, {runs}, {drills}");
-        if rounds == 0 || (runs == 0 && !IN_AGREEMENT.contains(&mutation)) {
-            return Err(format!("{mutation:?} is not told from the archive"));
-        }
-    }
     Ok(())
 }
