@@ -7,10 +7,8 @@ mod calls;
 pub const RECORD: usize = 149;
 /// How many bytes the fields of a read message have.
 pub const FIELDS: usize = 10;
-/// How many bytes an inbox has for each node.
+/// How many bytes an inbox has for each node. A buffer of so many is long enough for every message.
 pub const SLOT: usize = 202;
-/// A buffer of so many bytes is long enough for every message.
-pub const LONGEST: usize = 202;
 /// What asking answers for 'any', which is no plan's number; 0 is 'none'.
 pub const ANY: u32 = 65_536;
 

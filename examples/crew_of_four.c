@@ -1,0 +1,124 @@
+/*
+ * A crew of four agrees on a plan, though one of the four lies: crew 3,4,1,0,3, nodes 0 to 2 honest with plans 5, 6
+ * and 7, node 3 a liar that tells each of them something else. In phase 1 it keeps them apart; in phase 2 they decide.
+ * Every answer is checked. examples/check builds and runs it.
+ */
+#include "rail.h"
+
+#include <stdio.h>
+#include <stdlib.h>
+#include <string.h>
+
+enum { NODES = 4, HONEST = 3, LIAR = 3, RUN = 1 };
+
+/* The crew's numbers, as the calls take them. */
+#define CREW 3, NODES, 1, 0, 3
+
+/* The value of an answer that has to be accepted. */
+static uint32_t value(uint32_t answer, const char *what)
+{
+    if (RAIL_REFUSED(answer) != 0) {
+        printf("%s: refused with %u\n", what, (unsigned)RAIL_REFUSED(answer));
+        exit(1);
+    }
+    return RAIL_VALUE(answer);
+}
+
+/* A message without entries, as a liar makes one: it need not use the engine. */
+static void lie(uint8_t *slot, uint8_t kind, uint8_t phase, uint16_t plan, uint8_t stamp)
+{
+    static const uint8_t lengths[] = {0, 13, 11, 12};
+    memset(slot, 0, RAIL_SLOT);
+    slot[0] = lengths[kind];
+    slot[2] = kind;
+    slot[4] = RUN;
+    slot[8] = phase;
+    slot[9] = (uint8_t)(plan % 256);
+    slot[10] = (uint8_t)(plan / 256);
+    slot[11] = kind == 2 ? 0 : stamp;
+}
+
+/* What the liar sends in a round: plan 6 to node 0, plan 5 to node 1, rubbish to node 2. */
+static void lie_to(uint8_t *slot, int to, uint8_t round, uint8_t phase)
+{
+    uint8_t stamp = round == 3 ? phase : 0;
+    if (to == 2)
+        memset(slot, 0xff, RAIL_SLOT);
+    else
+        lie(slot, round, phase, to == 0 ? 6 : 5, stamp);
+}
+
+/* A number of two bytes in a record or in fields. */
+static unsigned two_bytes(const uint8_t *bytes, size_t at)
+{
+    return bytes[at] + 256u * bytes[at + 1];
+}
+
+/* What node 0 is about to say, read back. */
+static void show_message(const uint8_t *record)
+{
+    uint8_t message[RAIL_SLOT], fields[RAIL_FIELDS];
+    uint32_t length = value(rail_write(record, RAIL_RECORD, message, sizeof message), "write");
+    value(rail_read(message, length, fields, sizeof fields), "read");
+    printf("node 0 writes %u bytes: kind %u, phase %u, vote %u, stamp %u, entries", (unsigned)length,
+           fields[RAIL_FIELDS_KIND], fields[RAIL_FIELDS_PHASE], two_bytes(fields, RAIL_FIELDS_PLAN),
+           fields[RAIL_FIELDS_STAMP]);
+    for (size_t i = 0; i < fields[RAIL_FIELDS_COUNT]; i++) {
+        uint32_t entry = value(rail_entry(message, length, i), "entry");
+        printf(" %u:%u", (unsigned)(entry / 65536), (unsigned)(entry % 65536));
+    }
+    printf("\n");
+}
+
+/* What asking answers, before the round is taken. */
+static void show_selection(const uint8_t *record, const uint8_t *inbox)
+{
+    uint32_t selected = value(rail_ask(record, RAIL_RECORD, inbox, NODES * RAIL_SLOT), "ask");
+    if (selected == RAIL_ANY)
+        printf(" any");
+    else if (selected == RAIL_NONE)
+        printf(" none");
+    else
+        printf(" %u", (unsigned)selected);
+}
+
+/* One whole round: every honest node writes, then every honest node takes its own inbox. It prints what was selected
+ * in round 1, vote and stamp after round 2, and the standing results after round 3. */
+static void whole_round(uint8_t records[HONEST][RAIL_RECORD])
+{
+    uint8_t written[HONEST][RAIL_SLOT] = {{0}}, inbox[NODES * RAIL_SLOT];
+    uint8_t phase = records[0][RAIL_RECORD_PHASE], round = records[0][RAIL_RECORD_ROUND];
+    for (int own = 0; own < HONEST; own++)
+        value(rail_write(records[own], RAIL_RECORD, written[own], RAIL_SLOT), "write");
+    printf("phase %u round %u:", phase, round);
+    for (int own = 0; own < HONEST; own++) {
+        uint8_t *record = records[own];
+        memcpy(inbox, written, sizeof written);
+        lie_to(inbox + RAIL_SLOT * LIAR, own, round, phase);
+        if (round == 1)
+            show_selection(record, inbox);
+        value(rail_take(record, RAIL_RECORD, inbox, sizeof inbox), "take");
+        if (round == 2)
+            printf(" %u/%u", two_bytes(record, RAIL_RECORD_VOTE), record[RAIL_RECORD_STAMP]);
+        if (round == 3)
+            printf(" %u", (unsigned)value(rail_result(record, RAIL_RECORD), "result"));
+    }
+    printf("\n");
+}
+
+int main(void)
+{
+    static const uint16_t plans[HONEST] = {5, 6, 7};
+    uint8_t records[HONEST][RAIL_RECORD];
+    value(rail_accept(CREW), "accept");
+    for (int own = 0; own < HONEST; own++)
+        value(rail_start(CREW, (uint8_t)own, RUN, plans[own], records[own], RAIL_RECORD), "start");
+    printf("a start with plan 0 is refused with %u\n",
+           (unsigned)RAIL_REFUSED(rail_start(CREW, 0, RUN, 0, records[0], RAIL_RECORD)));
+    for (int round = 0; round < 6; round++) {
+        if (round % 3 == 0)
+            show_message(records[0]);
+        whole_round(records);
+    }
+    return 0;
+}

@@ -1,0 +1,109 @@
+/*
+ * The rail agreement engine for C and C++: the functions of target/staticlib/libboundary.a, which
+ * `rt staticlib boundary` proves and writes. docs/LINKING.md says how to build, link and call it, and what each
+ * function promises.
+ *
+ * Bytes are lent as a pointer and a length. The pointer is not null, not even for a length of 0; the bytes of a call
+ * do not overlap; and no pointer is kept after the call. Any values may stand in the bytes: the call tests them.
+ */
+#ifndef RAIL_H
+#define RAIL_H
+
+#include <stddef.h>
+#include <stdint.h>
+
+#ifdef __cplusplus
+extern "C" {
+#endif
+
+/*
+ * An answer is one number: a value below 2^24, or 2^24 times the number of a refusal. Where a call is refused, no lent
+ * byte has been written.
+ */
+#define RAIL_REFUSED(answer) ((answer) >> 24)              /* the refusal's number, 0 where the call was accepted */
+#define RAIL_VALUE(answer) ((answer) & UINT32_C(0xffffff)) /* the value of an accepted call */
+
+/* The refusals. The first that applies is given, in the order of docs/LINKING.md. */
+#define RAIL_CLASS 1           /* class not 1 to 3 */
+#define RAIL_SIZE 2            /* n not 1 to 32 */
+#define RAIL_QUORUM_TOO_HIGH 3 /* D + b + f > n */
+#define RAIL_QUORUM_TOO_LOW 4  /* D too low for the class */
+#define RAIL_OWN 5             /* own number not below n */
+#define RAIL_NO_PLAN 6         /* plan 0 */
+#define RAIL_UNSOUND 7         /* record not sound; also asking outside round 1 */
+#define RAIL_SPENT 8           /* all 63 phases are over */
+#define RAIL_SHORT 9           /* buffer shorter than the message */
+#define RAIL_CUT 10            /* the slice ends before the message, or before its header */
+#define RAIL_KIND 11           /* kind not 1 to 3 */
+#define RAIL_LENGTH 12         /* length not that of the kind */
+#define RAIL_BOUND 13          /* a field out of its bounds */
+#define RAIL_INBOX 14          /* inbox not 202 times n bytes long */
+#define RAIL_WRONG_RECORD 25   /* record not RAIL_RECORD bytes long */
+#define RAIL_WRONG_FIELDS 26   /* fields not RAIL_FIELDS bytes long */
+#define RAIL_NO_ENTRY 27       /* the message has no entry i */
+
+/* A record: its length, and where its fields stand. Numbers of two and four bytes are little-endian. */
+#define RAIL_RECORD 149
+#define RAIL_RECORD_CLASS 0
+#define RAIL_RECORD_N 1
+#define RAIL_RECORD_B 2
+#define RAIL_RECORD_F 3
+#define RAIL_RECORD_D 4
+#define RAIL_RECORD_OWN 5
+#define RAIL_RECORD_RUN 6      /* 4 bytes */
+#define RAIL_RECORD_PHASE 10   /* 1 to 63; 64 means spent */
+#define RAIL_RECORD_ROUND 11   /* the coming round: 1 selection, 2 validation, 3 decision */
+#define RAIL_RECORD_VOTE 12    /* 2 bytes */
+#define RAIL_RECORD_BASE 14    /* 2 bytes */
+#define RAIL_RECORD_STAMP 16
+#define RAIL_RECORD_SELECT 17  /* 2 bytes */
+#define RAIL_RECORD_RESULT 19  /* 2 bytes */
+#define RAIL_RECORD_HISTORY 21 /* 64 times 2 bytes */
+
+/* An inbox has n slots of so many bytes; slot q belongs to port q. A buffer of a slot's length fits every message. */
+#define RAIL_SLOT 202
+
+/* The fields of a read message: their length, and where they stand. */
+#define RAIL_FIELDS 10
+#define RAIL_FIELDS_KIND 0  /* 1 selection, 2 validation, 3 decision */
+#define RAIL_FIELDS_RUN 1   /* 4 bytes */
+#define RAIL_FIELDS_PHASE 5
+#define RAIL_FIELDS_PLAN 6  /* 2 bytes: the vote, in kind 2 the plan */
+#define RAIL_FIELDS_STAMP 8 /* 0 for kind 2 */
+#define RAIL_FIELDS_COUNT 9 /* how many entries follow; 0 for kinds 2 and 3 */
+
+/* Asking answers a plan, or one of these. */
+#define RAIL_NONE 0
+#define RAIL_ANY 65536
+
+/* Accepts a crew. The value is 0. Refuses 1 to 4. */
+uint32_t rail_accept(uint8_t class_, uint8_t n, uint8_t b, uint8_t f, uint8_t d);
+
+/* Starts a node and writes its record. The value is 0. Refuses 25, 1 to 6. */
+uint32_t rail_start(uint8_t class_, uint8_t n, uint8_t b, uint8_t f, uint8_t d, uint8_t own, uint32_t run,
+                    uint16_t plan, uint8_t *record, size_t record_length);
+
+/* Writes the coming message to the buffer's front. The value is its length, 0 for silence. Refuses 25, 7 to 9. */
+uint32_t rail_write(const uint8_t *record, size_t record_length, uint8_t *buffer, size_t buffer_length);
+
+/* Takes the coming round: the record becomes the next one. The value is 0. Refuses 25, 7, 8, 14. */
+uint32_t rail_take(uint8_t *record, size_t record_length, const uint8_t *inbox, size_t inbox_length);
+
+/* Asks for the coming selection. The value is a plan, RAIL_NONE or RAIL_ANY. Refuses 25, 7, 8, 14. */
+uint32_t rail_ask(const uint8_t *record, size_t record_length, const uint8_t *inbox, size_t inbox_length);
+
+/* The record's standing result. The value is the plan, 0 before there is one. Refuses 25, 7. */
+uint32_t rail_result(const uint8_t *record, size_t record_length);
+
+/* Reads the message at the front of the bytes and writes its fields. The value is 0. Refuses 26, 10 to 13. */
+uint32_t rail_read(const uint8_t *bytes, size_t bytes_length, uint8_t *fields, size_t fields_length);
+
+/* Entry i of the message at the front of the bytes. The value is 65,536 times its phase, and its plan.
+ * Refuses 10 to 13, 27. */
+uint32_t rail_entry(const uint8_t *bytes, size_t bytes_length, size_t i);
+
+#ifdef __cplusplus
+}
+#endif
+
+#endif
