@@ -10,9 +10,9 @@ use lib.ListN.{length}
 use lib.Dec.{leb, eqb}
 use Rattle.wire.specs.Outcome.{Outcome, accepted, refused, valueOr}
 use Rattle.message.specs.Fields.{Message}
-use Rattle.message.specs.Writing.{selectionOf, validationOf, decisionOf}
-use Rattle.message.proofs.HistoryLaws.{listed-count}
-use Rattle.message.proofs.WriteLaws.{encode-length}
+use Rattle.writer.specs.Writing.{selectionOf, validationOf, decisionOf}
+use Rattle.writer.proofs.HistoryLaws.{listed-count}
+use Rattle.message.proofs.EncodeLaws.{encode-length}
 use Rattle.node.specs.declared.Node.{Node}
 use Rattle.node.specs.Sending.{listedPhases, comingOf, encoded, comingBytes, writeOf}
 use Rattle.node.proofs.Coming.{listed-before}
