@@ -1,6 +1,7 @@
 // The nodes of a drill: starting them, and a whole round among them, over the engine's promises alone.
 // specs/Start.antt says what a drill begins with, specs/Round.antt what a go does. Crate drill follows a script.
 use crew::Crew;
+use inbox::SLOT;
 use node::Node;
 use pending::Pending;
 ghost use mathlib.Core.Path.{_≡_};
@@ -26,8 +27,6 @@ ghost use Rattle.aisle.specs.Start.{begunOf};
 
 // A drill is one run of the algorithm.
 const RUN: u32 = 1;
-// A slot of an inbox has room for the longest message.
-const SLOT: usize = 202;
 // The inbox of the largest crew.
 const INBOX: usize = 6464;
 

@@ -10,9 +10,11 @@ ghost use Rattle.inbox.specs.Inbox.{slotAt, counted};
 ghost use Rattle.inbox.specs.Columns.{columns, PhasesBelow, laid, put, slotsIn, filled, saidAs};
 
 // 01: "An inbox is n slots of 202 bytes": a selection with all 63 entries fits.
-const SLOT: usize = 202;
+pub const SLOT: usize = 202;
 // The columns have a place for each node of the largest crew.
-const SLOTS: usize = 32;
+pub const SLOTS: usize = 32;
+// The histories have a place for each slot and phase.
+pub const PLACES: usize = 2048;
 
 // What a slot says to a node: a ballot, of its history only how many entries it has, or nothing where it does not
 // count.

@@ -1,6 +1,9 @@
 // Asking for the coming selection, and taking a round: from an inbox's bytes to the next record.
 // What each answers stands in specs/Asking.antt and specs/Taking.antt. Crate inbox reads the slots into columns, crate
 // tally runs the rules over those.
+use inbox::PLACES;
+use inbox::SLOT;
+use inbox::SLOTS;
 use node::Node;
 use tally::Choice;
 ghost use mathlib.Core.Path.{_≡_};
@@ -53,14 +56,6 @@ pub struct Asked {
     pub answer: Asking,
     pub node: Node,
 }
-
-// 01: "An inbox is n slots of 202 bytes": a selection with all 63 entries fits.
-const SLOT: usize = 202;
-// The columns have a place for each node of the largest crew.
-const SLOTS: usize = 32;
-
-// The histories have a place for each slot and phase.
-const PLACES: usize = 2048;
 
 // 01: "Class 1 goes on to round 3, the others to round 2 and then 3."
 fn round_after_selection(class: u8) -> u8
