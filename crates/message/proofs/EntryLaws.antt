@@ -1,15 +1,18 @@
 -- The entries in a list of bytes: how many there are, and what the loop over them goes by.
 -- Assumes nothing.
-use mathlib.Core.Path.{_≡_, refl, ap}
+use mathlib.Core.Path.{_≡_, refl, ap, sym, _∙_}
 use mathlib.Core.Bool.{Bool, true, false, _&&_}
 use mathlib.Core.List.{List, [], _∷_}
 use Prim.Native.Nat.{ℕ, zero, suc, _+_, _*_, _-_, _<_, _≤_}
 use native.Mathlib.Nat.{add-zero, add-assoc}
 use native.Mathlib.Omega.{arith}
+use native.Mathlib.Decide.{decLt}
 use lib.Dec.{leb, ltb}
 use lib.ListN.{length, getD, take, drop}
 use lib.Seq.{getD-drop, drop-drop}
+use borrow.Author.Tests.{le-leb, lt-leb, lt-ltb, le-ltb}
 use Rattle.wire.specs.Bytes.{numberAt}
+use Rattle.wire.proofs.Tests.{and-false, and-true}
 use Rattle.message.specs.Bounds.{planOk, entriesOk}
 use Rattle.message.specs.Reading.{entriesIn}
 
@@ -39,14 +42,15 @@ entries-take (suc k) (suc (suc (suc n))) (a ∷ b ∷ c ∷ s) room long =
     ap (λ es. record { phase = a; plan = numberAt 2 (a ∷ b ∷ c ∷ s) 1 } ∷ es)
     (entries-take k n s (omega arith) (omega arith))
 
--- A turn of the loop: entry i has been read, `whole` is what all entries answer, and those from i on answer it too.
-module _ (count i least phase entry-phase : ℕ) (plan-ok : Bool) (s : List ℕ) (whole : Bool)
+-- A turn of the loop: entry i has been read, `whole` is what all entries answer, and those from i on answer it too
+-- where the least phase that the next may have is no later than the message's.
+module _ (count i least phase entry-phase plan : ℕ) (s : List ℕ) (whole : Bool)
     (phase-is : entry-phase ≡ getD s (13 + 3 * i) 0)
-    (plan-is : plan-ok ≡ planOk (numberAt 2 s (13 + 3 * i + 1)))
+    (plan-is : plan ≡ numberAt 2 s (13 + 3 * i + 1))
     (more : i < count)
-    (rest : entriesOk least phase (entriesIn (count - i) (drop (13 + 3 * i) s)) ≡ whole) where
-  turn : (leb least entry-phase && ltb entry-phase phase && plan-ok
-      && entriesOk (entry-phase + 1) phase (entriesIn (count - (i + 1)) (drop (13 + 3 * (i + 1)) s))) ≡ whole
+    (rest : (leb least phase && entriesOk least phase (entriesIn (count - i) (drop (13 + 3 * i) s))) ≡ whole) where
+  turn : (leb least phase && (leb least entry-phase && ltb entry-phase phase && planOk plan
+      && entriesOk (entry-phase + 1) phase (entriesIn (count - (i + 1)) (drop (13 + 3 * (i + 1)) s)))) ≡ whole
   unfolding entriesOk
   turn =
       let left : count - i ≡ suc (count - (i + 1)) = omega arith in
@@ -54,16 +58,30 @@ module _ (count i least phase entry-phase : ℕ) (plan-ok : Bool) (s : List ℕ)
       let first = rw (left, entries-next (count - (i + 1)) (13 + 3 * i) s) at rest in
       rw (phase-is, plan-is, next) first
 
-  pub entries-more : (leb least entry-phase && ltb entry-phase phase && plan-ok) ≡ true
-      → entriesOk (entry-phase + 1) phase (entriesIn (count - (i + 1)) (drop (13 + 3 * (i + 1)) s)) ≡ whole
-  entries-more e = rw e at turn
+  pub entries-more : least ≤ entry-phase → 1 ≤ plan
+      → (leb (entry-phase + 1) phase
+      && entriesOk (entry-phase + 1) phase (entriesIn (count - (i + 1)) (drop (13 + 3 * (i + 1)) s))) ≡ whole
+  entries-more rises known = elim (decLt entry-phase phase) [
+    | yes before ↦
+        let early = le-leb least phase (omega arith) in
+        let now = simp (early, le-leb _ _ rises, lt-ltb _ _ before, le-leb _ _ known) at turn in
+        rw (le-leb (entry-phase + 1) phase (omega arith)) now
+    | no late ↦
+        let now = simp (le-leb _ _ rises, le-ltb entry-phase phase (omega arith)) at turn in
+        rw (lt-leb (entry-phase + 1) phase (omega arith)) (sym (and-false (leb least phase)) ∙ now)
+  ]
 
-  pub entries-stop : (leb least entry-phase && ltb entry-phase phase && plan-ok) ≡ false → false ≡ whole
-  entries-stop e = rw e at turn
+  pub entries-fall : entry-phase < least → false ≡ whole
+  entries-fall falls =
+      let now = simp (lt-leb _ _ falls) at turn in
+      sym (and-false (leb least phase)) ∙ now
+
+  pub entries-empty : plan ≡ 0 → false ≡ whole
+  entries-empty none = simp (none, and-false) at turn
 
 pub entries-done : (count i least phase : ℕ) (s : List ℕ) (whole : Bool) → count ≤ i
-    → entriesOk least phase (entriesIn (count - i) s) ≡ whole → true ≡ whole
+    → (leb least phase && entriesOk least phase (entriesIn (count - i) s)) ≡ whole → leb least phase ≡ whole
 unfolding entriesOk entriesIn
 entries-done count i least phase s whole h rest =
     let left : count - i ≡ 0 = omega arith in
-    rw left at rest
+    sym (and-true (leb least phase)) ∙ rw left at rest

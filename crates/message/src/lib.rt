@@ -157,15 +157,17 @@ fn are_entries(s: &[u8], count: usize, phase: u16) -> bool
     while i < count {
         let place = ENTRIES_AT + ENTRY_SIZE * i;
         let entry_phase = wide(s[place]);
-        let ok = (least <= entry_phase) & (entry_phase < phase) & is_plan(u16_at(s, place + 1));
-        if ok {
-            least = entry_phase + 1;
-            i = i + 1;
-        } else {
+        if entry_phase < least {
             return false;
         }
+        if u16_at(s, place + 1) == 0 {
+            return false;
+        }
+        least = entry_phase + 1;
+        i = i + 1;
     }
-    true
+    // The phases rise, so all of them are below the message's where the last one is.
+    least <= phase
 }
 
 fn is_selection(s: &[u8]) -> bool

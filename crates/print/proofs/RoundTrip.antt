@@ -7,6 +7,7 @@ use native.Mathlib.Omega.{arith}
 use lib.ListN.{length}
 use lib.Dec.{leb, eqb, ltb}
 use borrow.Author.Tests.{le-leb, lt-leb, lt-ltb, le-ltb, ne-eqb, leb-true, leb-false}
+use Rattle.wire.proofs.Tests.{and-false}
 use Rattle.script.specs.Fields.{digitOf, valueFrom, numberOf}
 use Rattle.script.specs.declared.Number.the-variants.{Value}
 use Rattle.print.specs.Texts.{decimalOf}
@@ -25,10 +26,6 @@ value-digit a d b cs h e k = rw (digit-read d h, e, lt-ltb d 10 h, le-leb b 6553
 value-all : (a b : ℕ) → a ≡ b → valueFrom a [] ≡ Value b
 unfolding valueFrom
 value-all a b e = ap Value e
-
-and-false : (a : Bool) → a && false ≡ false
-and-false true = refl
-and-false false = refl
 
 number-first : (d : ℕ) (cs : List ℕ) → 1 ≤ d → numberOf ((48 + d) ∷ cs) ≡ valueFrom 0 ((48 + d) ∷ cs)
 unfolding numberOf

@@ -39,3 +39,12 @@ pub both-true : (a b : Bool) → a && b ≡ true → (a ≡ true) × (b ≡ true
 both-true true true e = (refl, refl)
 both-true true false e = absurd (let z : _≡_ {A = ℕ} 0 1 = cc in omega arith)
 both-true false b e = absurd (let z : _≡_ {A = ℕ} 0 1 = cc in omega arith)
+
+-- a test beside one that fails, and beside one that passes
+pub and-false : (a : Bool) → (a && false) ≡ false
+and-false true = refl
+and-false false = refl
+
+pub and-true : (a : Bool) → (a && true) ≡ a
+and-true true = refl
+and-true false = refl
