@@ -43,18 +43,13 @@ struct Row {
     times: [Times; 2],
 }
 
-/// Medians, in nanoseconds for each call.
+/// Medians over the repetitions: nanoseconds for each call, and the engine's time over the second engine's.
 #[derive(Clone, Copy)]
 struct Times {
     engine: f64,
     second: f64,
     floor: f64,
-}
-
-impl Times {
-    fn ratio(self) -> f64 {
-        self.engine / self.second
-    }
+    ratio: f64,
 }
 
 fn main() {
@@ -76,8 +71,10 @@ fn main() {
     print_rows(&rows);
     print_growth(&rows);
     print_image(repetitions);
-    let above = rows.iter().flat_map(|row| row.times).filter(|times| times.ratio() > 1.0).count();
-    println!("{} rows, two inboxes each: {above} ratios above 1.0", rows.len());
+    let ratios: Vec<f64> = rows.iter().flat_map(|row| row.times).map(|times| times.ratio).collect();
+    let above = ratios.iter().filter(|&&ratio| ratio > 1.0).count();
+    let worst = ratios.iter().copied().fold(0.0, f64::max);
+    println!("Of {} ratios {above} are above 1.0; the highest is {worst:.2}.", ratios.len());
 }
 
 fn rounds_of(operation: Operation, class: u8) -> Vec<u8> {
@@ -156,8 +153,10 @@ fn measure(repetitions: usize, operation: Operation, node: &Node, votes: Votes) 
         }
     };
     let floor = || _ = black_box(black_box(&inbox).iter().fold(0u8, |sum, &byte| sum.wrapping_add(byte)));
-    let [engine, second, floor] = medians(repetitions, [&engine, &second, &floor]);
-    Times { engine, second, floor }
+    let times = time(repetitions, [&engine, &second, &floor]);
+    let ratios = times[0].iter().zip(&times[1]).map(|(engine, second)| engine / second).collect();
+    let [engine, second, floor] = times.map(median);
+    Times { engine, second, floor, ratio: median(ratios) }
 }
 
 /// What is timed is accepted, and both engines answer it alike.
@@ -174,8 +173,9 @@ fn check(operation: Operation, node: &Node, inbox: &[u8]) {
     assert_eq!(one, other);
 }
 
-fn medians<const N: usize>(repetitions: usize, calls: [&dyn Fn(); N]) -> [f64; N] {
-    // As many calls as take about a fifth of a millisecond.
+/// For each of the calls how many nanoseconds it takes, once for each repetition; a repetition times the calls in turn.
+fn time<const N: usize>(repetitions: usize, calls: [&dyn Fn(); N]) -> [Vec<f64>; N] {
+    // As many of each as take about a fifth of a millisecond.
     let counts = calls.map(|call| {
         let start = Instant::now();
         (0..64).for_each(|_| call());
@@ -189,14 +189,18 @@ fn medians<const N: usize>(repetitions: usize, calls: [&dyn Fn(); N]) -> [f64; N
             times.push(start.elapsed().as_nanos() as f64 / count as f64);
         }
     }
-    times.map(|mut times| {
-        times.sort_by(f64::total_cmp);
-        times[times.len() / 2]
-    })
+    times
+}
+
+fn median(mut numbers: Vec<f64>) -> f64 {
+    numbers.sort_by(f64::total_cmp);
+    numbers[numbers.len() / 2]
 }
 
 fn print_rows(rows: &[Row]) {
-    println!("| operation | class | round | phase | n | agreed: engine | second | ratio | mixed: engine | second | ratio | floor |");
+    println!(
+        "| | class | round | phase | n | agreed: engine | second | ratio | mixed: engine | second | ratio | floor |"
+    );
     println!("|---|---|---|---|---|---|---|---|---|---|---|---|");
     for row in rows {
         let [agreed, mixed] = row.times;
@@ -209,10 +213,10 @@ fn print_rows(rows: &[Row]) {
             row.crew.n,
             agreed.engine,
             agreed.second,
-            agreed.ratio(),
+            agreed.ratio,
             mixed.engine,
             mixed.second,
-            mixed.ratio(),
+            mixed.ratio,
             agreed.floor,
         );
     }
@@ -228,7 +232,7 @@ fn name(operation: Operation) -> &'static str {
 
 /// How many times the time of n = 4 the time of n = 32 is, 8 times the bytes.
 fn print_growth(rows: &[Row]) {
-    println!("| operation | class | round | phase | agreed: engine | second | mixed: engine | second |");
+    println!("| | class | round | phase | agreed: engine | second | mixed: engine | second |");
     println!("|---|---|---|---|---|---|---|---|");
     for crews in rows.chunks_exact(3) {
         let (few, many) = (&crews[0], &crews[2]);
@@ -259,9 +263,11 @@ fn print_image(repetitions: usize) {
         black_box(&record);
     };
     let sound = || _ = black_box(black_box(&node).is_sound());
-    let [result, start, sound] = medians(repetitions, [&result, &start, &sound]);
-    println!("| reading an image and testing it (`rail_result`) | the same test in the second engine, without an image | starting and writing an image (`rail_start`) |");
-    println!("|---|---|---|");
-    println!("| {result:.0} | {sound:.0} | {start:.0} |");
+    let [result, start, sound] = time(repetitions, [&result, &start, &sound]).map(median);
+    println!("| | ns |");
+    println!("|---|---|");
+    println!("| reading an image and testing its record (`rail_result`) | {result:.0} |");
+    println!("| the same test in the second engine, which has no image | {sound:.0} |");
+    println!("| starting a node and writing its image (`rail_start`) | {start:.0} |");
     println!();
 }
