@@ -1,6 +1,6 @@
 -- What the functions for C and Rust answer, and what they leave in what they are lent: the engine's own definitions on
 -- the record whose image is lent.
-use Prim.Native.Nat.{ℕ, _+_, _*_, _/_}
+use Prim.Native.Nat.{ℕ, _+_, _*_, _/_, _<_}
 use mathlib.Core.List.{List, [], _∷_, _++_}
 use lib.ListN.{length}
 use lib.Dec.{ltb, eqb}
@@ -9,7 +9,6 @@ use Rattle.wire.specs.Entry.{Entry}
 use Rattle.wire.specs.Bytes.{bytesOf}
 use Rattle.crew.specs.declared.Crew.{Crew}
 use Rattle.message.specs.Fields.{Body, selection, validation, decision, Message}
-use Rattle.message.specs.Encoding.{kindOf}
 use Rattle.message.specs.Reading.{readOf, entriesPartOf, entryAt}
 use Rattle.ballot.specs.Selection.{Choice, plan, any, nothing}
 use Rattle.node.specs.declared.Node.{Node}
@@ -24,6 +23,12 @@ use Rattle.image.specs.Layout.{imageFits, imageOf, recordIn}
 abbrev pub answerOf : {A : Type 0} → (A → ℕ) → Outcome A → ℕ
 answerOf value (accepted a) = value a
 answerOf value (refused number) = 16777216 * number
+
+-- A caller tells a value from a refusal by the answer alone: a value has three bytes, a refusal's number is one byte and
+-- not 0.
+abbrev pub Apart : {A : Type 0} → (A → ℕ) → Outcome A → Type 0
+Apart value (accepted a) = value a < 16777216
+Apart value (refused number) = (0 < number) × (number < 256)
 
 -- the value of what has none to give
 abbrev pub done : {A : Type 0} → A → ℕ

@@ -16,18 +16,18 @@ ghost use Prim.Native.Nat.{_*_, _<_};
 ghost use lib.ListN.{length};
 ghost use Rattle.wire.specs.Outcome.{valueOr};
 ghost use Rattle.crew.specs.Acceptance.{acceptOf, answered as acceptedAs, number as crewNumber};
-ghost use Rattle.message.specs.Reading.{readOf, number as readNumber, answered as readAs};
-ghost use Rattle.node.specs.Starting.{startOf, number as startNumber, answered as startedAs};
-ghost use Rattle.node.specs.Sending.{writeOf, bufferAfter, comingBytes, number as sendNumber, answered as sentAs};
-ghost use Rattle.rounds.specs.Taking.{takeOf, number as roundNumber, answered as takenAs};
-ghost use Rattle.rounds.specs.Asking.{askOf, answered as askedAs};
-ghost use Rattle.image.specs.Layout.{recordIn, imageFits};
+ghost use Rattle.message.specs.Reading.{number as readNumber};
+ghost use Rattle.node.specs.Starting.{number as startNumber};
+ghost use Rattle.node.specs.Sending.{number as sendNumber, answered as sentAs};
+ghost use Rattle.rounds.specs.Taking.{number as roundNumber};
+ghost use Rattle.rounds.specs.Asking.{answered as askedAs};
 ghost use Rattle.boundary.specs.Answers.{
   done,
   itself,
   choiceNumber,
   entryNumber,
   answerOf,
+  Apart,
   crewOf,
   startInto,
   recordAfter,
@@ -65,7 +65,7 @@ fn refusal(number: u32) -> u32
 }
 
 fn crew_number(why: crew::Refusal) -> u32
-    ensures { λ r. ⌜ (r ≡ crewNumber why) × (r < 256) ⌝ }
+    ensures { λ r. ⌜ (r ≡ crewNumber why) × (0 < r) × (r < 256) ⌝ }
 {
     match why {
         crew::Refusal::Class => 1,
@@ -76,7 +76,7 @@ fn crew_number(why: crew::Refusal) -> u32
 }
 
 fn start_number(why: StartRefusal) -> u32
-    ensures { λ r. ⌜ (r ≡ startNumber why) × (r < 256) ⌝ }
+    ensures { λ r. ⌜ (r ≡ startNumber why) × (0 < r) × (r < 256) ⌝ }
 {
     match why {
         StartRefusal::Crew(reason) => crew_number(reason),
@@ -86,7 +86,7 @@ fn start_number(why: StartRefusal) -> u32
 }
 
 fn send_number(why: node::SendRefusal) -> u32
-    ensures { λ r. ⌜ (r ≡ sendNumber why) × (r < 256) ⌝ }
+    ensures { λ r. ⌜ (r ≡ sendNumber why) × (0 < r) × (r < 256) ⌝ }
 {
     match why {
         node::SendRefusal::Unsound => 7,
@@ -96,7 +96,7 @@ fn send_number(why: node::SendRefusal) -> u32
 }
 
 fn read_number(why: message::Refusal) -> u32
-    ensures { λ r. ⌜ (r ≡ readNumber why) × (r < 256) ⌝ }
+    ensures { λ r. ⌜ (r ≡ readNumber why) × (0 < r) × (r < 256) ⌝ }
 {
     match why {
         message::Refusal::Cut => 10,
@@ -107,7 +107,7 @@ fn read_number(why: message::Refusal) -> u32
 }
 
 fn round_number(why: rounds::Refusal) -> u32
-    ensures { λ r. ⌜ (r ≡ roundNumber why) × (r < 256) ⌝ }
+    ensures { λ r. ⌜ (r ≡ roundNumber why) × (0 < r) × (r < 256) ⌝ }
 {
     match why {
         rounds::Refusal::Unsound => 7,
@@ -117,7 +117,7 @@ fn round_number(why: rounds::Refusal) -> u32
 }
 
 fn accepting_answer(answer: Acceptance) -> u32
-    ensures { λ r. ⌜ r ≡ answerOf done (acceptedAs answer) ⌝ }
+    ensures { λ r. ⌜ (r ≡ answerOf done (acceptedAs answer)) × Apart done (acceptedAs answer) ⌝ }
 {
     match answer {
         Acceptance::Accepted => 0,
@@ -128,7 +128,8 @@ fn accepting_answer(answer: Acceptance) -> u32
 // Accepts a crew.
 #[no_mangle]
 pub extern "C" fn rail_accept(class: u8, n: u8, b: u8, f: u8, d: u8) -> u32
-    ensures { λ r. ⌜ r ≡ answerOf done (acceptOf (crewOf class n b f d)) ⌝ }
+    ensures { λ r. ⌜ (r ≡ answerOf done (acceptOf (crewOf class n b f d)))
+        × Apart done (acceptOf (crewOf class n b f d)) ⌝ }
 {
     accepting_answer(crew::accept(Crew { class, n, b, f, d }))
 }
@@ -147,6 +148,7 @@ pub extern "C" fn rail_start(
     image: &mut [u8],
 ) -> u32
     ensures { λ r. ⌜ (r ≡ answerOf done (startInto (now (image .entry)) (crewOf class n b f d) own run plan))
+        × Apart done (startInto (now (image .entry)) (crewOf class n b f d) own run plan)
         × (now (image .exit)
         ≡ recordAfter (now (image .entry)) (startInto (now (image .entry)) (crewOf class n b f d) own run plan)) ⌝ }
 {
@@ -169,7 +171,7 @@ pub extern "C" fn rail_start(
 // What writing the coming message answers, as a number.
 fn sending_answer(answer: Sending) -> u32
     requires { ⌜ valueOr 0 (sentAs answer) < 16777216 ⌝ }
-    ensures { λ r. ⌜ r ≡ answerOf itself (sentAs answer) ⌝ }
+    ensures { λ r. ⌜ (r ≡ answerOf itself (sentAs answer)) × Apart itself (sentAs answer) ⌝ }
 {
     match answer {
         Sending::Bytes(size) => size as u32,
@@ -181,6 +183,7 @@ fn sending_answer(answer: Sending) -> u32
 #[no_mangle]
 pub extern "C" fn rail_write(image: &[u8], buffer: &mut [u8]) -> u32
     ensures { λ r. ⌜ (r ≡ answerOf itself (writeFrom (now (image .entry)) (now (buffer .entry))))
+        × Apart itself (writeFrom (now (image .entry)) (now (buffer .entry)))
         × (now (buffer .exit) ≡ bufferFrom (now (image .entry)) (now (buffer .entry))) ⌝ }
 {
     let loaded = image::load(image);
@@ -196,6 +199,7 @@ pub extern "C" fn rail_write(image: &[u8], buffer: &mut [u8]) -> u32
 #[no_mangle]
 pub extern "C" fn rail_take(image: &mut [u8], inbox: &[u8]) -> u32
     ensures { λ r. ⌜ (r ≡ answerOf done (takeFrom (now (image .entry)) (now (inbox .entry))))
+        × Apart done (takeFrom (now (image .entry)) (now (inbox .entry)))
         × (now (image .exit)
         ≡ recordAfter (now (image .entry)) (takeFrom (now (image .entry)) (now (inbox .entry)))) ⌝ }
 {
@@ -218,7 +222,7 @@ pub extern "C" fn rail_take(image: &mut [u8], inbox: &[u8]) -> u32
 
 // What asking answers, as a number: a plan, 0 for 'none', 65,536 for 'any'.
 fn asking_answer(answer: Asking) -> u32
-    ensures { λ r. ⌜ r ≡ answerOf choiceNumber (askedAs answer) ⌝ }
+    ensures { λ r. ⌜ (r ≡ answerOf choiceNumber (askedAs answer)) × Apart choiceNumber (askedAs answer) ⌝ }
 {
     match answer {
         Asking::Plan(plan) => plan as u32,
@@ -231,7 +235,8 @@ fn asking_answer(answer: Asking) -> u32
 // Asks for the coming selection.
 #[no_mangle]
 pub extern "C" fn rail_ask(image: &[u8], inbox: &[u8]) -> u32
-    ensures { λ r. ⌜ r ≡ answerOf choiceNumber (askFrom (now (image .entry)) (now (inbox .entry))) ⌝ }
+    ensures { λ r. ⌜ (r ≡ answerOf choiceNumber (askFrom (now (image .entry)) (now (inbox .entry))))
+        × Apart choiceNumber (askFrom (now (image .entry)) (now (inbox .entry))) ⌝ }
 {
     let loaded = image::load(image);
     if loaded.fits {
@@ -245,7 +250,8 @@ pub extern "C" fn rail_ask(image: &[u8], inbox: &[u8]) -> u32
 // The record's standing result, 0 before it has one.
 #[no_mangle]
 pub extern "C" fn rail_result(image: &[u8]) -> u32
-    ensures { λ r. ⌜ r ≡ answerOf itself (resultFrom (now (image .entry))) ⌝ }
+    ensures { λ r. ⌜ (r ≡ answerOf itself (resultFrom (now (image .entry))))
+        × Apart itself (resultFrom (now (image .entry))) ⌝ }
 {
     let loaded = image::load(image);
     if loaded.fits {
@@ -279,6 +285,7 @@ fn put_fields(fields: &mut [u8], kind: u8, run: u32, phase: u8, plan: u16, stamp
 #[no_mangle]
 pub extern "C" fn rail_read(bytes: &[u8], fields: &mut [u8]) -> u32
     ensures { λ r. ⌜ (r ≡ answerOf done (readInto (now (bytes .entry)) (now (fields .entry))))
+        × Apart done (readInto (now (bytes .entry)) (now (fields .entry)))
         × (now (fields .exit)
         ≡ fieldsAfter (now (fields .entry)) (readInto (now (bytes .entry)) (now (fields .entry)))) ⌝ }
 {
@@ -318,7 +325,8 @@ pub extern "C" fn rail_read(bytes: &[u8], fields: &mut [u8]) -> u32
 
 // Entry i of the part that shows a message's entries.
 fn entry_in(part: &[u8], i: usize) -> u32
-    ensures { λ r. ⌜ r ≡ answerOf entryNumber (entryIn (now (part .entry)) i) ⌝ }
+    ensures { λ r. ⌜ (r ≡ answerOf entryNumber (entryIn (now (part .entry)) i))
+        × Apart entryNumber (entryIn (now (part .entry)) i) ⌝ }
 {
     if i < part.len() / 3 {
         let entry = message::entry_at(part, i);
@@ -330,7 +338,8 @@ fn entry_in(part: &[u8], i: usize) -> u32
 // Entry i of the message at the front of a slice: its phase times 65,536, and its plan.
 #[no_mangle]
 pub extern "C" fn rail_entry(bytes: &[u8], i: usize) -> u32
-    ensures { λ r. ⌜ r ≡ answerOf entryNumber (entryFrom (now (bytes .entry)) i) ⌝ }
+    ensures { λ r. ⌜ (r ≡ answerOf entryNumber (entryFrom (now (bytes .entry)) i))
+        × Apart entryNumber (entryFrom (now (bytes .entry)) i) ⌝ }
 {
     let reading = message::read(bytes);
     match reading {

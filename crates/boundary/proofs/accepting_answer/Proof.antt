@@ -1,10 +1,13 @@
 -- `accepting_answer` meets its contract.
-use mathlib.Core.Path.{sym, ap}
+use mathlib.Core.Path.{sym, ap, _∙_, subst}
+use native.Mathlib.Omega.{arith}
 use borrow.Author.Needs.{needs}
-use Rattle.boundary.specs.Answers.{answerOf, done}
+use Rattle.boundary.specs.Answers.{answerOf, Apart, done}
 use Rattle.crew.specs.Acceptance.{answered}
 use Rattle.boundary.proofs.accepting_answer.Statement.{statement}
 use Rattle.boundary.proofs.accepting_answer.Tie as tie
+
+-- `accepting_answer` meets its contract.
 
 enum-told : tie.Need-enum-told
 enum-told c = search needs
@@ -19,11 +22,15 @@ refusal-requires : tie.Need-refusal-requires
 refusal-requires c κs = search needs
 
 returns : tie.Need-returns
-returns c = search needs
+returns c = let told = ap answered (c .enum-told .given .1) in
+    (sym (ap (answerOf done) told), subst (Apart done) (sym told) (omega arith))
 
 returns-2 : tie.Need-returns-2
-returns-2 c = rw (c .refusal .ensures, c .before .crew-number .ensures .0) (sym (ap (λ a. answerOf done
-    (answered a)) (c .before .before .before .answer .given .1)))
+returns-2 c = let told = ap answered (c .before .before .before .answer .given .1) in
+    let number = c .before .crew-number .ensures in (
+      c .refusal .ensures ∙ rw (number .0) (sym (ap (answerOf done) told)),
+      subst (Apart done) (sym told) (omega (arith, number .0, number .1), omega (arith, number .0, number .2)),
+    )
 
 pub accepting-answer-spec : {M : Type 1} → statement M
 accepting-answer-spec =

@@ -1,10 +1,13 @@
 -- `asking_answer` meets its contract.
-use mathlib.Core.Path.{sym, ap}
+use mathlib.Core.Path.{sym, ap, _∙_, subst}
+use native.Mathlib.Omega.{arith}
 use borrow.Author.Needs.{needs}
-use Rattle.boundary.specs.Answers.{answerOf, choiceNumber}
+use Rattle.boundary.specs.Answers.{answerOf, Apart, choiceNumber}
 use Rattle.rounds.specs.Asking.{answered}
 use Rattle.boundary.proofs.asking_answer.Statement.{statement}
 use Rattle.boundary.proofs.asking_answer.Tie as tie
+
+-- `asking_answer` meets its contract.
 
 enum-known-answer : tie.Need-enum-known-answer
 enum-known-answer c = search needs
@@ -28,17 +31,30 @@ refusal-requires : tie.Need-refusal-requires
 refusal-requires c κs = search needs
 
 returns : tie.Need-returns
-returns c = search needs
+returns c = let told = ap answered (c .before .answer .given .1) in
+    (sym (ap (answerOf choiceNumber) told), subst (Apart choiceNumber) (sym told) (omega arith))
 
 returns-2 : tie.Need-returns-2
-returns-2 c = search needs
+returns-2 c = let told = ap answered (c .enum-told .given .1) in
+    (sym (ap (answerOf choiceNumber) told), subst (Apart choiceNumber) (sym told) (omega arith))
 
 returns-3 : tie.Need-returns-3
-returns-3 c = search needs
+returns-3 c = let told = ap answered (c .enum-told2 .given .1) in
+    (sym (ap (answerOf choiceNumber) told), subst (Apart choiceNumber) (sym told) (omega arith))
 
 returns-4 : tie.Need-returns-4
-returns-4 c = rw (c .refusal .ensures, c .before .round-number .ensures .0) (sym (ap (λ a. answerOf choiceNumber
-    (answered a)) (c .before .before .before .answer2 .given .1)))
+returns-4 c = let told = ap answered (c .before .before .before .answer2 .given .1) in
+    let number = c .before .round-number .ensures in (
+      c .refusal .ensures ∙ rw (number .0) (sym (ap (answerOf choiceNumber) told)),
+      subst (Apart choiceNumber) (sym told) (
+        omega (arith, number .0, number .1),
+        omega (
+          arith,
+          number .0,
+          number .2,
+        ),
+      ),
+    )
 
 pub asking-answer-spec : {M : Type 1} → statement M
 asking-answer-spec =

@@ -1,10 +1,13 @@
 -- `entry_in` meets its contract.
 use mathlib.Core.Path.{ap}
+use native.Mathlib.Omega.{arith}
 use borrow.Author.Needs.{needs}
 use borrow.Author.Tests.{lt-ltb, le-ltb}
 use Rattle.boundary.specs.Answers.{entryNumber}
 use Rattle.boundary.proofs.entry_in.Statement.{statement}
 use Rattle.boundary.proofs.entry_in.Tie as tie
+
+-- `entry_in` meets its contract.
 
 entry-at-requires : tie.Need-entry-at-requires
 entry-at-requires c κs = search needs
@@ -24,13 +27,18 @@ add-result c = search needs
 returns : tie.Need-returns
 returns c = let few = lt-ltb _ _ (c .before .before .before .if1 .taken) in
     let told = ap entryNumber (c .before .before .entry-at .ensures) in
-    rw few (rw few at told)
+    let same = rw few at told in
+    (rw few same, rw few (omega (arith, same)))
 
 refusal-requires : tie.Need-refusal-requires
 refusal-requires c κs = search needs
 
 returns-2 : tie.Need-returns-2
-returns-2 c = rw (c .refusal .ensures, le-ltb _ _ (c .before .if1 .left))
+returns-2 c = (
+  rw (c .refusal .ensures, le-ltb _ _ (c .before .if1 .left)),
+  rw (le-ltb _ _
+      (c .before .if1 .left)) (omega arith, omega arith),
+)
 
 pub entry-in-spec : {M : Type 1} → statement M
 entry-in-spec =

@@ -1,7 +1,11 @@
 -- `rail_accept` meets its contract.
+use mathlib.Core.Path.{ap, _∙_, subst}
 use borrow.Author.Needs.{needs}
+use Rattle.boundary.specs.Answers.{answerOf, Apart, done}
 use Rattle.boundary.proofs.rail_accept.Statement.{statement}
 use Rattle.boundary.proofs.rail_accept.Tie as tie
+
+-- `rail_accept` meets its contract.
 
 accept-requires : tie.Need-accept-requires
 accept-requires c κs = search needs
@@ -10,7 +14,10 @@ accepting-answer-requires : tie.Need-accepting-answer-requires
 accepting-answer-requires c κs = search needs
 
 returns : tie.Need-returns
-returns c = rw (c .accepting-answer .ensures, c .before .accept .ensures)
+returns c = (
+  c .accepting-answer .ensures .0 ∙ ap (answerOf done) (c .before .accept .ensures),
+  subst (Apart done) (c .before .accept .ensures) (c .accepting-answer .ensures .1),
+)
 
 pub rail-accept-spec : {M : Type 1} → statement M
 rail-accept-spec = tie.close (tie.spec accept-requires accepting-answer-requires returns)

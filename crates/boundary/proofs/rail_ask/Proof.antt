@@ -1,8 +1,14 @@
 -- `rail_ask` meets its contract.
-use mathlib.Core.Path.{sym, _∙_}
+use mathlib.Core.Path.{_≡_, sym, ap, _∙_, subst}
+use native.Mathlib.Omega.{arith}
 use borrow.Author.Needs.{needs}
+use denote.Ref.{now}
+use Rattle.boundary.specs.Answers.{answerOf, Apart, choiceNumber, askFrom}
+use Rattle.rounds.specs.Asking.{answered}
 use Rattle.boundary.proofs.rail_ask.Statement.{statement}
 use Rattle.boundary.proofs.rail_ask.Tie as tie
+
+-- `rail_ask` meets its contract.
 
 load-requires : tie.Need-load-requires
 load-requires c κs = search needs
@@ -14,14 +20,22 @@ asking-answer-requires : tie.Need-asking-answer-requires
 asking-answer-requires c κs = search needs
 
 returns : tie.Need-returns
-returns c = let fits = sym (c .before .before .before .load .ensures .0) ∙ c .before .before .if1 .taken in
-    rw (c .asking-answer .ensures, c .before .ask .ensures .0, c .before .before .before .load .ensures .1, fits)
+returns c =
+    let b4 = c .before .before .before .before in
+    let fits = sym (c .before .before .before .load .ensures .0) ∙ c .before .before .if1 .taken in
+    let same : answered (c .before .ask .result .answer) ≡ askFrom (now (b4 .before .before .args .image)) (now
+    (b4 .before .before .args .inbox)) =
+    rw (c .before .ask .ensures .0, c .before .before .before .load .ensures .1, fits) in (
+      c .asking-answer .ensures .0 ∙ ap (answerOf choiceNumber) same,
+      subst (Apart choiceNumber) same (c .asking-answer .ensures .1),
+    )
 
 refusal-requires : tie.Need-refusal-requires
 refusal-requires c κs = search needs
 
 returns-2 : tie.Need-returns-2
-returns-2 c = rw (c .refusal .ensures, sym (c .before .before .load .ensures .0) ∙ c .before .if1 .left)
+returns-2 c = let fits = sym (c .before .before .load .ensures .0) ∙ c .before .if1 .left in
+    (rw (c .refusal .ensures, fits), rw fits (omega arith, omega arith))
 
 pub rail-ask-spec : {M : Type 1} → statement M
 rail-ask-spec =

@@ -1,5 +1,6 @@
 -- `rail_read` meets its contract.
 use mathlib.Core.Path.{sym, _∙_, ap}
+use native.Mathlib.Omega.{arith}
 use borrow.Author.Needs.{needs}
 use borrow.Author.Tests.{eq-eqb, ne-eqb}
 use denote.Ref.{now}
@@ -7,6 +8,8 @@ use Rattle.message.proofs.EntryLaws.{entries-count}
 use Rattle.message.specs.Reading.{answered}
 use Rattle.boundary.proofs.rail_read.Statement.{statement}
 use Rattle.boundary.proofs.rail_read.Tie as tie
+
+-- `rail_read` meets its contract.
 
 read-requires : tie.Need-read-requires
 read-requires c κs = search needs
@@ -27,8 +30,16 @@ returns c =
     let s = now (b8 .before .before .before .args .bytes) in
     let as-read = sym (b4 .before .before .before .read .ensures) ∙ ap (λ r. answered r s)
     (b4 .before .reading .given .1) in
-    let fits = eq-eqb _ _ (b8 .if1 .taken) in
-    (rw (fits, as-read), rw (c .before .before .put-fields .ensures, fits, as-read, entries-count))
+    let fits = eq-eqb _ _ (b8 .if1 .taken) in (
+      rw (fits, as-read),
+      rw (fits, as-read) (omega arith),
+      rw (
+        c .before .before .put-fields .ensures,
+        fits,
+        as-read,
+        entries-count,
+      ),
+    )
 
 enum-known-reading-2 : tie.Need-enum-known-reading-2
 enum-known-reading-2 c = search needs
@@ -46,8 +57,15 @@ returns-2 c =
     let s = now (b8 .before .before .before .args .bytes) in
     let as-read = sym (b4 .before .before .before .read .ensures) ∙ ap (λ r. answered r s)
     (b4 .before .reading2 .given .1) in
-    let fits = eq-eqb _ _ (b8 .if1 .taken) in
-    (rw (fits, as-read), rw (c .before .before .put-fields2 .ensures, fits, as-read))
+    let fits = eq-eqb _ _ (b8 .if1 .taken) in (
+      rw (fits, as-read),
+      rw (fits, as-read) (omega arith),
+      rw (
+        c .before .before .put-fields2 .ensures,
+        fits,
+        as-read,
+      ),
+    )
 
 enum-known-reading-3 : tie.Need-enum-known-reading-3
 enum-known-reading-3 c = search needs
@@ -65,8 +83,15 @@ returns-3 c =
     let s = now (b8 .before .before .before .args .bytes) in
     let as-read = sym (b4 .before .before .before .read .ensures) ∙ ap (λ r. answered r s)
     (b4 .before .reading3 .given .1) in
-    let fits = eq-eqb _ _ (b8 .if1 .taken) in
-    (rw (fits, as-read), rw (c .before .before .put-fields3 .ensures, fits, as-read))
+    let fits = eq-eqb _ _ (b8 .if1 .taken) in (
+      rw (fits, as-read),
+      rw (fits, as-read) (omega arith),
+      rw (
+        c .before .before .put-fields3 .ensures,
+        fits,
+        as-read,
+      ),
+    )
 
 enum-known-reading-4 : tie.Need-enum-known-reading-4
 enum-known-reading-4 c = search needs
@@ -85,13 +110,18 @@ returns-4 c =
     let as-read = sym (b4 .before .read .ensures) ∙ ap (λ r. answered r s)
     (c .before .before .before .reading4 .given .1) in
     let fits = eq-eqb _ _ (b4 .before .before .if1 .taken) in
-    (rw (c .refusal .ensures, c .before .read-number .ensures .0, fits, as-read), rw (fits, as-read))
+    let number = c .before .read-number .ensures in (
+      rw (c .refusal .ensures, number .0, fits, as-read),
+      rw (fits, as-read) (omega (arith, number .0, number .1), omega (arith, number .0, number .2)),
+      rw (fits, as-read),
+    )
 
 refusal-requires-2 : tie.Need-refusal-requires-2
 refusal-requires-2 c κs = search needs
 
 returns-5 : tie.Need-returns-5
-returns-5 c = let fits = ne-eqb _ _ (c .before .if1 .left) in (rw (c .refusal2 .ensures, fits), rw fits)
+returns-5 c = let fits = ne-eqb _ _ (c .before .if1 .left) in
+    (rw (c .refusal2 .ensures, fits), rw fits (omega arith, omega arith), rw fits)
 
 pub rail-read-spec : {M : Type 1} → statement M
 rail-read-spec =

@@ -1,5 +1,6 @@
 -- `rail_start` meets its contract.
 use mathlib.Core.Path.{sym, _∙_, ap}
+use native.Mathlib.Omega.{arith}
 use borrow.Author.Needs.{needs}
 use denote.Ref.{now}
 use Rattle.boundary.proofs.Verdicts.{when-accepted, when-refused}
@@ -8,6 +9,8 @@ use Rattle.node.specs.Record.{blank}
 use Rattle.node.specs.Starting.{startOf, answered}
 use Rattle.boundary.proofs.rail_start.Statement.{statement}
 use Rattle.boundary.proofs.rail_start.Tie as tie
+
+-- `rail_start` meets its contract.
 
 fits-requires : tie.Need-fits-requires
 fits-requires c κs = search needs
@@ -31,10 +34,11 @@ returns c =
     let a = b8 .before .before .before .args in
     let fits = sym (b8 .fits2 .ensures) ∙ b4 .before .before .before .if1 .taken in
     let told = sym (ap answered (b4 .enum-told .given .1)) ∙ b4 .before .before .start .ensures .0 in
-    let w = when-accepted (now (a .image)) blank (startOf (crewOf (a .class) (a .n) (a .b) (a .f) (a .d))
-    (a .own) (a .run) (a .plan)) told in (
+    let crew = crewOf (a .class) (a .n) (a .b) (a .f) (a .d) in
+    let w = when-accepted (now (a .image)) blank (startOf crew (a .own) (a .run) (a .plan)) told in (
       rw fits (w .0),
-      rw (c .before .before .store .ensures .1, fits, b4 .before .before .start .ensures .1) (w .1),
+      rw fits (w .1),
+      rw (c .before .before .store .ensures .1, fits, b4 .before .before .start .ensures .1) (w .2),
     )
 
 enum-known-answer : tie.Need-enum-known-answer
@@ -52,15 +56,17 @@ same-length-2 c = search needs
 returns-2 : tie.Need-returns-2
 returns-2 c =
     let b4 = c .before .before .before .before in
-    let b4 = b4 in
     let b8 = b4 .before .before .before .before in
     let a = b8 .before .before .args in
     let fits = sym (b4 .before .before .before .fits2 .ensures) ∙ b4 .before .before .if1 .taken in
+    let number = c .before .start-number .ensures in
     let told = sym (ap answered (c .before .before .before .answer .given .1)) ∙ b4 .before .start .ensures .0 in
-    let w = when-refused (now (a .image)) blank (startOf (crewOf (a .class) (a .n) (a .b) (a .f) (a .d)) (a .own)
-    (a .run) (a .plan)) _ told in (
-      rw (c .refusal .ensures, c .before .start-number .ensures .0, fits) (w .0),
+    let crew = crewOf (a .class) (a .n) (a .b) (a .f) (a .d) in
+    let w = when-refused (now (a .image)) blank (startOf crew (a .own) (a .run) (a .plan)) _ told
+    (omega (arith, number .0, number .1), omega (arith, number .0, number .2)) in (
+      rw (c .refusal .ensures, number .0, fits) (w .0),
       rw fits (w .1),
+      rw fits (w .2),
     )
 
 refusal-requires-2 : tie.Need-refusal-requires-2
@@ -70,11 +76,8 @@ same-length-3 : tie.Need-same-length-3
 same-length-3 c = search needs
 
 returns-3 : tie.Need-returns-3
-returns-3 c = let fits = sym (c .before .before .fits2 .ensures) ∙ c .before .if1 .left in (
-  rw
-      (c .refusal2 .ensures, fits),
-  rw fits,
-)
+returns-3 c = let fits = sym (c .before .before .fits2 .ensures) ∙ c .before .if1 .left in
+    (rw (c .refusal2 .ensures, fits), rw fits (omega arith, omega arith), rw fits)
 
 pub rail-start-spec : {M : Type 1} → statement M
 rail-start-spec =

@@ -1,11 +1,14 @@
 -- `rail_take` meets its contract.
 use mathlib.Core.Path.{sym, _∙_, ap}
+use native.Mathlib.Omega.{arith}
 use borrow.Author.Needs.{needs}
 use denote.Ref.{now}
 use Rattle.boundary.proofs.Verdicts.{when-accepted, when-refused}
 use Rattle.rounds.specs.Taking.{takeOf, answered}
 use Rattle.boundary.proofs.rail_take.Statement.{statement}
 use Rattle.boundary.proofs.rail_take.Tie as tie
+
+-- `rail_take` meets its contract.
 
 load-requires : tie.Need-load-requires
 load-requires c κs = search needs
@@ -33,7 +36,8 @@ returns c =
     let told = sym (ap answered (b4 .enum-told .given .1)) ∙ b4 .before .before .take .ensures .0 in
     let w = when-accepted (now (b12 .args .image)) d (takeOf d (now (b12 .args .inbox))) told in (
       rw (fits, ← is) (w .0),
-      rw (c .before .before .store .ensures .1, fits, b4 .before .before .take .ensures .1, ← is) (w .1),
+      rw (fits, ← is) (w .1),
+      rw (c .before .before .store .ensures .1, fits, b4 .before .before .take .ensures .1, ← is) (w .2),
     )
 
 enum-known-answer : tie.Need-enum-known-answer
@@ -55,11 +59,14 @@ returns-2 c =
     let d = b4 .before .before .before .load .result .node in
     let fits = sym (b4 .before .before .before .load .ensures .0) ∙ b4 .before .before .if1 .taken in
     let is = rw fits at (b4 .before .before .before .load .ensures .1) in
+    let number = c .before .round-number .ensures in
     let told = sym (ap answered (c .before .before .before .answer .given .1)) ∙ b4 .before .take .ensures .0 in
     let w = when-refused (now (b8 .before .before .before .args .image)) d (takeOf d (now
-    (b8 .before .before .before .args .inbox))) _ told in (
-      rw (c .refusal .ensures, c .before .round-number .ensures .0, fits, ← is) (w .0),
+    (b8 .before .before .before .args .inbox))) _ told
+    (omega (arith, number .0, number .1), omega (arith, number .0, number .2)) in (
+      rw (c .refusal .ensures, number .0, fits, ← is) (w .0),
       rw (fits, ← is) (w .1),
+      rw (fits, ← is) (w .2),
     )
 
 refusal-requires-2 : tie.Need-refusal-requires-2
@@ -69,11 +76,8 @@ same-length-3 : tie.Need-same-length-3
 same-length-3 c = search needs
 
 returns-3 : tie.Need-returns-3
-returns-3 c = let fits = sym (c .before .before .load .ensures .0) ∙ c .before .if1 .left in (
-  rw
-      (c .refusal2 .ensures, fits),
-  rw fits,
-)
+returns-3 c = let fits = sym (c .before .before .load .ensures .0) ∙ c .before .if1 .left in
+    (rw (c .refusal2 .ensures, fits), rw fits (omega arith, omega arith), rw fits)
 
 pub rail-take-spec : {M : Type 1} → statement M
 rail-take-spec =

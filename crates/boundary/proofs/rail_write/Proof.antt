@@ -1,11 +1,15 @@
 -- `rail_write` meets its contract.
-use mathlib.Core.Path.{sym, _∙_}
+use mathlib.Core.Path.{_≡_, sym, ap, _∙_, subst}
 use native.Mathlib.Omega.{arith}
 use borrow.Author.Needs.{needs}
 use denote.Ref.{now}
+use Rattle.boundary.specs.Answers.{answerOf, Apart, itself, writeFrom}
 use Rattle.node.proofs.Lengths.{write-length}
+use Rattle.node.specs.Sending.{answered}
 use Rattle.boundary.proofs.rail_write.Statement.{statement}
 use Rattle.boundary.proofs.rail_write.Tie as tie
+
+-- `rail_write` meets its contract.
 
 load-requires : tie.Need-load-requires
 load-requires c κs = search needs
@@ -29,13 +33,13 @@ same-length c = search needs
 returns : tie.Need-returns
 returns c =
     let b4 = c .before .before .before .before in
-    let fits = sym (b4 .before .before .load .ensures .0) ∙ b4 .before .if1 .taken in (
-      rw (
-        c .sending-answer .ensures,
-        c .before .before .before .write .ensures .0,
-        b4 .before .before .load .ensures .1,
-        fits,
-      ),
+    let b8 = b4 .before .before .before .before in
+    let fits = sym (b4 .before .before .load .ensures .0) ∙ b4 .before .if1 .taken in
+    let same : answered (c .before .before .before .write .result .answer) ≡ writeFrom (now
+    (b8 .before .args .image)) (now (b8 .before .args .buffer)) =
+    rw (c .before .before .before .write .ensures .0, b4 .before .before .load .ensures .1, fits) in (
+      c .sending-answer .ensures .0 ∙ ap (answerOf itself) same,
+      subst (Apart itself) same (c .sending-answer .ensures .1),
       rw (c .before .before .before .write .ensures .2, b4 .before .before .load .ensures .1, fits),
     )
 
@@ -43,11 +47,8 @@ refusal-requires : tie.Need-refusal-requires
 refusal-requires c κs = search needs
 
 returns-2 : tie.Need-returns-2
-returns-2 c = let fits = sym (c .before .before .load .ensures .0) ∙ c .before .if1 .left in (
-  rw
-      (c .refusal .ensures, fits),
-  rw fits,
-)
+returns-2 c = let fits = sym (c .before .before .load .ensures .0) ∙ c .before .if1 .left in
+    (rw (c .refusal .ensures, fits), rw fits (omega arith, omega arith), rw fits)
 
 pub rail-write-spec : {M : Type 1} → statement M
 rail-write-spec =

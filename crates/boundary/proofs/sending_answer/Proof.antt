@@ -1,12 +1,14 @@
 -- `sending_answer` meets its contract.
-use mathlib.Core.Path.{sym, ap}
+use mathlib.Core.Path.{sym, ap, _∙_, subst}
 use native.Mathlib.Omega.{arith}
 use borrow.Author.Needs.{needs}
-use Rattle.boundary.specs.Answers.{answerOf, itself}
+use Rattle.boundary.specs.Answers.{answerOf, Apart, itself}
 use Rattle.node.specs.Sending.{answered}
 use Rattle.wire.specs.Outcome.{valueOr}
 use Rattle.boundary.proofs.sending_answer.Statement.{statement}
 use Rattle.boundary.proofs.sending_answer.Tie as tie
+
+-- `sending_answer` meets its contract.
 
 enum-known-answer : tie.Need-enum-known-answer
 enum-known-answer c = search needs
@@ -28,11 +30,22 @@ refusal-requires : tie.Need-refusal-requires
 refusal-requires c κs = search needs
 
 returns : tie.Need-returns
-returns c = search needs
+returns c = let told = ap answered (c .before .answer .given .1) in
+    let small = ap (valueOr 0) told in (
+      sym (ap (answerOf itself) told),
+      subst (Apart itself) (sym told) (omega (
+        arith,
+        small,
+        (c .before .before .before .pre),
+      )),
+    )
 
 returns-2 : tie.Need-returns-2
-returns-2 c = rw (c .refusal .ensures, c .before .send-number .ensures .0) (sym (ap (λ a. answerOf itself
-    (answered a)) (c .before .before .before .answer2 .given .1)))
+returns-2 c = let told = ap answered (c .before .before .before .answer2 .given .1) in
+    let number = c .before .send-number .ensures in (
+      c .refusal .ensures ∙ rw (number .0) (sym (ap (answerOf itself) told)),
+      subst (Apart itself) (sym told) (omega (arith, number .0, number .1), omega (arith, number .0, number .2)),
+    )
 
 pub sending-answer-spec : {M : Type 1} → statement M
 sending-answer-spec =

@@ -1,7 +1,7 @@
 -- `long_script` gives as many bytes as its type says; each turn keeps the length.
 use lib.ListN.{length}
 use Prim.Native.Nat.{_-_}
-use mathlib.Core.Path.{_≡_, refl}
+use mathlib.Core.Path.{_≡_}
 use borrow.Author.Needs.{needs}
 use Rattle.lessons.proofs.long_script.Statement.{statement}
 use Rattle.lessons.proofs.long_script.Tie as tie
