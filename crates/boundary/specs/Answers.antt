@@ -24,7 +24,7 @@ abbrev pub answerOf : {A : Type 0} → (A → ℕ) → Outcome A → ℕ
 answerOf value (accepted a) = value a
 answerOf value (refused number) = 16777216 * number
 
--- A caller tells a value from a refusal by the answer alone: a value has three bytes, a refusal's number is one byte and
+-- A caller tells a value from a refusal by the answer alone: a value has three bytes, a refusal's number one, which is
 -- not 0.
 abbrev pub Apart : {A : Type 0} → (A → ℕ) → Outcome A → Type 0
 Apart value (accepted a) = value a < 16777216
