@@ -1,5 +1,5 @@
-// Runs every stored script of the drill. The file args has their names; each script's output comes after a line with its
-// name, and the check compares all of it with the file stdout. The scripts stand in data/, which is also the folder
+// Runs every stored script of the drill. The file args has their names; each script's output comes after a line with
+// its name, and the check compares all of it with the file stdout. The scripts stand in data/, which is also the folder
 // scripts of the repository. Two more are made here, for their length alone.
 use libc::STDOUT_FILENO;
 ghost use mathlib.Core.Path.{_≡_};
@@ -14,6 +14,7 @@ const HEAD: usize = 24;
 
 const CUT: usize = 8;
 
+// The output of no script is longer than the buffer: proofs/Bound.antt of `drill`.
 fn run(script: &[u8]) {
     let mut out = [0u8; 40000];
     drill::run(script, &mut out);

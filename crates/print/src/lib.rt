@@ -1,6 +1,7 @@
 // The lines that a drill prints, laid in a lent buffer from a place on; each function answers the place after its line.
-// What would lie beyond the buffer's end is left out, so a caller lends enough: specs/Texts.antt has the texts, and
-// proofs/Lengths.antt how long a result line can be.
+// A public function takes the place as a number of 32 bits, so that no sum with a line's length can pass the largest
+// number of 64 and nothing has to be required of it. What would lie beyond the buffer's end is left out, so a caller
+// lends enough: specs/Texts.antt has the texts, and proofs/Lengths.antt how long a result line can be.
 ghost use mathlib.Core.Path.{_≡_};
 ghost use Prim.Native.Nat.{_+_, _≤_};
 ghost use lib.ListN.{set};
@@ -142,7 +143,7 @@ pub fn result_line(
     c + 1
 }
 
-// `bad L`
+// `bad L`. Of a number above 99,999 the last five digits are shown; no script has so many lines.
 pub fn bad_line(buf: &mut [u8], at: u32, line: u32) -> usize
     ensures { λ r. ⌜ Wrote (now (buf .entry)) at (badLine line) (now (buf .exit)) r ⌝ }
 {

@@ -69,7 +69,7 @@ pub enum Command {
     BadLine,
 }
 
-// The first place from a start on that holds the byte, or where the slice ends.
+// The first place from a start on that holds the byte, or where the slice ends; the start itself where it lies beyond.
 pub fn find(s: &[u8], byte: u8, from: usize) -> usize
     ensures { λ r. ⌜ r ≡ from + until byte (drop from (now (s .entry))) ⌝ }
 {

@@ -1,3 +1,4 @@
+-- `place` meets its contract.
 use borrow.Author.Tests.{lt-ltb, le-ltb}
 use borrow.Author.Needs.{needs}
 use Rattle.pending.proofs.place.Statement.{statement}

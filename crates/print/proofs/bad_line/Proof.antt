@@ -1,3 +1,4 @@
+-- `bad_line` meets its contract.
 use Rattle.print.specs.Texts.{badLine}
 use Rattle.print.proofs.Writing.{wrote-then, wrote-one}
 use borrow.Author.Needs.{needs}

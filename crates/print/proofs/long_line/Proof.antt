@@ -1,3 +1,4 @@
+-- `long_line` meets its contract.
 use Rattle.print.proofs.Writing.{wrote-then, wrote-one}
 use borrow.Author.Needs.{needs}
 use Rattle.print.proofs.long_line.Statement.{statement}

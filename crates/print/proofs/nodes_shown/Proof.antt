@@ -1,3 +1,4 @@
+-- `nodes_shown` meets its contract.
 use borrow.Author.Needs.{needs}
 use borrow.Author.Tests.{le-leb, lt-leb}
 use Rattle.print.proofs.nodes_shown.Statement.{statement}

@@ -1,3 +1,4 @@
+-- `put_field` meets its contract.
 use Rattle.print.specs.Texts.{fieldOf}
 use native.Mathlib.Omega.{arith}
 use Rattle.print.proofs.Writing.{wrote-then, wrote-one}

@@ -1,3 +1,5 @@
+-- `put_fields` meets its contract. The invariant: what is laid so far and the fields of the nodes left make up all
+-- fields.
 use mathlib.Core.Path.{_≡_, refl, _∙_}
 use native.Mathlib.Omega.{arith}
 use lib.ListN.{length}

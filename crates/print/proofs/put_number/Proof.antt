@@ -1,3 +1,4 @@
+-- `put_number` meets its contract.
 use Rattle.print.specs.Texts.{decimalOf}
 use native.Mathlib.Omega.{arith}
 use Rattle.print.proofs.Writing.{wrote-then, wrote-one}

@@ -1,3 +1,4 @@
+-- `put_place` meets its contract.
 use borrow.Author.Tests.{le-leb, lt-leb}
 use native.Mathlib.Omega.{arith}
 use Rattle.print.proofs.Writing.{wrote-one, wrote-none}

@@ -1,3 +1,4 @@
+-- `put_word` meets its contract.
 use Rattle.print.proofs.Writing.{wrote-then, wrote-one}
 use borrow.Author.Needs.{needs}
 use Rattle.print.proofs.put_word.Statement.{statement}

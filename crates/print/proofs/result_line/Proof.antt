@@ -1,3 +1,4 @@
+-- `result_line` meets its contract.
 use Rattle.print.specs.Texts.{resultLine}
 use native.Mathlib.Omega.{arith}
 use Rattle.print.proofs.Writing.{wrote-then, wrote-one}

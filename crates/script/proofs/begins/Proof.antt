@@ -1,3 +1,5 @@
+-- `begins` meets its contract. The invariant: the rest of the slice begins with the rest of the word exactly where all
+-- of it does.
 use mathlib.Core.Path.{_≡_, sym}
 use Prim.Native.Nat.{_≤_, _-_}
 use lib.ListN.{length, drop}

@@ -1,3 +1,4 @@
+-- `command_line` meets its contract.
 use Rattle.script.proofs.Cases.{cut-case, say-case, command-cases}
 use mathlib.Core.Path.{ap, _∙_, sym}
 use denote.Ref.{now}

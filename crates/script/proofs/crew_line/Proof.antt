@@ -1,3 +1,4 @@
+-- `crew_line` meets its contract.
 use Rattle.script.specs.Commands.{crewOf}
 use mathlib.Core.Path.{ap, _∙_}
 use borrow.Author.Needs.{needs}

@@ -1,3 +1,5 @@
+-- `decimal` meets its contract. The invariant: the digits left, after the value so far, give the number of the whole
+-- field.
 use Rattle.script.proofs.Walk.{value-low, value-more, value-stop, value-end}
 use mathlib.Core.Path.{_≡_, refl}
 use Prim.Native.Nat.{_≤_, _-_}

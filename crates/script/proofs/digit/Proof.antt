@@ -1,3 +1,4 @@
+-- `digit` meets its contract.
 use borrow.Author.Tests.{lt-ltb, le-ltb}
 use borrow.Author.Needs.{needs}
 use Rattle.script.proofs.digit.Statement.{statement}

@@ -1,3 +1,4 @@
+-- `find` meets its contract. The invariant: the first such place from i on is the first from the start on.
 use denote.Ref.{now}
 use mathlib.Core.Path.{_≡_}
 use Prim.Native.Nat.{_+_, _-_}

@@ -1,3 +1,5 @@
+-- `numbers_on` meets its contract. The invariant: the fields from this one on, laid after the numbers so far, give the
+-- numbers of the whole slice.
 use mathlib.Core.Path.{_∙_, _≡_}
 use lib.ListN.{length-set, length, drop}
 use Rattle.script.proofs.Words.{piece-within, turn-bad, turn-full, turn-more, turn-last}

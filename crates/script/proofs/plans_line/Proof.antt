@@ -1,3 +1,4 @@
+-- `plans_line` meets its contract.
 use borrow.Author.Needs.{needs}
 use Rattle.script.proofs.plans_line.Statement.{statement}
 use Rattle.script.proofs.plans_line.Tie as tie

@@ -1,3 +1,4 @@
+-- `to_crew` meets its contract.
 use Rattle.script.proofs.Bytes.{passed, crew-bytes}
 use native.Mathlib.Omega.{arith}
 use borrow.Author.Needs.{needs}

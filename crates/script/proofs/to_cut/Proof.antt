@@ -1,3 +1,4 @@
+-- `to_cut` meets its contract.
 use Rattle.script.proofs.Bytes.{passed, cut-bytes}
 use native.Mathlib.Omega.{arith}
 use borrow.Author.Needs.{needs}

@@ -1,3 +1,4 @@
+-- `to_say` meets its contract.
 use Rattle.script.proofs.Bytes.{passed, say-bytes}
 use native.Mathlib.Omega.{arith}
 use borrow.Author.Needs.{needs}

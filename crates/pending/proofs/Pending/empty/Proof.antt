@@ -1,3 +1,4 @@
+-- `Pending::empty` meets its contract.
 use Rattle.pending.specs.Pairs.{nothing}
 use mathlib.Core.Path.{refl}
 use Rattle.pending.proofs.Pending.empty.Statement.{statement}

@@ -1,3 +1,4 @@
+-- `Pending::is_cut` meets its contract.
 use Rattle.pending.proofs.Places.{is-cut-inside, is-cut-outside}
 use borrow.Author.Needs.{needs}
 use Rattle.pending.proofs.Pending.is_cut.Statement.{statement}

@@ -1,3 +1,4 @@
+-- `Pending::say_of` meets its contract.
 use Rattle.pending.proofs.Places.{said-inside, said-outside}
 use borrow.Author.Needs.{needs}
 use Rattle.pending.proofs.Pending.say_of.Statement.{statement}

@@ -1,3 +1,4 @@
+-- `Pending::with_cut` meets its contract.
 use Rattle.pending.proofs.Places.{cut-inside, cut-outside}
 use borrow.Author.Needs.{needs}
 use Rattle.pending.proofs.Pending.with_cut.Statement.{statement}

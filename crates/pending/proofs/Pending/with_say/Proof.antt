@@ -1,3 +1,4 @@
+-- `Pending::with_say` meets its contract.
 use Rattle.pending.proofs.Places.{say-inside, say-outside}
 use borrow.Author.Needs.{needs}
 use Rattle.pending.proofs.Pending.with_say.Statement.{statement}
