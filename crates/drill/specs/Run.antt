@@ -2,7 +2,7 @@
 use Prim.Native.Nat.{ℕ, _+_}
 use mathlib.Core.Bool.{Bool, true, false, cond}
 use mathlib.Core.List.{List, [], _∷_, _++_}
-use lib.ListN.{length}
+use lib.ListN.{length, drop, replicate}
 use lib.Dec.{ltb, eqb}
 use Rattle.script.specs.Lines.{split}
 use Rattle.script.specs.Fields.{numbersOn}
@@ -53,3 +53,7 @@ first (w ∷ ws) = cond (isLast ws) (badLine 1) (crewed (crewOf (numbersOn w)) w
 -- 01: "It reads standard input (over 65,536 bytes: prints `long` only)."
 unfoldable pub drillOf : List ℕ → List ℕ
 drillOf input = cond (ltb 65536 (length input)) longLine (first (split 10 input))
+
+-- The output in a buffer that every output fits into, with zeros after it.
+abbrev pub wholeOf : List ℕ → List ℕ
+wholeOf input = drillOf input ++ drop (length (drillOf input)) (replicate 38566 0)

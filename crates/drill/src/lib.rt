@@ -17,8 +17,10 @@ ghost use Rattle.print.specs.Texts.{Wrote, badLine, endLine, longLine};
 ghost use Rattle.node.specs.Soundness.{crewAccepted};
 ghost use Rattle.aisle.specs.Round.{goOf};
 ghost use Rattle.drill.specs.Steps.{stampFits, allowed, after, text};
-ghost use Rattle.drill.specs.Run.{follow, second, drillOf};
+ghost use Rattle.drill.specs.Run.{follow, second, drillOf, wholeOf};
 
+// No output is longer.
+const MOST_PRINTED: usize = 38566;
 // A script has at most so many bytes.
 const MOST_BYTES: usize = 65536;
 
@@ -78,7 +80,9 @@ fn is_allowed(state: State, command: Command) -> bool
     }
 }
 
-// Writes out the part of the output that is new. Standard output may be closed: the drill goes on all the same.
+// Writes out the part of the output that is new. Standard output may be closed: the drill goes on all the same. A line
+// that does not fit into the buffer is not written out. What goes out is in no contract: no C function promises it, and a
+// program's output is compared with its file.
 fn show(out: &[u8], from: usize, to: usize) -> bool {
     if out.len() < to {
         return false;
@@ -254,4 +258,19 @@ pub fn run(input: &[u8], out: &mut [u8]) -> usize
         }
         CrewLine::NoCrew => put_bad(out, 0, 1),
     }
+}
+
+// The whole output of a script: no script prints more than the text has room for (proofs/Bound.antt).
+pub struct Output {
+    pub text: [u8; 38566],
+    pub size: usize,
+}
+
+// The drill with a buffer that holds every output: nothing is ever cut.
+pub fn run_whole(input: &[u8]) -> Output
+    ensures { λ r. ⌜ (r .text ≡ wholeOf (now (input .entry))) × (r .size ≡ length (drillOf (now (input .entry)))) ⌝ }
+{
+    let mut text = [0u8; MOST_PRINTED];
+    let size = run(input, &mut text);
+    Output { text, size }
 }

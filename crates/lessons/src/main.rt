@@ -15,11 +15,6 @@ const HEAD: usize = 24;
 const CUT: usize = 8;
 
 // The output of no script is longer than the buffer: proofs/Bound.antt of `drill`.
-fn run(script: &[u8]) {
-    let mut out = [0u8; 40000];
-    drill::run(script, &mut out);
-}
-
 // Runs the script in the file that an argument names.
 fn run_named(i: usize) {
     let mut name = io::buffer();
@@ -34,7 +29,7 @@ fn run_named(i: usize) {
     let mut script = [0u8; MOST_READ];
     let size = io::read_full(file, &mut script);
     libc::close(file);
-    run(&script[..size]);
+    drill::run_whole(&script[..size]);
 }
 
 // The long script has a crew, its plans, and nothing but cuts.
@@ -60,9 +55,9 @@ fn long_script() -> [u8; 65537]
 fn run_long() {
     let script = long_script();
     io::write_all(STDOUT_FILENO, b"65,536 bytes\n");
-    run(&script[..LONGEST]);
+    drill::run_whole(&script[..LONGEST]);
     io::write_all(STDOUT_FILENO, b"65,537 bytes\n");
-    run(&script);
+    drill::run_whole(&script);
 }
 
 fn main() {
