@@ -114,8 +114,11 @@ fn compare_lengths(random: &mut Random) -> Result<(), String> {
     same(&("read", &slice, &bytes), read, (Err(Refused::WRONG_FIELDS), fields.bytes.clone()))
 }
 
-/// A record's image: of a generated record, some of them with a few bytes changed.
+/// A record's image: of a generated record, some of them with a few bytes changed or with random ones throughout.
 fn any_image(random: &mut Random, node: &Node) -> [u8; RECORD] {
+    if random.chance(1, 32) {
+        return std::array::from_fn(|_| random.byte());
+    }
     let mut image = image::of(node);
     if random.chance(1, 8) {
         for _ in 0..random.between(1, 3) {

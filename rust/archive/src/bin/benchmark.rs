@@ -1,5 +1,5 @@
 //! Times the proved engine's archive against the second engine, both in this one run, on the same inboxes, in turn.
-//! docs/BENCHMARK.md says what is measured. Usage: benchmark [REPETITIONS]; it prints the tables of that file.
+//! docs/BENCHMARK.md says what is measured. Usage: benchmark [REPETITIONS]; it prints the tables of that page.
 
 use archive::{image, Archive};
 use comparison::Engine;
@@ -68,13 +68,9 @@ fn main() {
             }
         }
     }
-    print_rows(&rows);
+    print_rows(&rows, repetitions);
     print_growth(&rows);
     print_image(repetitions);
-    let ratios: Vec<f64> = rows.iter().flat_map(|row| row.times).map(|times| times.ratio).collect();
-    let above = ratios.iter().filter(|&&ratio| ratio > 1.0).count();
-    let worst = ratios.iter().copied().fold(0.0, f64::max);
-    println!("Of {} ratios {above} are above 1.0; the highest is {worst:.2}.", ratios.len());
 }
 
 fn rounds_of(operation: Operation, class: u8) -> Vec<u8> {
@@ -197,7 +193,15 @@ fn median(mut numbers: Vec<f64>) -> f64 {
     numbers[numbers.len() / 2]
 }
 
-fn print_rows(rows: &[Row]) {
+fn print_rows(rows: &[Row], repetitions: usize) {
+    let ratios: Vec<f64> = rows.iter().flat_map(|row| row.times).map(|times| times.ratio).collect();
+    let above = ratios.iter().filter(|&&ratio| ratio > 1.0).count();
+    let highest = ratios.iter().copied().fold(0.0, f64::max);
+    println!("## Times");
+    println!();
+    println!("Nanoseconds, medians of {repetitions} repetitions.");
+    println!("Of {} ratios {above} are above 1.0; the highest is {highest:.2}.", ratios.len());
+    println!();
     println!(
         "| | class | round | phase | n | agreed: engine | second | ratio | mixed: engine | second | ratio | floor |"
     );
@@ -232,6 +236,10 @@ fn name(operation: Operation) -> &'static str {
 
 /// How many times the time of n = 4 the time of n = 32 is, 8 times the bytes.
 fn print_growth(rows: &[Row]) {
+    println!("## Growth");
+    println!();
+    println!("The time of n = 32 over the time of n = 4, for 8 times the bytes.");
+    println!();
     println!("| | class | round | phase | agreed: engine | second | mixed: engine | second |");
     println!("|---|---|---|---|---|---|---|---|");
     for crews in rows.chunks_exact(3) {
@@ -264,6 +272,8 @@ fn print_image(repetitions: usize) {
     };
     let sound = || _ = black_box(black_box(&node).is_sound());
     let [result, start, sound] = time(repetitions, [&result, &start, &sound]).map(median);
+    println!("## The image");
+    println!();
     println!("| | ns |");
     println!("|---|---|");
     println!("| reading an image and testing its record (`rail_result`) | {result:.0} |");
