@@ -58,7 +58,7 @@ extern "C" {
 #define RAIL_RECORD_STAMP 16
 #define RAIL_RECORD_SELECT 17  /* 2 bytes */
 #define RAIL_RECORD_RESULT 19  /* 2 bytes */
-#define RAIL_RECORD_HISTORY 21 /* 64 times 2 bytes */
+#define RAIL_RECORD_HISTORY 21 /* 64 times 2 bytes, phase 0 first */
 
 /* An inbox has n slots of so many bytes; slot q belongs to port q. A buffer of a slot's length fits every message. */
 #define RAIL_SLOT 202
@@ -79,7 +79,8 @@ extern "C" {
 /* Accepts a crew. The value is 0. Refuses 1 to 4. */
 uint32_t rail_accept(uint8_t class_, uint8_t n, uint8_t b, uint8_t f, uint8_t d);
 
-/* Starts a node and writes its record. The value is 0. Refuses 25, 1 to 6. */
+/* Starts a node and writes its record. All nodes of a crew have the same crew and run, each its own number from 0 on.
+ * The value is 0. Refuses 25, 1 to 6. */
 uint32_t rail_start(uint8_t class_, uint8_t n, uint8_t b, uint8_t f, uint8_t d, uint8_t own, uint32_t run,
                     uint16_t plan, uint8_t *record, size_t record_length);
 
@@ -98,7 +99,7 @@ uint32_t rail_result(const uint8_t *record, size_t record_length);
 /* Reads the message at the front of the bytes and writes its fields. The value is 0. Refuses 26, 10 to 13. */
 uint32_t rail_read(const uint8_t *bytes, size_t bytes_length, uint8_t *fields, size_t fields_length);
 
-/* Entry i of the message at the front of the bytes. The value is 65,536 times its phase, and its plan.
+/* Entry i, from 0 on, of the message at the front of the bytes. The value is 65,536 times its phase, plus its plan.
  * Refuses 10 to 13, 27. */
 uint32_t rail_entry(const uint8_t *bytes, size_t bytes_length, size_t i);
 

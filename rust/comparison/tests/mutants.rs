@@ -3,9 +3,10 @@
 use comparison::mutants::{tell_all, Cases};
 use comparison::runs;
 use comparison::seeds::seeds;
-use comparison::{compare, Operation, Second};
+use comparison::{compare, Engine, Operation, Second};
 use generators::Random;
-use second_engine::Mutation;
+use second_engine::{Crew, Message, Mutation, Node, Refusal, Selection};
+use std::cell::Cell;
 
 #[test]
 fn the_engine_is_equal_to_itself() {
@@ -50,5 +51,57 @@ fn own_selection_does_no_harm_in_class_2() {
         if let Err(failure) = runs::drive_class(&mut Random::new(seed), 2, &wrong, None) {
             panic!("seed {seed}: {failure}");
         }
+    }
+}
+
+/// The second engine, but its first take is wrong, whatever it is given: a select that no rule gives.
+struct WrongOnce {
+    was_wrong: Cell<bool>,
+}
+
+impl Engine for WrongOnce {
+    fn accept(&self, crew: Crew) -> Result<(), Refusal> {
+        Second::default().accept(crew)
+    }
+
+    fn start(&self, crew: Crew, own: u8, run: u32, plan: u16) -> Result<Node, Refusal> {
+        Second::default().start(crew, own, run, plan)
+    }
+
+    fn write(&self, node: &mut Node, buffer: &mut [u8]) -> Result<usize, Refusal> {
+        Second::default().write(node, buffer)
+    }
+
+    fn read(&self, slice: &[u8]) -> Result<Message, Refusal> {
+        Second::default().read(slice)
+    }
+
+    fn entries<'a>(&self, slice: &'a [u8]) -> &'a [u8] {
+        Second::default().entries(slice)
+    }
+
+    fn ask(&self, node: &mut Node, inbox: &[u8]) -> Result<Selection, Refusal> {
+        Second::default().ask(node, inbox)
+    }
+
+    fn take(&self, node: &mut Node, inbox: &[u8]) -> Result<(), Refusal> {
+        let answer = Second::default().take(node, inbox);
+        if !self.was_wrong.replace(true) {
+            node.select ^= 1;
+        }
+        answer
+    }
+
+    fn drill(&self, input: &[u8]) -> Vec<u8> {
+        Second::default().drill(input)
+    }
+}
+
+/// An engine that reads memory it never wrote can be wrong once and right when it is asked again.
+#[test]
+fn a_difference_that_comes_once_is_told() {
+    for operation in [Operation::Round, Operation::Run] {
+        let wrong = WrongOnce { was_wrong: Cell::new(false) };
+        assert!(compare(operation, 1, &wrong, &Second::default()).is_err(), "{operation:?}");
     }
 }
