@@ -31,7 +31,7 @@ ghost use Rattle.tally.specs.Marks.{
 };
 ghost use Rattle.tally.specs.Rules.{countable, choiceAs, choiceOf, selected, validIn, decidedIn};
 
-fn one_if(test: bool) -> usize
+fn one_if(test: bool) -> u16
     ensures { λ r. ⌜ (r ≡ bit test) × (r ≤ 1) ⌝ }
 {
     if test { 1 } else { 0 }
@@ -45,13 +45,13 @@ fn count_supporting(
     n: usize,
     vote: u16,
     below: u8,
-) -> usize
+) -> u16
     requires { ⌜ n ≤ 32 ⌝ }
     ensures { λ r. ⌜ (r ≡ tally
         (supporting (now (marks .entry)) (now (votes .entry)) (now (stamps .entry)) vote below) n)
         × (r ≤ n) ⌝ }
 {
-    let mut count = 0;
+    let mut count: u16 = 0;
     let mut q = 0;
     while q < n {
         count = count + one_if(marks[q] & ((votes[q] == vote) | (stamps[q] < below)));
@@ -61,11 +61,11 @@ fn count_supporting(
 }
 
 // How many slots are marked.
-fn count_marks(marks: &[bool; 32], n: usize) -> usize
+fn count_marks(marks: &[bool; 32], n: usize) -> u16
     requires { ⌜ n ≤ 32 ⌝ }
     ensures { λ r. ⌜ (r ≡ tally (marked (now (marks .entry))) n) × (r ≤ n) ⌝ }
 {
-    let mut count = 0;
+    let mut count: u16 = 0;
     let mut q = 0;
     while q < n {
         count = count + one_if(marks[q]);
@@ -94,11 +94,11 @@ fn count_listing(
     n: usize,
     plan: u16,
     phase: u8,
-) -> usize
+) -> u16
     requires { ⌜ n ≤ 32 ⌝ }
     ensures { λ r. ⌜ (r ≡ tally (listing (now (present .entry)) (now (histories .entry)) plan phase) n) × (r ≤ n) ⌝ }
 {
-    let mut count = 0;
+    let mut count: u16 = 0;
     let mut q = 0;
     while q < n {
         count = count + one_if(present[q] & lists(histories, q, phase, plan));
@@ -121,7 +121,7 @@ fn mark_above(
     votes: &[u16; 32],
     stamps: &[u8; 32],
     n: usize,
-    threshold: usize,
+    threshold: u16,
     stamped: bool,
 ) -> [bool; 32]
     requires { ⌜ n ≤ 32 ⌝ }
@@ -162,7 +162,7 @@ fn mark_listed(
     stamps: &[u8; 32],
     histories: &[u16; 2048],
     n: usize,
-    threshold: usize,
+    threshold: u16,
 ) -> [bool; 32]
     requires { ⌜ n ≤ 32 ⌝ }
     ensures { λ r. ⌜ Marks r n
@@ -209,7 +209,7 @@ fn least_marked(marks: &[bool; 32], votes: &[u16; 32], n: usize) -> u16
 }
 
 // The higher of two counts, where the slot is marked.
-fn higher_of(mark: bool, count: usize, best: usize) -> usize
+fn higher_of(mark: bool, count: u16, best: u16) -> u16
     requires { ⌜ (count ≤ 32) × (best ≤ 32) ⌝ }
     ensures { λ r. ⌜ (r ≡ cond (mark && ltb best count) count best) × (r ≤ 32) ⌝ }
 {
@@ -218,13 +218,13 @@ fn higher_of(mark: bool, count: usize, best: usize) -> usize
 }
 
 // How many votes the plan of most votes has.
-fn most_votes(present: &[bool; 32], votes: &[u16; 32], stamps: &[u8; 32], n: usize) -> usize
+fn most_votes(present: &[bool; 32], votes: &[u16; 32], stamps: &[u8; 32], n: usize) -> u16
     requires { ⌜ n ≤ 32 ⌝ }
     ensures { λ r. ⌜ (r ≡ highest (marked (now (present .entry)))
         (λ q. tally (supporting (now (present .entry)) (now (votes .entry)) (now (stamps .entry))
         (getD (now (votes .entry)) q 0) 0) n) n) × (r ≤ 32) ⌝ }
 {
-    let mut best = 0;
+    let mut best: u16 = 0;
     let mut q = 0;
     while q < n {
         let supporters = count_supporting(present, votes, stamps, n, votes[q], 0);
@@ -302,11 +302,11 @@ fn is_countable(crew: Crew) -> bool
 }
 
 // 01's E = n − D + b.
-fn bound(crew: Crew) -> usize
+fn bound(crew: Crew) -> u16
     requires { ⌜ crew .d ≤ crew .n ⌝ }
     ensures { λ r. ⌜ (r ≡ E crew) × (r ≤ 510) ⌝ }
 {
-    (crew.n - crew.d) as usize + crew.b as usize
+    (crew.n - crew.d) as u16 + crew.b as u16
 }
 
 // Selection in class 1.
@@ -344,7 +344,7 @@ fn choose_two(
         (crew .n)) ⌝ }
 {
     let n = crew.n as usize;
-    let b = crew.b as usize;
+    let b = crew.b as u16;
     let e = bound(crew);
     let arrivals = count_marks(present, n);
     let possible = mark_above(present, present, votes, stamps, n, e, true);
@@ -367,7 +367,7 @@ fn choose_three(
         (crew .n)) ⌝ }
 {
     let n = crew.n as usize;
-    let b = crew.b as usize;
+    let b = crew.b as u16;
     let e = bound(crew);
     let possible = mark_above(present, present, votes, stamps, n, e, true);
     let backed = mark_listed(&possible, present, votes, stamps, histories, n, b);
@@ -456,7 +456,7 @@ fn least_valid(
         (crew .n)) ⌝ }
 {
     let n = crew.n as usize;
-    let half = (n + crew.b as usize) / 2;
+    let half = (crew.n as u16 + crew.b as u16) / 2;
     let valid = mark_above(present, present, votes, stamps, n, half, false);
     least_marked(&valid, votes, n)
 }
@@ -506,15 +506,7 @@ fn least_deciding(
 {
     let n = crew.n as usize;
     let fresh = mark_fresh(crew, phase, present, stamps);
-    let deciding = mark_above(
-        present,
-        &fresh,
-        votes,
-        stamps,
-        n,
-        crew.d as usize - 1,
-        false,
-    );
+    let deciding = mark_above(present, &fresh, votes, stamps, n, crew.d as u16 - 1, false);
     least_marked(&deciding, votes, n)
 }
 
