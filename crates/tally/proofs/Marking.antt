@@ -1,10 +1,10 @@
 -- What the loops that mark slots, and those that look for the least vote and the highest count, go by.
 -- Assumes nothing.
-use mathlib.Core.Path.{_≡_, refl, _∙_}
+use mathlib.Core.Path.{_≡_, refl, ap₂, _∙_}
 use mathlib.Core.Bool.{Bool, true, false, cond, _&&_}
 use mathlib.Core.List.{List}
 use mathlib.Core.Option.{Option, none, some}
-use Prim.Native.Nat.{ℕ, _+_, _<_, _≤_, min, max}
+use Prim.Native.Nat.{ℕ, zero, suc, _+_, _<_, _≤_, min, max}
 use native.Mathlib.Numerals.{add-one}
 use native.Mathlib.Omega.{arith}
 use lib.Dec.{ltb}
@@ -12,16 +12,26 @@ use lib.ListN.{length, getD, set}
 use lib.Seq.{getD-set-same, getD-set-other}
 use borrow.Author.Tests.{ltb-true, ltb-false}
 use Rattle.ballot.specs.Least.{lower, orZero}
-use Rattle.tally.specs.Marks.{Marks, leastMarked, highest}
+use Rattle.tally.specs.Marks.{Marks, Counts, leastMarked, highest}
 use Rattle.inbox.proofs.Rows.{by-equality}
 
--- one slot more is marked
+-- one slot more of a column is as it should be
+column-next : {A : Type 0} (column : List A) (q : ℕ) (is : ℕ → A) (here other : A) → q < length column
+    → ((k : ℕ) → k < q → getD column k other ≡ is k) → here ≡ is q → (k : ℕ) → k < q + 1
+    → getD (set column q here) k other ≡ is k
+column-next column q is here other room so-far e k less =
+    by-equality k q
+    (λ same. rw same (getD-set-same column q here other room ∙ e))
+    (λ apart. getD-set-other column q k here other apart ∙ so-far k (omega (arith, apart)))
+
+-- one slot more is marked, or counted
 pub marks-next : (marks : List Bool) (q : ℕ) (test : ℕ → Bool) (mark : Bool) → q < length marks → Marks marks q test
     → mark ≡ test q → Marks (set marks q mark) (q + 1) test
-marks-next marks q test mark room so-far is k less =
-    by-equality k q
-    (λ e. rw e (getD-set-same marks q mark false room ∙ is))
-    (λ e. getD-set-other marks q k mark false e ∙ so-far k (omega (arith, e)))
+marks-next marks q test mark = column-next marks q test mark false
+
+pub counts-next : (counts : List ℕ) (q : ℕ) (number : ℕ → ℕ) (count : ℕ) → q < length counts
+    → Counts counts q number → count ≡ number q → Counts (set counts q count) (q + 1) number
+counts-next counts q number count = column-next counts q number count 0
 
 -- past all votes, where none is marked
 abbrev pub orTop : Option ℕ → ℕ
@@ -79,3 +89,12 @@ module _ (test : ℕ → Bool) (number : ℕ → ℕ) where
       go false higher e = is
       go true true e = omega (arith, ltb-true best (number q) e)
       go true false e = omega (arith, ltb-false best (number q) e)
+
+-- numbers that agree below n have the same highest one
+pub highest-same : (test : ℕ → Bool) (a b : ℕ → ℕ) (n : ℕ) → ((q : ℕ) → q < n → a q ≡ b q)
+    → highest test a n ≡ highest test b n
+unfolding highest
+highest-same test a b zero same = refl
+highest-same test a b (suc n) same =
+    ap₂ (λ number best. cond (test n) (max number best) best) (same n (omega arith))
+    (highest-same test a b n (λ q less. same q (omega arith)))

@@ -22,6 +22,10 @@ marked marks q = getD marks q false
 abbrev pub Marks : List Bool → ℕ → (ℕ → Bool) → Type 0
 Marks marks n test = (q : ℕ) → q < n → marked marks q ≡ test q
 
+-- these counts are a number of each slot below n
+abbrev pub Counts : List ℕ → ℕ → (ℕ → ℕ) → Type 0
+Counts counts n number = (q : ℕ) → q < n → getD counts q 0 ≡ number q
+
 -- a marked slot has the vote, or a stamp below the bound
 abbrev pub supporting : List Bool → List ℕ → List ℕ → ℕ → ℕ → ℕ → Bool
 supporting marks votes stamps vote below q =
@@ -31,11 +35,18 @@ supporting marks votes stamps vote below q =
 abbrev pub belowOf : Bool → ℕ → ℕ
 belowOf stamped stamp = cond stamped stamp 0
 
+-- how many marked slots support what slot q says
+abbrev pub supporters : List Bool → List ℕ → List ℕ → ℕ → Bool → ℕ → ℕ
+supporters marks votes stamps n stamped q =
+    tally (supporting marks votes stamps (getD votes q 0) (belowOf stamped (getD stamps q 0))) n
+
+-- a slot that is present has a number above the threshold
+abbrev pub over : List Bool → (ℕ → ℕ) → ℕ → ℕ → Bool
+over present number threshold q = marked present q && ltb threshold (number q)
+
 -- more than `threshold` marked slots support what slot q says
 abbrev pub above : List Bool → List Bool → List ℕ → List ℕ → ℕ → ℕ → Bool → ℕ → Bool
-above present marks votes stamps n threshold stamped q =
-    marked present q
-    && ltb threshold (tally (supporting marks votes stamps (getD votes q 0) (belowOf stamped (getD stamps q 0))) n)
+above present marks votes stamps n threshold stamped = over present (supporters marks votes stamps n stamped) threshold
 
 -- a slot that is present has this stamp
 abbrev pub stampedWith : List Bool → List ℕ → ℕ → ℕ → Bool

@@ -5,7 +5,7 @@ use node::Node;
 ghost use mathlib.Core.Path.{_≡_};
 ghost use mathlib.Core.Bool.{true, cond, _&&_};
 ghost use lib.Dec.{leb, ltb, eqb};
-ghost use Prim.Native.Nat.{_+_, _*_, _<_, _≤_};
+ghost use Prim.Native.Nat.{_+_, _*_, _-_, _<_, _≤_};
 ghost use lib.ListN.{getD};
 ghost use Rattle.ballot.specs.Count.{bit, tally};
 ghost use Rattle.ballot.specs.Least.{orZero};
@@ -16,9 +16,12 @@ ghost use Rattle.crew.specs.Thresholds.{one, two, three, classOf, E};
 ghost use Rattle.inbox.specs.Columns.{columns, polled};
 ghost use Rattle.tally.specs.Marks.{
   Marks,
+  Counts,
   marked,
   supporting,
   belowOf,
+  supporters,
+  over,
   above,
   stampedWith,
   freshSlot,
@@ -31,7 +34,7 @@ ghost use Rattle.tally.specs.Marks.{
 };
 ghost use Rattle.tally.specs.Rules.{countable, choiceAs, choiceOf, selected, validIn, decidedIn};
 
-fn one_if(test: bool) -> usize
+fn one_if(test: bool) -> u16
     ensures { λ r. ⌜ (r ≡ bit test) × (r ≤ 1) ⌝ }
 {
     if test { 1 } else { 0 }
@@ -45,13 +48,13 @@ fn count_supporting(
     n: usize,
     vote: u16,
     below: u8,
-) -> usize
+) -> u16
     requires { ⌜ n ≤ 32 ⌝ }
     ensures { λ r. ⌜ (r ≡ tally
         (supporting (now (marks .entry)) (now (votes .entry)) (now (stamps .entry)) vote below) n)
         × (r ≤ n) ⌝ }
 {
-    let mut count = 0;
+    let mut count: u16 = 0;
     let mut q = 0;
     while q < n {
         count = count + one_if(marks[q] & ((votes[q] == vote) | (stamps[q] < below)));
@@ -61,11 +64,11 @@ fn count_supporting(
 }
 
 // How many slots are marked.
-fn count_marks(marks: &[bool; 32], n: usize) -> usize
+fn count_marks(marks: &[bool; 32], n: usize) -> u16
     requires { ⌜ n ≤ 32 ⌝ }
     ensures { λ r. ⌜ (r ≡ tally (marked (now (marks .entry))) n) × (r ≤ n) ⌝ }
 {
-    let mut count = 0;
+    let mut count: u16 = 0;
     let mut q = 0;
     while q < n {
         count = count + one_if(marks[q]);
@@ -94,11 +97,11 @@ fn count_listing(
     n: usize,
     plan: u16,
     phase: u8,
-) -> usize
+) -> u16
     requires { ⌜ n ≤ 32 ⌝ }
     ensures { λ r. ⌜ (r ≡ tally (listing (now (present .entry)) (now (histories .entry)) plan phase) n) × (r ≤ n) ⌝ }
 {
-    let mut count = 0;
+    let mut count: u16 = 0;
     let mut q = 0;
     while q < n {
         count = count + one_if(present[q] & lists(histories, q, phase, plan));
@@ -114,6 +117,66 @@ fn below_of(stamped: bool, stamp: u8) -> u8
     if stamped { stamp } else { 0 }
 }
 
+// How many marked slots support what slot q says. Where the slot before says the same, its count holds again.
+fn count_next(
+    marks: &[bool; 32],
+    votes: &[u16; 32],
+    stamps: &[u8; 32],
+    n: usize,
+    stamped: bool,
+    q: usize,
+    before: u16,
+) -> u16
+    requires { ⌜ (n ≤ 32) × (1 ≤ q) × (q < 32)
+        × (before ≡ supporters (now marks) (now votes) (now stamps) n stamped (q - 1)) ⌝ }
+    ensures { λ r. ⌜ r ≡ supporters (now (marks .entry)) (now (votes .entry)) (now (stamps .entry)) n stamped q ⌝ }
+{
+    let below = below_of(stamped, stamps[q]);
+    let last = below_of(stamped, stamps[q - 1]);
+    let again = (votes[q] == votes[q - 1]) & (below == last);
+    if again {
+        return before;
+    }
+    count_supporting(marks, votes, stamps, n, votes[q], below)
+}
+
+// How many marked slots support what each slot says.
+fn count_each(
+    marks: &[bool; 32],
+    votes: &[u16; 32],
+    stamps: &[u8; 32],
+    n: usize,
+    stamped: bool,
+) -> [u16; 32]
+    requires { ⌜ n ≤ 32 ⌝ }
+    ensures { λ r. ⌜ Counts r n
+        (supporters (now (marks .entry)) (now (votes .entry)) (now (stamps .entry)) n stamped) ⌝ }
+{
+    let mut counts = [0u16; 32];
+    let below = below_of(stamped, stamps[0]);
+    counts[0] = count_supporting(marks, votes, stamps, n, votes[0], below);
+    let mut q = 1;
+    while q < n {
+        counts[q] = count_next(marks, votes, stamps, n, stamped, q, counts[q - 1]);
+        q = q + 1;
+    }
+    counts
+}
+
+// Marks each slot that is present and has a count above the threshold.
+fn mark_over(present: &[bool; 32], counts: &[u16; 32], n: usize, threshold: u16) -> [bool; 32]
+    requires { ⌜ n ≤ 32 ⌝ }
+    ensures { λ r. ⌜ Marks r n (over (now (present .entry)) (λ q. getD (now (counts .entry)) q 0) threshold) ⌝ }
+{
+    let mut out = [false; 32];
+    let mut q = 0;
+    while q < n {
+        out[q] = present[q] & (threshold < counts[q]);
+        q = q + 1;
+    }
+    out
+}
+
 // Marks each slot whose vote, or vote and stamp, more than `threshold` of the marked slots support.
 fn mark_above(
     present: &[bool; 32],
@@ -121,7 +184,7 @@ fn mark_above(
     votes: &[u16; 32],
     stamps: &[u8; 32],
     n: usize,
-    threshold: usize,
+    threshold: u16,
     stamped: bool,
 ) -> [bool; 32]
     requires { ⌜ n ≤ 32 ⌝ }
@@ -129,15 +192,8 @@ fn mark_above(
         (above (now (present .entry)) (now (marks .entry)) (now (votes .entry)) (now (stamps .entry)) n threshold
         stamped) ⌝ }
 {
-    let mut out = [false; 32];
-    let mut q = 0;
-    while q < n {
-        let below = below_of(stamped, stamps[q]);
-        let supporters = count_supporting(marks, votes, stamps, n, votes[q], below);
-        out[q] = present[q] & (threshold < supporters);
-        q = q + 1;
-    }
-    out
+    let counts = count_each(marks, votes, stamps, n, stamped);
+    mark_over(present, &counts, n, threshold)
 }
 
 // Marks each slot with this stamp.
@@ -154,6 +210,59 @@ fn mark_stamped(present: &[bool; 32], stamps: &[u8; 32], n: usize, stamp: u8) ->
     out
 }
 
+// Whether a slot is marked and more than `threshold` slots list its vote at its stamp.
+fn is_listed(
+    mark: bool,
+    present: &[bool; 32],
+    histories: &[u16; 2048],
+    n: usize,
+    vote: u16,
+    stamp: u8,
+    threshold: u16,
+) -> bool
+    requires { ⌜ n ≤ 32 ⌝ }
+    ensures { λ r. ⌜ r ≡ (mark && ltb threshold
+        (tally (listing (now (present .entry)) (now (histories .entry)) vote stamp) n)) ⌝ }
+{
+    if mark {
+        return threshold < count_listing(present, histories, n, vote, stamp);
+    }
+    false
+}
+
+// The same of slot q. Where the slot before is marked and says the same, its answer holds again.
+fn is_next_listed(
+    marks: &[bool; 32],
+    present: &[bool; 32],
+    votes: &[u16; 32],
+    stamps: &[u8; 32],
+    histories: &[u16; 2048],
+    n: usize,
+    threshold: u16,
+    q: usize,
+    before: bool,
+) -> bool
+    requires { ⌜ (n ≤ 32) × (1 ≤ q) × (q < 32)
+        × (before ≡ listedAbove (now marks) (now present) (now votes) (now stamps) (now histories) n threshold
+        (q - 1)) ⌝ }
+    ensures { λ r. ⌜ r ≡ listedAbove (now (marks .entry)) (now (present .entry)) (now (votes .entry))
+        (now (stamps .entry)) (now (histories .entry)) n threshold q ⌝ }
+{
+    let again = marks[q - 1] & (votes[q] == votes[q - 1]) & (stamps[q] == stamps[q - 1]);
+    if again {
+        return marks[q] & before;
+    }
+    is_listed(
+        marks[q],
+        present,
+        histories,
+        n,
+        votes[q],
+        stamps[q],
+        threshold,
+    )
+}
+
 // Marks, of the marked slots, each whose vote more than `threshold` slots list at its stamp.
 fn mark_listed(
     marks: &[bool; 32],
@@ -162,7 +271,7 @@ fn mark_listed(
     stamps: &[u8; 32],
     histories: &[u16; 2048],
     n: usize,
-    threshold: usize,
+    threshold: u16,
 ) -> [bool; 32]
     requires { ⌜ n ≤ 32 ⌝ }
     ensures { λ r. ⌜ Marks r n
@@ -170,10 +279,28 @@ fn mark_listed(
         (now (histories .entry)) n threshold) ⌝ }
 {
     let mut out = [false; 32];
-    let mut q = 0;
+    out[0] = is_listed(
+        marks[0],
+        present,
+        histories,
+        n,
+        votes[0],
+        stamps[0],
+        threshold,
+    );
+    let mut q = 1;
     while q < n {
-        let listers = count_listing(present, histories, n, votes[q], stamps[q]);
-        out[q] = marks[q] & (threshold < listers);
+        out[q] = is_next_listed(
+            marks,
+            present,
+            votes,
+            stamps,
+            histories,
+            n,
+            threshold,
+            q,
+            out[q - 1],
+        );
         q = q + 1;
     }
     out
@@ -209,26 +336,22 @@ fn least_marked(marks: &[bool; 32], votes: &[u16; 32], n: usize) -> u16
 }
 
 // The higher of two counts, where the slot is marked.
-fn higher_of(mark: bool, count: usize, best: usize) -> usize
-    requires { ⌜ (count ≤ 32) × (best ≤ 32) ⌝ }
-    ensures { λ r. ⌜ (r ≡ cond (mark && ltb best count) count best) × (r ≤ 32) ⌝ }
+fn higher_of(mark: bool, count: u16, best: u16) -> u16
+    ensures { λ r. ⌜ r ≡ cond (mark && ltb best count) count best ⌝ }
 {
     let rises = mark & (best < count);
     if rises { count } else { best }
 }
 
-// How many votes the plan of most votes has.
-fn most_votes(present: &[bool; 32], votes: &[u16; 32], stamps: &[u8; 32], n: usize) -> usize
+// The highest count of the slots that are present, 0 where none is.
+fn highest_count(present: &[bool; 32], counts: &[u16; 32], n: usize) -> u16
     requires { ⌜ n ≤ 32 ⌝ }
-    ensures { λ r. ⌜ (r ≡ highest (marked (now (present .entry)))
-        (λ q. tally (supporting (now (present .entry)) (now (votes .entry)) (now (stamps .entry))
-        (getD (now (votes .entry)) q 0) 0) n) n) × (r ≤ 32) ⌝ }
+    ensures { λ r. ⌜ r ≡ highest (marked (now (present .entry))) (λ q. getD (now (counts .entry)) q 0) n ⌝ }
 {
-    let mut best = 0;
+    let mut best: u16 = 0;
     let mut q = 0;
     while q < n {
-        let supporters = count_supporting(present, votes, stamps, n, votes[q], 0);
-        best = higher_of(present[q], supporters, best);
+        best = higher_of(present[q], counts[q], best);
         q = q + 1;
     }
     best
@@ -302,11 +425,11 @@ fn is_countable(crew: Crew) -> bool
 }
 
 // 01's E = n − D + b.
-fn bound(crew: Crew) -> usize
+fn bound(crew: Crew) -> u16
     requires { ⌜ crew .d ≤ crew .n ⌝ }
     ensures { λ r. ⌜ (r ≡ E crew) × (r ≤ 510) ⌝ }
 {
-    (crew.n - crew.d) as usize + crew.b as usize
+    (crew.n - crew.d) as u16 + crew.b as u16
 }
 
 // Selection in class 1.
@@ -344,7 +467,7 @@ fn choose_two(
         (crew .n)) ⌝ }
 {
     let n = crew.n as usize;
-    let b = crew.b as usize;
+    let b = crew.b as u16;
     let e = bound(crew);
     let arrivals = count_marks(present, n);
     let possible = mark_above(present, present, votes, stamps, n, e, true);
@@ -367,7 +490,7 @@ fn choose_three(
         (crew .n)) ⌝ }
 {
     let n = crew.n as usize;
-    let b = crew.b as usize;
+    let b = crew.b as u16;
     let e = bound(crew);
     let possible = mark_above(present, present, votes, stamps, n, e, true);
     let backed = mark_listed(&possible, present, votes, stamps, histories, n, b);
@@ -414,11 +537,12 @@ fn any_plan(
         (crew .n)) ⌝ }
 {
     let n = crew.n as usize;
-    let most = most_votes(present, votes, stamps, n);
+    let counts = count_each(present, votes, stamps, n, false);
+    let most = highest_count(present, &counts, n);
     if most == 0 {
         return 0;
     }
-    let leaders = mark_above(present, present, votes, stamps, n, most - 1, false);
+    let leaders = mark_over(present, &counts, n, most - 1);
     least_marked(&leaders, votes, n)
 }
 
@@ -456,7 +580,7 @@ fn least_valid(
         (crew .n)) ⌝ }
 {
     let n = crew.n as usize;
-    let half = (n + crew.b as usize) / 2;
+    let half = (crew.n as u16 + crew.b as u16) / 2;
     let valid = mark_above(present, present, votes, stamps, n, half, false);
     least_marked(&valid, votes, n)
 }
@@ -506,15 +630,7 @@ fn least_deciding(
 {
     let n = crew.n as usize;
     let fresh = mark_fresh(crew, phase, present, stamps);
-    let deciding = mark_above(
-        present,
-        &fresh,
-        votes,
-        stamps,
-        n,
-        crew.d as usize - 1,
-        false,
-    );
+    let deciding = mark_above(present, &fresh, votes, stamps, n, crew.d as u16 - 1, false);
     least_marked(&deciding, votes, n)
 }
 

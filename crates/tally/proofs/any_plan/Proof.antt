@@ -1,32 +1,45 @@
 -- `any_plan` meets its contract.
-use mathlib.Core.Path.{sym, _∙_}
+use mathlib.Core.Bool.{_&&_}
+use mathlib.Core.Path.{_≡_, sym, ap, _∙_}
 use Prim.Native.Nat.{_≤_, _-_}
 use native.Mathlib.Omega.{arith}
+use lib.Dec.{ltb}
+use lib.ListN.{getD}
 use borrow.Author.Needs.{needs}
 use denote.Ref.{now}
 use Rattle.ballot.specs.Selection.{anyPlan, mostVoted, leading}
-use Rattle.tally.proofs.Ruling.{no-votes, least-of, leading-slot}
 use Rattle.inbox.specs.Columns.{columns, polled}
+use Rattle.tally.proofs.Marking.{highest-same}
+use Rattle.tally.proofs.Ruling.{most, votesFor, no-votes, least-of, leading-slot}
+use Rattle.tally.specs.Marks.{marked}
 use Rattle.tally.proofs.any_plan.Statement.{statement}
 use Rattle.tally.proofs.any_plan.Tie as tie
 
 cast-n : tie.Need-cast-n
 cast-n c = search needs
 
-most-votes-requires : tie.Need-most-votes-requires
-most-votes-requires c κs = search needs
+count-each-requires : tie.Need-count-each-requires
+count-each-requires c κs = search needs
+
+highest-count-requires : tie.Need-highest-count-requires
+highest-count-requires c κs = search needs
 
 returns : tie.Need-returns
 unfolding anyPlan
-returns c = let a = c .before .before .before .args in
+returns c =
+    let b4 = c .before .before .before .before in
+    let a = b4 .before .args in
     let read = columns (now (a .present)) (now (a .votes)) (now (a .stamps)) (now (a .histories)) in
-    sym (no-votes (a .crew) read (a .crew .n) (sym (c .before .most-votes .ensures .0) ∙ c .if1 .taken))
+    let highest : c .before .highest-count .result ≡ most (a .crew) read (a .crew .n) =
+    c .before .highest-count .ensures ∙ highest-same (marked (now (a .present))) _ _ (a .crew .n)
+    (c .before .before .before .count-each .ensures) in
+    sym (no-votes (a .crew) read (a .crew .n) (sym highest ∙ c .if1 .taken))
 
-sub-mark-above : tie.Need-sub-mark-above
-sub-mark-above c = search needs
+sub-mark-over : tie.Need-sub-mark-over
+sub-mark-over c = search needs
 
-mark-above-requires : tie.Need-mark-above-requires
-mark-above-requires c κs = search needs
+mark-over-requires : tie.Need-mark-over-requires
+mark-over-requires c κs = search needs
 
 least-marked-requires : tie.Need-least-marked-requires
 least-marked-requires c κs = search needs
@@ -35,23 +48,33 @@ returns-2 : tie.Need-returns-2
 unfolding anyPlan mostVoted
 returns-2 c =
     let b4 = c .before .before .before .before in
-    let a = b4 .before .before .args in
+    let b8 = b4 .before .before .before .before in
+    let a = b8 .before .args in
     let crew = a .crew in
     let read = columns (now (a .present)) (now (a .votes)) (now (a .stamps)) (now (a .histories)) in
-    let voted : 1 ≤ b4 .most-votes .result = omega (arith, c .before .before .before .if1 .left) in
-    let leaders = rw (b4 .most-votes .ensures .0) at (c .before .before .mark-above .ensures) in
+    let best = b4 .before .highest-count .result in
+    let highest : best ≡ most crew read (crew .n) =
+    b4 .before .highest-count .ensures ∙ highest-same (marked (now (a .present))) _ _ (crew .n)
+    (b4 .before .before .before .count-each .ensures) in
+    let voted : 1 ≤ most crew read (crew .n) = omega (arith, b4 .if1 .left, highest) in
     c .least-marked .ensures
-    ∙ sym (least-of crew read (crew .n) (leading (polled read (crew .n))) (c .before .before .mark-above .result)
-    (λ q less. leaders q less ∙ sym (leading-slot crew read (crew .n) (rw (b4 .most-votes .ensures .0) at voted) q)))
+    ∙ sym (least-of crew read (crew .n) (leading (polled read (crew .n))) (c .before .before .mark-over .result)
+    (λ q less. c .before .before .mark-over .ensures q less
+    ∙ ap (λ count. marked (now (a .present)) q && ltb (best - 1) count)
+    (b4 .before .before .before .count-each .ensures q less)
+    ∙ ap (λ top. marked (now (a .present)) q && ltb (top - 1) (votesFor crew read (crew .n) (getD (now
+    (a .votes)) q 0))) highest
+    ∙ sym (leading-slot crew read (crew .n) voted q)))
 
 pub any-plan-spec : {M : Type 1} → statement M
 any-plan-spec =
     tie.close
     (tie.spec
     cast-n
-    most-votes-requires
+    count-each-requires
+    highest-count-requires
     returns
-    sub-mark-above
-    mark-above-requires
+    sub-mark-over
+    mark-over-requires
     least-marked-requires
     returns-2)

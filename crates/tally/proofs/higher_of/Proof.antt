@@ -1,13 +1,12 @@
 -- `higher_of` meets its contract.
-use native.Mathlib.Omega.{arith}
 use Rattle.tally.proofs.higher_of.Statement.{statement}
 use Rattle.tally.proofs.higher_of.Tie as tie
 
 returns : tie.Need-returns
-returns c = (simp (c .if1 .taken), omega arith)
+returns c = simp (c .if1 .taken)
 
 returns-2 : tie.Need-returns-2
-returns-2 c = (simp (c .if1 .left), omega arith)
+returns-2 c = simp (c .if1 .left)
 
 pub higher-of-spec : {M : Type 1} → statement M
 higher-of-spec = tie.close (tie.spec returns returns-2)

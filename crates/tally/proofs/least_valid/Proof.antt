@@ -14,6 +14,9 @@ cast-n c = search needs
 cast-half : tie.Need-cast-half
 cast-half c = search needs
 
+cast-half-2 : tie.Need-cast-half-2
+cast-half-2 c = search needs
+
 add-half : tie.Need-add-half
 add-half c = search needs
 
@@ -25,7 +28,7 @@ least-marked-requires c κs = search needs
 
 returns : tie.Need-returns
 unfolding validated
-returns c = let a = c .before .before .before .before .before .args in
+returns c = let a = c .before .before .before .before .before .before .args in
     let crew = a .crew in
     let read = columns (now (a .present)) (now (a .votes)) (now (a .stamps)) (now (a .histories)) in
     c .least-marked .ensures
@@ -35,4 +38,4 @@ returns c = let a = c .before .before .before .before .before .args in
 pub least-valid-spec : {M : Type 1} → statement M
 least-valid-spec =
     tie.close
-    (tie.spec cast-n cast-half add-half mark-above-requires least-marked-requires returns)
+    (tie.spec cast-n cast-half cast-half-2 add-half mark-above-requires least-marked-requires returns)

@@ -1,8 +1,9 @@
--- `mark_listed` meets its contract. The invariant: the first q slots are marked as they should be.
+-- `mark_listed` meets its contract. The invariant: the first q slots are marked as they should be, slot 0 at least.
+use mathlib.Core.Bool.{false}
 use mathlib.Core.Path.{_≡_, refl, _∙_}
 use Prim.Native.Nat.{_≤_, _-_}
 use native.Mathlib.Omega.{arith}
-use lib.ListN.{length, length-set}
+use lib.ListN.{length, length-set, replicate}
 use borrow.Author.Needs.{needs}
 use denote.Ref.{now}
 use Rattle.tally.proofs.Marking.{marks-next}
@@ -11,34 +12,57 @@ use Rattle.tally.proofs.mark_listed.Statement.{statement}
 use Rattle.tally.proofs.mark_listed.Tie as tie
 
 abbrev Inv-loop : tie.InvT-loop
-Inv-loop marks present votes stamps histories n threshold out₀ q₀ out q =
-    (q ≤ n)
-    × (length out ≡ 32)
-    × Marks out q (listedAbove marks present votes stamps histories n threshold)
+Inv-loop marks present votes stamps histories n threshold out₀ q₀ out q = (1 ≤ q) × (q ≤ 32) ×
+    (length out ≡ 32) × Marks out q (listedAbove marks present votes stamps histories n threshold)
 
 abbrev μ-loop : tie.MeasureT-loop
 μ-loop marks present votes stamps histories n threshold out₀ q₀ out q = n - q
 
-loop-holds : tie.Need-loop-holds Inv-loop μ-loop
-loop-holds c = (omega arith, refl, λ k less. absurd (omega arith))
+element-copy-out-is-listed : tie.Need-element-copy-out-is-listed Inv-loop μ-loop
+element-copy-out-is-listed c = search needs
 
-mul-count-listing : tie.Need-mul-count-listing Inv-loop μ-loop
-mul-count-listing c = search needs
+element-copy-out-is-listed-2 : tie.Need-element-copy-out-is-listed-2 Inv-loop μ-loop
+element-copy-out-is-listed-2 c = search needs
 
-element-copy-out-count-listing : tie.Need-element-copy-out-count-listing Inv-loop μ-loop
-element-copy-out-count-listing c = search needs
+element-copy-out-is-listed-3 : tie.Need-element-copy-out-is-listed-3 Inv-loop μ-loop
+element-copy-out-is-listed-3 c = search needs
 
-element-copy-out-count-listing-2 : tie.Need-element-copy-out-count-listing-2 Inv-loop μ-loop
-element-copy-out-count-listing-2 c = search needs
-
-count-listing-requires : tie.Need-count-listing-requires Inv-loop μ-loop
-count-listing-requires c κs = search needs
-
-element-copy-out-out : tie.Need-element-copy-out-out Inv-loop μ-loop
-element-copy-out-out c = search needs
+is-listed-requires : tie.Need-is-listed-requires Inv-loop μ-loop
+is-listed-requires c κs = search needs
 
 array-write-out : tie.Need-array-write-out Inv-loop μ-loop
 array-write-out c = search needs
+
+loop-holds : tie.Need-loop-holds Inv-loop μ-loop
+loop-holds c =
+    let b4 = c .before .before .before .before in
+    let a = b4 .args in
+    let test = listedAbove (now (a .marks)) (now (a .present)) (now (a .votes)) (now (a .stamps)) (now
+    (a .histories)) (a .n) (a .threshold) in (
+      omega arith,
+      omega arith,
+      refl,
+      marks-next (replicate 32 false) 0 test _ (omega arith) (λ k less. absurd
+          (omega arith)) (c .is-listed .ensures),
+    )
+
+sub-is-next-listed : tie.Need-sub-is-next-listed Inv-loop μ-loop
+sub-is-next-listed c = search needs
+
+array-read-is-next-listed : tie.Need-array-read-is-next-listed Inv-loop μ-loop
+array-read-is-next-listed c = search needs
+
+is-next-listed-requires : tie.Need-is-next-listed-requires Inv-loop μ-loop
+is-next-listed-requires c κs = (
+  omega arith,
+  omega arith,
+  omega arith,
+  c .before .loop .inv .3
+      (c .before .loop .q - 1) (omega arith),
+)
+
+array-write-out-2 : tie.Need-array-write-out-2 Inv-loop μ-loop
+array-write-out-2 c = search needs
 
 add-q : tie.Need-add-q Inv-loop μ-loop
 add-q c = search needs
@@ -49,25 +73,19 @@ loop-less c = search needs
 loop-again : tie.Need-loop-again Inv-loop μ-loop
 loop-again c =
     let b4 = c .before .before .before .before in
-    let b4 = b4 in
-    let a = b4 .before .before .args in
-    let l = b4 .before .loop in
-    let test = listedAbove (now (a .marks)) (now (a .present)) (now (a .votes)) (now (a .stamps))
-    (now (a .histories)) (a .n) (a .threshold) in (
+    let a = b4 .before .before .before .args in
+    let l = c .before .before .loop in
+    let test = listedAbove (now (a .marks)) (now (a .present)) (now (a .votes)) (now (a .stamps)) (now
+    (a .histories)) (a .n) (a .threshold) in (
       omega arith,
-      length-set (l .out) (l .q) _ ∙ l .inv .1,
-      marks-next (l .out) (l .q) test _ (omega (arith, l .inv .1, b4 .loop-test .taken)) (l .inv .2)
-          (simp (c .before .count-listing .ensures .0)),
+      omega arith,
+      length-set (l .out) (l .q) _ ∙ l .inv .2,
+      marks-next (l .out) (l .q) test _ (omega (arith, l .inv .2, c .before .loop-test .taken)) (l .inv .3)
+          (c .is-next-listed .ensures),
     )
 
 returns : tie.Need-returns Inv-loop μ-loop
-returns c =
-    let done : c .before .loop .q ≡ c .before .before .args .n = omega (
-      arith,
-      c .before .loop .inv .0,
-      c .loop-test .left,
-    ) in
-    λ k less. c .before .loop .inv .2 k (omega arith)
+returns c = λ k less. c .before .loop .inv .3 k (omega (arith, c .loop-test .left, less))
 
 pub mark-listed-spec : {M : Type 1} → statement M
 mark-listed-spec =
@@ -75,13 +93,16 @@ mark-listed-spec =
     (tie.spec
     Inv-loop
     μ-loop
-    loop-holds
-    mul-count-listing
-    element-copy-out-count-listing
-    element-copy-out-count-listing-2
-    count-listing-requires
-    element-copy-out-out
+    element-copy-out-is-listed
+    element-copy-out-is-listed-2
+    element-copy-out-is-listed-3
+    is-listed-requires
     array-write-out
+    loop-holds
+    sub-is-next-listed
+    array-read-is-next-listed
+    is-next-listed-requires
+    array-write-out-2
     add-q
     loop-less
     loop-again

@@ -1,0 +1,119 @@
+-- `count_each` meets its contract. The invariant: the first q slots are counted, slot 0 at least.
+use mathlib.Core.Path.{_≡_, refl, ap, _∙_}
+use Prim.Native.Nat.{_≤_, _-_}
+use native.Mathlib.Omega.{arith}
+use lib.ListN.{length, length-set, getD, replicate}
+use borrow.Author.Needs.{needs}
+use denote.Ref.{now}
+use Rattle.ballot.specs.Count.{tally}
+use Rattle.tally.proofs.Marking.{counts-next}
+use Rattle.tally.specs.Marks.{Counts, supporting, supporters}
+use Rattle.tally.proofs.count_each.Statement.{statement}
+use Rattle.tally.proofs.count_each.Tie as tie
+
+abbrev Inv-loop : tie.InvT-loop
+Inv-loop marks votes stamps n stamped counts₀ below q₀ counts q = (1 ≤ q) × (q ≤ 32) ×
+    (length counts ≡ 32) × Counts counts q (supporters marks votes stamps n stamped)
+
+abbrev μ-loop : tie.MeasureT-loop
+μ-loop marks votes stamps n stamped counts₀ below q₀ counts q = n - q
+
+element-copy-out-below-of : tie.Need-element-copy-out-below-of Inv-loop μ-loop
+element-copy-out-below-of c = search needs
+
+below-of-requires : tie.Need-below-of-requires Inv-loop μ-loop
+below-of-requires c κs = search needs
+
+element-copy-out-count-supporting : tie.Need-element-copy-out-count-supporting Inv-loop μ-loop
+element-copy-out-count-supporting c = search needs
+
+count-supporting-requires : tie.Need-count-supporting-requires Inv-loop μ-loop
+count-supporting-requires c κs = search needs
+
+array-write-counts : tie.Need-array-write-counts Inv-loop μ-loop
+array-write-counts c = search needs
+
+loop-holds : tie.Need-loop-holds Inv-loop μ-loop
+loop-holds c =
+    let b4 = c .before .before .before .before in
+    let a = b4 .args in
+    let number = supporters (now (a .marks)) (now (a .votes)) (now (a .stamps)) (a .n) (a .stamped) in
+    let first = c .count-supporting .ensures .0
+    ∙ ap (λ below. tally (supporting (now (a .marks)) (now (a .votes)) (now (a .stamps)) (getD (now
+    (a .votes)) 0 0) below) (a .n))
+    (c .before .before .below-of .ensures) in (
+      omega arith,
+      omega arith,
+      refl,
+      counts-next (replicate 32 0) 0 number _ (omega arith) (λ k less. absurd
+          (omega arith)) first,
+    )
+
+sub-count-next : tie.Need-sub-count-next Inv-loop μ-loop
+sub-count-next c = search needs
+
+mul-count-next : tie.Need-mul-count-next Inv-loop μ-loop
+mul-count-next c = search needs
+
+array-read-count-next : tie.Need-array-read-count-next Inv-loop μ-loop
+array-read-count-next c = search needs
+
+count-next-requires : tie.Need-count-next-requires Inv-loop μ-loop
+count-next-requires c κs = (
+  omega arith,
+  omega arith,
+  omega arith,
+  c .before .loop .inv .3
+      (c .before .loop .q - 1) (omega arith),
+)
+
+mul-counts : tie.Need-mul-counts Inv-loop μ-loop
+mul-counts c = search needs
+
+array-write-counts-2 : tie.Need-array-write-counts-2 Inv-loop μ-loop
+array-write-counts-2 c = search needs
+
+add-q : tie.Need-add-q Inv-loop μ-loop
+add-q c = search needs
+
+loop-less : tie.Need-loop-less Inv-loop μ-loop
+loop-less c = search needs
+
+loop-again : tie.Need-loop-again Inv-loop μ-loop
+loop-again c =
+    let b4 = c .before .before .before .before in
+    let a = b4 .before .before .before .args in
+    let l = c .before .before .loop in
+    let number = supporters (now (a .marks)) (now (a .votes)) (now (a .stamps)) (a .n) (a .stamped) in (
+      omega arith,
+      omega arith,
+      length-set (l .counts) (l .q) _ ∙ l .inv .2,
+      counts-next (l .counts) (l .q) number _ (omega (arith, l .inv .2, c .before .loop-test .taken)) (l .inv .3)
+          (c .count-next .ensures),
+    )
+
+returns : tie.Need-returns Inv-loop μ-loop
+returns c = λ k less. c .before .loop .inv .3 k (omega (arith, c .loop-test .left, less))
+
+pub count-each-spec : {M : Type 1} → statement M
+count-each-spec =
+    tie.close
+    (tie.spec
+    Inv-loop
+    μ-loop
+    element-copy-out-below-of
+    below-of-requires
+    element-copy-out-count-supporting
+    count-supporting-requires
+    array-write-counts
+    loop-holds
+    sub-count-next
+    mul-count-next
+    array-read-count-next
+    count-next-requires
+    mul-counts
+    array-write-counts-2
+    add-q
+    loop-less
+    loop-again
+    returns)

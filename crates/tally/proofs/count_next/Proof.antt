@@ -1,0 +1,90 @@
+-- `count_next` meets its contract.
+use mathlib.Core.Path.{sym, ap, ap₂, _∙_}
+use lib.ListN.{getD}
+use borrow.Author.Needs.{needs}
+use borrow.Author.Tests.{eqb-true}
+use denote.Ref.{now}
+use Rattle.ballot.specs.Count.{tally}
+use Rattle.tally.specs.Marks.{supporting}
+use Rattle.wire.proofs.Tests.{both-true}
+use Rattle.tally.proofs.count_next.Statement.{statement}
+use Rattle.tally.proofs.count_next.Tie as tie
+
+element-copy-out-below-of : tie.Need-element-copy-out-below-of
+element-copy-out-below-of c = search needs
+
+below-of-requires : tie.Need-below-of-requires
+below-of-requires c κs = search needs
+
+sub-below-of : tie.Need-sub-below-of
+sub-below-of c = search needs
+
+element-copy-out-below-of-2 : tie.Need-element-copy-out-below-of-2
+element-copy-out-below-of-2 c = search needs
+
+below-of-requires-2 : tie.Need-below-of-requires-2
+below-of-requires-2 c κs = search needs
+
+mul-again : tie.Need-mul-again
+mul-again c = search needs
+
+element-copy-out-again : tie.Need-element-copy-out-again
+element-copy-out-again c = search needs
+
+sub-again : tie.Need-sub-again
+sub-again c = search needs
+
+mul-again-2 : tie.Need-mul-again-2
+mul-again-2 c = search needs
+
+element-copy-out-again-2 : tie.Need-element-copy-out-again-2
+element-copy-out-again-2 c = search needs
+
+returns : tie.Need-returns
+returns c =
+    let b4 = c .before .before .before .before in
+    let a = b4 .before .before .before .args in
+    let same = both-true _ _ (c .if1 .taken) in
+    b4 .before .before .before .pre .3
+    ∙ ap₂ (λ v below. tally (supporting (now (a .marks)) (now (a .votes)) (now (a .stamps)) v below) (a .n))
+    (sym (eqb-true _ _ (same .0))) (sym (c .before .before .before .below-of2 .ensures) ∙ sym (eqb-true _ _
+    (same .1)) ∙ b4 .before .below-of .ensures)
+
+mul-count-supporting : tie.Need-mul-count-supporting
+mul-count-supporting c = search needs
+
+element-copy-out-count-supporting : tie.Need-element-copy-out-count-supporting
+element-copy-out-count-supporting c = search needs
+
+count-supporting-requires : tie.Need-count-supporting-requires
+count-supporting-requires c κs = search needs
+
+returns-2 : tie.Need-returns-2
+returns-2 c =
+    let b4 = c .before .before .before .before in
+    let b8 = b4 .before .before .before .before in
+    let a = b8 .before .args in
+    c .count-supporting .ensures .0
+    ∙ ap (λ below. tally (supporting (now (a .marks)) (now (a .votes)) (now (a .stamps)) (getD (now (a .votes))
+    (a .q) 0) below) (a .n))
+    (b4 .before .before .before .below-of .ensures)
+
+pub count-next-spec : {M : Type 1} → statement M
+count-next-spec =
+    tie.close
+    (tie.spec
+    element-copy-out-below-of
+    below-of-requires
+    sub-below-of
+    element-copy-out-below-of-2
+    below-of-requires-2
+    mul-again
+    element-copy-out-again
+    sub-again
+    mul-again-2
+    element-copy-out-again-2
+    returns
+    mul-count-supporting
+    element-copy-out-count-supporting
+    count-supporting-requires
+    returns-2)

@@ -1,0 +1,70 @@
+-- `mark_over` meets its contract. The invariant: the first q slots are marked as they should be.
+use mathlib.Core.Path.{_≡_, refl, _∙_}
+use Prim.Native.Nat.{_≤_, _-_}
+use native.Mathlib.Omega.{arith}
+use lib.ListN.{length, length-set, getD}
+use borrow.Author.Needs.{needs}
+use denote.Ref.{now}
+use Rattle.tally.proofs.Marking.{marks-next}
+use Rattle.tally.specs.Marks.{Marks, over}
+use Rattle.tally.proofs.mark_over.Statement.{statement}
+use Rattle.tally.proofs.mark_over.Tie as tie
+
+abbrev Inv-loop : tie.InvT-loop
+Inv-loop present counts n threshold out₀ q₀ out q = (q ≤ n) × (length out ≡ 32) × Marks out q (over present
+    (λ k. getD counts k 0) threshold)
+
+abbrev μ-loop : tie.MeasureT-loop
+μ-loop present counts n threshold out₀ q₀ out q = n - q
+
+loop-holds : tie.Need-loop-holds Inv-loop μ-loop
+loop-holds c = (omega arith, refl, λ k less. absurd (omega arith))
+
+element-copy-out-out : tie.Need-element-copy-out-out Inv-loop μ-loop
+element-copy-out-out c = search needs
+
+mul-out : tie.Need-mul-out Inv-loop μ-loop
+mul-out c = search needs
+
+element-copy-out-out-2 : tie.Need-element-copy-out-out-2 Inv-loop μ-loop
+element-copy-out-out-2 c = search needs
+
+array-write-out : tie.Need-array-write-out Inv-loop μ-loop
+array-write-out c = search needs
+
+add-q : tie.Need-add-q Inv-loop μ-loop
+add-q c = search needs
+
+loop-less : tie.Need-loop-less Inv-loop μ-loop
+loop-less c = search needs
+
+loop-again : tie.Need-loop-again Inv-loop μ-loop
+loop-again c =
+    let b4 = c .before .before .before .before in
+    let a = b4 .args in
+    let l = c .before .before .before .loop in
+    let test = over (now (a .present)) (λ k. getD (now (a .counts)) k 0) (a .threshold) in (
+      omega arith,
+      length-set (l .out) (l .q) _ ∙ l .inv .1,
+      marks-next (l .out) (l .q) test _ (omega (arith, l .inv .1, c .before .before .loop-test .taken))
+          (l .inv .2) refl,
+    )
+
+returns : tie.Need-returns Inv-loop μ-loop
+returns c = λ k less. c .before .loop .inv .2 k (omega (arith, c .loop-test .left, less))
+
+pub mark-over-spec : {M : Type 1} → statement M
+mark-over-spec =
+    tie.close
+    (tie.spec
+    Inv-loop
+    μ-loop
+    loop-holds
+    element-copy-out-out
+    mul-out
+    element-copy-out-out-2
+    array-write-out
+    add-q
+    loop-less
+    loop-again
+    returns)
