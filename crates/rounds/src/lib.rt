@@ -29,9 +29,6 @@ ghost use Rattle.rounds.specs.Taking.{
 };
 ghost use Rattle.rounds.specs.Asking.{askOf, answered as askedAs};
 
-// The class whose selection goes by what histories list.
-const BY_LISTS: u8 = 3;
-
 // Why a round is not taken, or a selection not told; `number` in specs/Taking.antt has 01's numbers.
 pub enum Refusal {
     Unsound,
@@ -154,7 +151,7 @@ fn after_round(node: Node, inbox: &[u8]) -> Node
     let mut present = [false; SLOTS];
     let mut votes = [0u16; SLOTS];
     let mut stamps = [0u8; SLOTS];
-    let by_lists = (node.round == Node::SELECTION) & (node.crew.class == BY_LISTS);
+    let by_lists = (node.round == Node::SELECTION) & (node.crew.class == Node::LISTING_CLASS);
     if by_lists {
         let mut histories = [0u16; PLACES];
         inbox::read_slots(
@@ -239,7 +236,7 @@ fn choose(node: Node, inbox: &[u8]) -> Choice
     let mut present = [false; SLOTS];
     let mut votes = [0u16; SLOTS];
     let mut stamps = [0u8; SLOTS];
-    if node.crew.class == BY_LISTS {
+    if node.crew.class == Node::LISTING_CLASS {
         let mut histories = [0u16; PLACES];
         inbox::read_slots(
             inbox,

@@ -194,8 +194,17 @@ fn mark_above(
         (above (now (present .entry)) (now (marks .entry)) (now (votes .entry)) (now (stamps .entry)) n threshold
         stamped) ⌝ }
 {
-    let counts = count_each(marks, votes, stamps, n, stamped);
-    mark_over(present, &counts, n, threshold)
+    let mut out = [false; 32];
+    let below = below_of(stamped, stamps[0]);
+    let mut count = count_supporting(marks, votes, stamps, n, votes[0], below);
+    out[0] = present[0] & (threshold < count);
+    let mut q = 1;
+    while q < n {
+        count = count_next(marks, votes, stamps, n, stamped, q, count);
+        out[q] = present[q] & (threshold < count);
+        q = q + 1;
+    }
+    out
 }
 
 // Marks each slot with this stamp.
