@@ -1,6 +1,6 @@
 // The drill: from the bytes of a script to the bytes of its output, over the engine's promises alone.
-// specs/Run.antt says what a whole script prints, specs/Steps.antt what each line may ask for and changes; what a go does
-// among the nodes is crate aisle's. proofs/Bound.antt bounds the output of every script.
+// specs/Run.antt says what a whole script prints, specs/Steps.antt what each line may ask for and changes; what a go
+// does among the nodes is crate aisle's. proofs/Bound.antt bounds the output of every script.
 use aisle::State;
 use crew::Acceptance;
 use crew::Crew;
@@ -81,8 +81,8 @@ fn is_allowed(state: State, command: Command) -> bool
 }
 
 // Writes out the part of the output that is new. Standard output may be closed: the drill goes on all the same. A line
-// that does not fit into the buffer is not written out. What goes out is in no contract: no C function promises it, and a
-// program's output is compared with its file.
+// that does not fit into the buffer is not written out. What goes out is in no contract: no C function promises it, and
+// a program's output is compared with its file.
 fn show(out: &[u8], from: usize, to: usize) -> bool {
     if out.len() < to {
         return false;

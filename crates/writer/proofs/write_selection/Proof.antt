@@ -7,7 +7,12 @@ use borrow.Author.Needs.{needs}
 use denote.Ref.{now}
 use Rattle.wire.specs.Outcome.{accepted}
 use Rattle.message.proofs.EncodeLaws.{entry-bytes-length}
-use Rattle.writer.proofs.WriteLaws.{allowed-within, selection-written, selection-too-short, selection-out-of-bounds}
+use Rattle.writer.proofs.WriteLaws.{
+  allowed-within,
+  selection-written,
+  selection-too-short,
+  selection-out-of-bounds,
+}
 use Rattle.message.specs.Encoding.{encode}
 use Rattle.writer.specs.Writing.{listed}
 use Rattle.writer.proofs.write_selection.Statement.{statement}
