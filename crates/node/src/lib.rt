@@ -246,7 +246,8 @@ impl Node {
         phase + 1
     }
 
-    // No plan stands at a phase that has no selection yet. All entries are tested, as the compiler tests several at once.
+    // No plan stands at a phase that has no selection yet. All entries are tested: the compiler then tests several at
+    // once.
     fn is_empty_ahead(self) -> bool
         ensures { λ r. ⌜ r ≡ restEmpty self ⌝ }
     {
