@@ -12,7 +12,7 @@ use lib.ListN.{length, getD, set}
 use lib.Seq.{getD-set-same, getD-set-other}
 use borrow.Author.Tests.{ltb-true, ltb-false}
 use Rattle.ballot.specs.Least.{lower, orZero}
-use Rattle.tally.specs.Marks.{Marks, Counts, leastMarked, highest}
+use Rattle.tally.specs.Marks.{Marks, Counts, orTop, leastMarked, highest}
 use Rattle.inbox.proofs.Rows.{by-equality}
 
 -- one slot more of a column is as it should be
@@ -32,11 +32,6 @@ marks-next marks q test mark = column-next marks q test mark false
 pub counts-next : (counts : List ℕ) (q : ℕ) (number : ℕ → ℕ) (count : ℕ) → q < length counts
     → Counts counts q number → count ≡ number q → Counts (set counts q count) (q + 1) number
 counts-next counts q number count = column-next counts q number count 0
-
--- past all votes, where none is marked
-abbrev pub orTop : Option ℕ → ℕ
-orTop none = 65536
-orTop (some v) = v
 
 -- no marked slot, or its vote, as the loop's number says
 pub top-none : (o : Option ℕ) → 65536 ≤ orTop o → ((v : ℕ) → o ≡ some v → v < 65536) → 0 ≡ orZero o

@@ -73,10 +73,22 @@ unfoldable pub leastMarked : (ℕ → Bool) → (ℕ → ℕ) → ℕ → Option
 leastMarked test vote zero = none
 leastMarked test vote (suc n) = cond (test n) (lower (vote n) (leastMarked test vote n)) (leastMarked test vote n)
 
+-- a least vote as one number: past all votes where there is none
+abbrev pub orTop : Option ℕ → ℕ
+orTop none = 65536
+orTop (some v) = v
+
+abbrev pub TopOf : ℕ → Option ℕ → Type 0
+TopOf number o = (number ≡ orTop o) × ((v : ℕ) → o ≡ some v → v < 65536)
+
+-- a marked slot has another vote
+abbrev pub besideIt : (ℕ → Bool) → (ℕ → ℕ) → ℕ → ℕ → Bool
+besideIt test vote v q = test q && not (eqb (vote q) v)
+
 -- the votes of the marked slots: none, exactly one, or more
 abbrev pub besidesMarked : (ℕ → Bool) → (ℕ → ℕ) → ℕ → Option ℕ → Backing
 besidesMarked test vote n none = nobody
-besidesMarked test vote n (some v) = cond (eqb (tally (λ q. test q && not (eqb (vote q) v)) n) 0) (sole v) several
+besidesMarked test vote n (some v) = cond (eqb (tally (besideIt test vote v) n) 0) (sole v) several
 
 abbrev pub backingMarked : (ℕ → Bool) → (ℕ → ℕ) → ℕ → Backing
 backingMarked test vote n = besidesMarked test vote n (leastMarked test vote n)

@@ -29,12 +29,17 @@ ghost use Rattle.tally.specs.Marks.{
   freshSlot,
   listing,
   listedAbove,
+  TopOf,
   leastMarked,
+  besideIt,
   backingMarked,
   backingAs,
   highest,
 };
 ghost use Rattle.tally.specs.Rules.{countable, byVotes, choiceAs, choiceOf, selected, validIn, decidedIn};
+
+// One past every vote.
+const TOP: u32 = 65536;
 
 fn one_if(test: bool) -> u16
     ensures { λ r. ⌜ (r ≡ bit test) × (r ≤ 1) ⌝ }
@@ -331,19 +336,42 @@ fn lower_of(mark: bool, vote: u16, least: u32) -> u32
     if lowers { wide(vote) } else { least }
 }
 
-// The least vote of the marked slots, 0 where there is none.
-fn least_marked(marks: &[bool; 32], votes: &[u16; 32], n: usize) -> u16
+// The least vote of the marked slots, or the number past every vote where there is none.
+fn least_or_top(marks: &[bool; 32], votes: &[u16; 32], n: usize) -> u32
     requires { ⌜ n ≤ 32 ⌝ }
-    ensures { λ r. ⌜ r ≡ orZero (leastMarked (marked (now (marks .entry))) (λ q. getD (now (votes .entry)) q 0) n) ⌝ }
+    ensures { λ r. ⌜ TopOf r (leastMarked (marked (now (marks .entry))) (λ q. getD (now (votes .entry)) q 0) n) ⌝ }
 {
-    // One past every vote: no slot has been marked so far.
-    let mut least: u32 = 65536;
+    let mut least: u32 = TOP;
     let mut q = 0;
     while q < n {
         least = lower_of(marks[q], votes[q], least);
         q = q + 1;
     }
-    if least < 65536 { least as u16 } else { 0 }
+    least
+}
+
+// The least vote of the marked slots, 0 where there is none.
+fn least_marked(marks: &[bool; 32], votes: &[u16; 32], n: usize) -> u16
+    requires { ⌜ n ≤ 32 ⌝ }
+    ensures { λ r. ⌜ r ≡ orZero (leastMarked (marked (now (marks .entry))) (λ q. getD (now (votes .entry)) q 0) n) ⌝ }
+{
+    let least = least_or_top(marks, votes, n);
+    if least < TOP { least as u16 } else { 0 }
+}
+
+// How many marked slots have another vote.
+fn count_others(marks: &[bool; 32], votes: &[u16; 32], n: usize, vote: u16) -> u16
+    requires { ⌜ n ≤ 32 ⌝ }
+    ensures { λ r. ⌜ (r ≡ tally (besideIt (marked (now (marks .entry))) (λ q. getD (now (votes .entry)) q 0) vote) n)
+        × (r ≤ n) ⌝ }
+{
+    let mut count: u16 = 0;
+    let mut q = 0;
+    while q < n {
+        count = count + one_if(marks[q] & !(votes[q] == vote));
+        q = q + 1;
+    }
+    count
 }
 
 // The higher of two counts, where the slot is marked.
@@ -382,21 +410,21 @@ pub enum Choice {
     Nothing,
 }
 
-// Exactly one vote is backed where all marked slots have the least one.
-fn backing_of(marks: &[bool; 32], votes: &[u16; 32], stamps: &[u8; 32], n: usize) -> Backing
+// Exactly one vote is backed where no marked slot has another than the least one.
+fn backing_of(marks: &[bool; 32], votes: &[u16; 32], n: usize) -> Backing
     requires { ⌜ n ≤ 32 ⌝ }
     ensures { λ r. ⌜ backingAs r ≡ backingMarked (marked (now (marks .entry))) (λ q. getD (now (votes .entry)) q 0)
         n ⌝ }
 {
-    let all = count_marks(marks, n);
-    if all == 0 {
-        return Backing::Nobody;
+    let top = least_or_top(marks, votes, n);
+    if top < TOP {
+        let least = top as u16;
+        if count_others(marks, votes, n, least) == 0 {
+            return Backing::Sole(least);
+        }
+        return Backing::Several;
     }
-    let least = least_marked(marks, votes, n);
-    if count_supporting(marks, votes, stamps, n, least, 0) == all {
-        return Backing::Sole(least);
-    }
-    Backing::Several
+    Backing::Nobody
 }
 
 fn any_if(enough: bool) -> Choice
@@ -454,7 +482,7 @@ fn choose_one(crew: Crew, present: &[bool; 32], votes: &[u16; 32], stamps: &[u8;
     let e = bound(crew);
     let arrivals = count_marks(present, n);
     let backed = mark_above(present, present, votes, stamps, n, e, false);
-    let backing = backing_of(&backed, votes, stamps, n);
+    let backing = backing_of(&backed, votes, n);
     answer_below_three(backing, 2 * e < arrivals)
 }
 
@@ -471,7 +499,7 @@ fn choose_two(crew: Crew, present: &[bool; 32], votes: &[u16; 32], stamps: &[u8;
     let arrivals = count_marks(present, n);
     let possible = mark_above(present, present, votes, stamps, n, e, true);
     let backed = mark_above(present, &possible, votes, stamps, n, b, false);
-    let backing = backing_of(&backed, votes, stamps, n);
+    let backing = backing_of(&backed, votes, n);
     answer_below_three(backing, e + b < arrivals)
 }
 
@@ -493,7 +521,7 @@ fn choose_three(
     let e = bound(crew);
     let possible = mark_above(present, present, votes, stamps, n, e, true);
     let backed = mark_listed(&possible, present, votes, stamps, histories, n, b);
-    let backing = backing_of(&backed, votes, stamps, n);
+    let backing = backing_of(&backed, votes, n);
     let unstamped = mark_stamped(present, stamps, n, 0);
     answer_three(backing, e < count_marks(&unstamped, n))
 }

@@ -1,0 +1,73 @@
+-- `count_others` meets its contract. The invariant: the count is that of the first q slots.
+use mathlib.Core.Bool.{Bool}
+use mathlib.Core.Path.{_≡_}
+use Prim.Native.Nat.{ℕ, _≤_, _-_}
+use native.Mathlib.Omega.{arith}
+use lib.ListN.{getD}
+use borrow.Author.Needs.{needs}
+use denote.Ref.{now}
+use Rattle.ballot.specs.Count.{tally}
+use Rattle.tally.proofs.Tallies.{tally-next}
+use Rattle.tally.specs.Marks.{marked, besideIt}
+use Rattle.tally.proofs.count_others.Statement.{statement}
+use Rattle.tally.proofs.count_others.Tie as tie
+
+abbrev Inv-loop : tie.InvT-loop
+Inv-loop marks votes n vote count₀ q₀ count q =
+    (q ≤ n) × (count ≡ tally (besideIt (marked marks) (λ k. getD votes k 0) vote) q) × (count ≤ q)
+
+abbrev μ-loop : tie.MeasureT-loop
+μ-loop marks votes n vote count₀ q₀ count q = n - q
+
+loop-holds : tie.Need-loop-holds Inv-loop μ-loop
+unfolding tally
+loop-holds c = search needs
+
+element-copy-out-one-if : tie.Need-element-copy-out-one-if Inv-loop μ-loop
+element-copy-out-one-if c = search needs
+
+mul-one-if : tie.Need-mul-one-if Inv-loop μ-loop
+mul-one-if c = search needs
+
+element-copy-out-one-if-2 : tie.Need-element-copy-out-one-if-2 Inv-loop μ-loop
+element-copy-out-one-if-2 c = search needs
+
+one-if-requires : tie.Need-one-if-requires Inv-loop μ-loop
+one-if-requires c κs = search needs
+
+add-count : tie.Need-add-count Inv-loop μ-loop
+add-count c = search needs
+
+add-q : tie.Need-add-q Inv-loop μ-loop
+add-q c = search needs
+
+loop-less : tie.Need-loop-less Inv-loop μ-loop
+loop-less c = search needs
+
+loop-again : tie.Need-loop-again Inv-loop μ-loop
+loop-again c = let a = c .before .before .before .before .before .args in
+    let test : ℕ → Bool = besideIt (marked (now (a .marks))) (λ k. getD (now (a .votes)) k 0) (a .vote) in
+    omega (arith, tally-next test (c .before .before .before .before .loop .q), c .one-if .ensures)
+
+returns : tie.Need-returns Inv-loop μ-loop
+returns c =
+    let l = c .before .loop in
+    let done : l .q ≡ c .before .before .args .n = omega (arith, l .inv .0, c .loop-test .left) in
+    rw (← done) (l .inv .1, l .inv .2)
+
+pub count-others-spec : {M : Type 1} → statement M
+count-others-spec =
+    tie.close
+    (tie.spec
+    Inv-loop
+    μ-loop
+    loop-holds
+    element-copy-out-one-if
+    mul-one-if
+    element-copy-out-one-if-2
+    one-if-requires
+    add-count
+    add-q
+    loop-less
+    loop-again
+    returns)
