@@ -10,7 +10,7 @@ use lib.ListN.{length}
 use lib.Dec.{T, ltb, eqb}
 use borrow.Author.Tests.{lt-ltb, le-ltb, le-leb, lt-leb, eq-eqb, ne-eqb, ltb-true, eqb-true}
 use Rattle.wire.specs.Outcome.{accepted, refused}
-use Rattle.wire.proofs.Outcomes.{passed}
+use Rattle.wire.proofs.Outcomes.{passed, same-value}
 use Rattle.node.specs.declared.Node.{Node}
 use Rattle.node.specs.Soundness.{sound}
 use Rattle.node.specs.Sending.{comingBytes, writeOf}
@@ -25,9 +25,6 @@ pub record Takes (d : Node) (inbox : List ℕ) (e : Node) : Type 0 where
   pub left : d .phase < 64
   pub long : length inbox ≡ 202 * d .crew .n
   pub is-after : afterRound d (ballots d inbox) ≡ e
-
-same-value : {A : Type 0} {a b : A} → accepted a ≡ accepted b → a ≡ b
-same-value e = cc
 
 pub take-accepted : (d : Node) (inbox : List ℕ) (e : Node) → takeOf d inbox ≡ accepted e → Takes d inbox e
 unfolding takeOf

@@ -9,9 +9,8 @@ use Prim.Native.Nat.{ℕ, _*_, _<_}
 use native.Mathlib.Omega.{arith}
 use native.Mathlib.Decide.{decLt}
 use lib.ListN.{length, List·getD-eq-default}
-use Rattle.wire.specs.Outcome.{accepted, refused, valueOr}
+use Rattle.wire.specs.Outcome.{accepted, refused, valueOr, isAccepted}
 use Rattle.node.specs.declared.Node.{Node}
-use Rattle.node.specs.Soundness.{isAccepted}
 use Rattle.rounds.specs.Taking.{takeOf}
 use Rattle.agreement.specs.Statement.{Call, write, ask, take-round, Listing, afterCall, afterCalls, callsOf}
 use Rattle.agreement.specs.Statement.{recordAt, takenInbox, inboxAt, Puts, Wrote, Asks, Whole}

@@ -9,7 +9,7 @@ use native.Mathlib.Omega.{arith}
 use native.Mathlib.Decide.{decLt}
 use lib.ListN.{length}
 use lib.Dec.{T, leb, leb→le, le→leb, ltb→lt}
-use Rattle.wire.specs.Outcome.{accepted}
+use Rattle.wire.specs.Outcome.{accepted, isAccepted}
 use Rattle.crew.specs.declared.Crew.{Crew}
 use Rattle.crew.specs.Thresholds.{classOf}
 use Rattle.ballot.specs.Count.{tally, holds}
@@ -22,7 +22,6 @@ use Rattle.model.specs.Run.{state, Held, DecidesAt}
 use Rattle.model.proofs.Theorems as engine
 use Rattle.node.specs.declared.Node.{Node}
 use Rattle.node.specs.Record.{begun}
-use Rattle.node.specs.Soundness.{isAccepted}
 use Rattle.node.proofs.StartLaws.{start-accepted}
 use Rattle.inbox.specs.Inbox.{ballotAt}
 use Rattle.agreement.specs.Statement.{Listing, answerTo, made, honest, recordOf, recordAt}

@@ -10,7 +10,7 @@ use mathlib.Core.Option.{Option, none, some}
 use Prim.Native.Nat.{ℕ, zero, suc, _+_, _*_, _/_, _%_, _^_, _≤_, _<_}
 use lib.ListN.{length, getD, take}
 use lib.Dec.{T, ltb, eqb}
-use Rattle.wire.specs.Outcome.{Outcome, accepted, refused, valueOr}
+use Rattle.wire.specs.Outcome.{Outcome, accepted, refused, valueOr, isAccepted}
 use Rattle.wire.specs.Bytes.{AreBytes}
 use Rattle.crew.specs.declared.Crew.{Crew}
 use Rattle.crew.specs.Acceptance.{acceptOf}
@@ -20,7 +20,6 @@ use Rattle.ballot.specs.Ballot.{Ballot, votes, sameBallot}
 use Rattle.ballot.specs.Decision.{fresh}
 use Rattle.node.specs.declared.Node.{Node}
 use Rattle.node.specs.Record.{blank}
-use Rattle.node.specs.Soundness.{isAccepted}
 use Rattle.node.specs.Starting.{startOf}
 use Rattle.node.specs.Sending.{comingOf, comingBytes, writeOf, bufferOf}
 use Rattle.inbox.specs.Inbox.{slotAt, ballotAt, ballots}

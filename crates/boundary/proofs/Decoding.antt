@@ -2,7 +2,7 @@
 -- three are the value. That each function's answers are `Apart` is in its contract.
 -- Assumes nothing.
 use mathlib.Core.Path.{_≡_}
-use Prim.Native.Nat.{ℕ, _/_, _%_, _<_}
+use Prim.Native.Nat.{ℕ, _/_, _%_}
 use native.Mathlib.Omega.{arith}
 use Rattle.wire.specs.Outcome.{Outcome, accepted, refused}
 use Rattle.boundary.specs.Answers.{answerOf, Apart}

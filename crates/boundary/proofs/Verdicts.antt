@@ -8,7 +8,7 @@ use lib.ListN.{length, drop, drop-of-length-le}
 use lib.Seq.{sets}
 use borrow.Author.Tests.{le-ltb}
 use Rattle.wire.specs.Outcome.{Outcome, accepted, refused, verdict, valueOr}
-use Rattle.writer.proofs.WriteLaws.{sets-front}
+use Rattle.wire.proofs.Stores.{sets-front}
 use Rattle.node.specs.declared.Node.{Node}
 use Rattle.image.specs.Layout.{imageOf}
 use Rattle.boundary.specs.Answers.{answerOf, Apart, done, recordAfter, fieldBytes, entryIn}

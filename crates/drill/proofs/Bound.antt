@@ -1,15 +1,15 @@
 -- How long the output of a script can be. Every go does one of at most 189 rounds, three for each of 63 phases, and
 -- prints one line; beside these lines there is one more at most.
-use mathlib.Core.Path.{_≡_, refl, ap, _∙_}
+use mathlib.Core.Path.{_≡_, refl, ap}
 use mathlib.Core.Bool.{Bool, true, false, cond}
 use mathlib.Core.List.{List, [], _∷_, _++_}
 use Prim.Native.Nat.{ℕ, _+_, _*_, _-_, _<_, _≤_}
 use native.Mathlib.Omega.{arith}
-use native.Mathlib.Nat.{zero-add}
 use lib.ListN.{length, drop, length-append}
-use lib.Seq.{sets, sets-eq}
+use lib.Seq.{sets}
 use lib.Dec.{ltb, leb, eqb}
 use borrow.Author.Tests.{ltb-true, leb-true, leb-false}
+use Rattle.wire.proofs.Stores.{sets-front}
 use Rattle.crew.specs.declared.Crew.{Crew}
 use Rattle.node.specs.Soundness.{crewAccepted}
 use Rattle.script.specs.Lines.{split}
@@ -151,6 +151,5 @@ output-most input = whole-go (ltb 65536 (length input)) (first (split 10 input))
 pub output-whole : (input out : List ℕ) → 38566 ≤ length out
     → sets out 0 (drillOf input) ≡ drillOf input ++ drop (length (drillOf input)) out
 output-whole input out h =
-    let text = drillOf input in
-    let fits : 0 + length text ≤ length out = omega (arith, output-most input) in
-    sets-eq text out 0 fits ∙ ap (λ (k : ℕ). text ++ drop k out) (zero-add (length text))
+    let fits : length (drillOf input) ≤ length out = omega (arith, output-most input) in
+    sets-front (drillOf input) out fits

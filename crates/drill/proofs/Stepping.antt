@@ -3,13 +3,13 @@ use mathlib.Core.Path.{_≡_, refl}
 use mathlib.Core.Bool.{true}
 use mathlib.Core.List.{List}
 use Prim.Native.Nat.{ℕ, _<_, _≤_}
-use native.Mathlib.Omega.{arith}
 use borrow.Author.Tests.{ltb-true}
-use Rattle.wire.specs.Outcome.{Outcome, accepted, refused}
+use Rattle.wire.proofs.Outcomes.{accepted-is}
+use Rattle.wire.specs.Outcome.{accepted}
 use Rattle.crew.specs.declared.Crew.{Crew}
 use Rattle.crew.specs.Acceptance.{acceptOf}
 use Rattle.crew.proofs.Facts.{accepts}
-use Rattle.node.specs.Soundness.{isAccepted, crewAccepted}
+use Rattle.node.specs.Soundness.{crewAccepted}
 use Rattle.script.specs.declared.Command.{Command}
 use Rattle.script.specs.declared.Command.the-variants.{Cut, Say, Go, BadLine}
 use Rattle.aisle.specs.declared.State.{State}
@@ -37,10 +37,6 @@ begun-small crew plans st e h = rw e h
 -- a go that is no bad line has a coming round
 pub go-unspent : (st : State) (command : Command) → command ≡ Go → allowed st command ≡ true → st .phase < 64
 go-unspent st command e h = ltb-true (st .phase) 64 (rw e at h)
-
-accepted-is : (outcome : Outcome (Unit {0})) → isAccepted outcome ≡ true → outcome ≡ accepted tt
-accepted-is (accepted value) e = refl
-accepted-is (refused number) e = absurd (let z : _≡_ {A = ℕ} 0 1 = cc in omega arith)
 
 -- an accepted crew has at most 32 nodes
 pub crew-small : (crew : Crew) → crewAccepted crew ≡ true → crew .n ≤ 32

@@ -1,2 +1,2 @@
-pub mod RoundTrip
 pub mod Stores
+pub mod RoundTrip

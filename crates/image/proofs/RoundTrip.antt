@@ -9,9 +9,10 @@ use native.Mathlib.Omega.{arith}
 use lib.ListN.{length, getD, drop, drop-of-length-le}
 use lib.Seq.{drop-cons, getD-append-add}
 use Rattle.wire.specs.Bytes.{numberAt, bytesOf, AreBytes}
-use Rattle.wire.proofs.Numbers.{number-of-bytes, bytes-of-number}
+use Rattle.wire.proofs.Numbers.{number-of-bytes, bytes-of-number, number-small}
 use Rattle.node.specs.declared.Node.{Node}
 use Rattle.node.proofs.Facts.{Typed}
+use Rattle.image.proofs.Stores.{history-bytes-length, plans-length}
 use Rattle.image.specs.Layout.{scalarBytes, historyBytes, imageOf, plansIn, recordIn}
 
 -- bytes in front move a number's place
@@ -84,3 +85,24 @@ image-of-record s bytes long =
     (byte-front s 16 (omega arith) (number-front 2 s 17 bytes (omega arith)
     (number-front 2 s 19 bytes (omega arith)
     (history-of-plans s 21 64 bytes (omega arith)))))))))))))))
+
+-- The premises of both are met: bytes hold a record whose fields have their types, and a record's image has 149 bytes.
+plans-small : (s : List ℕ) (place count : ℕ) → AreBytes s → (i : ℕ) → getD (plansIn s place count) i 0 < 256 ^ 2
+unfolding plansIn
+plans-small s place zero bytes i = omega arith
+plans-small s place (suc count) bytes zero = number-small 2 s place bytes
+plans-small s place (suc count) bytes (suc i) = plans-small s (place + 2) count bytes i
+
+pub record-typed : (s : List ℕ) → AreBytes s → Typed (recordIn s)
+record-typed s bytes = record {
+  run = number-small 4 s 6 bytes;
+  vote = number-small 2 s 12 bytes;
+  base = number-small 2 s 14 bytes;
+  select = number-small 2 s 17 bytes;
+  result = number-small 2 s 19 bytes;
+  entries = plans-small s 21 64 bytes;
+  long = plans-length s 21 64;
+}
+
+pub image-length : (d : Node) → Typed d → length (imageOf d) ≡ 149
+image-length d typed = omega (arith, history-bytes-length (d .history), typed .long)

@@ -8,8 +8,7 @@ use native.Mathlib.Numerals.{add-one}
 use lib.ListN.{length, getD, set, drop, replicate, drop-of-length-le}
 use lib.Seq.{sets, drop-cons}
 use Rattle.wire.specs.Bytes.{numberAt, bytesOf}
-use Rattle.writer.proofs.HistoryLaws.{sets-append}
-use Rattle.writer.proofs.WriteLaws.{sets-front}
+use Rattle.wire.proofs.Stores.{sets-append, sets-front}
 use Rattle.node.specs.declared.Node.{Node}
 use Rattle.image.specs.Layout.{historyBytes, scalarBytes, imageOf, plansIn}
 

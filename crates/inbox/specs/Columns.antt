@@ -3,6 +3,7 @@
 -- and phase.
 -- What the crates below rounds promise each other: no contract of rounds cites this file.
 use Prim.Native.Nat.{ℕ, zero, suc, _+_, _*_, _/_, _<_, min}
+use mathlib.Core.Path.{_≡_}
 use mathlib.Core.Bool.{Bool, true, false, cond}
 use mathlib.Core.List.{List, [], _∷_}
 use mathlib.Core.Option.{Option, none, some}
@@ -24,6 +25,10 @@ pub record Columns : Type 0 where
 abbrev pub columns : List Bool → List ℕ → List ℕ → List ℕ → Columns
 columns present votes stamps histories =
     record { present = present; votes = votes; stamps = stamps; histories = histories }
+
+-- three columns that, with the histories of these, are these
+abbrev pub Brief : List Bool → List ℕ → List ℕ → Columns → Type 0
+Brief present votes stamps read = columns present votes stamps (read .histories) ≡ read
 
 -- nothing has been read yet
 abbrev pub empty : Columns

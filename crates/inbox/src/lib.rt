@@ -3,11 +3,13 @@
 use message::Reading;
 use node::Node;
 ghost use mathlib.Core.Path.{_≡_};
-ghost use Prim.Native.Nat.{_+_, _*_, _<_, _≤_};
-ghost use lib.ListN.{length};
+ghost use mathlib.Core.Bool.{true};
+ghost use mathlib.Core.List.{List};
+ghost use Prim.Native.Nat.{ℕ, _+_, _*_, _<_, _≤_};
+ghost use lib.ListN.{length, set};
 ghost use Rattle.message.specs.Reading.{readOf, entriesIn};
 ghost use Rattle.inbox.specs.Inbox.{slotAt, counted};
-ghost use Rattle.inbox.specs.Columns.{columns, PhasesBelow, laid, put, slotsIn, filled, saidAs};
+ghost use Rattle.inbox.specs.Columns.{columns, Brief, PhasesBelow, laid, put, slotsIn, filled, saidAs};
 
 // 01: "An inbox is n slots of 202 bytes": a selection with all 63 entries fits.
 pub const SLOT: usize = 202;
@@ -92,7 +94,54 @@ fn lay_entries(histories: &mut [u16; 2048], row: usize, part: &[u8], count: usiz
     }
 }
 
-// Puts what a slot says into the columns; a slot that does not count adds nothing.
+// Puts a vote and its stamp into the places of slot q.
+fn put_vote(
+    q: usize,
+    vote: u16,
+    stamp: u8,
+    present: &mut [bool; 32],
+    votes: &mut [u16; 32],
+    stamps: &mut [u8; 32],
+)
+    requires { ⌜ q < 32 ⌝ }
+    ensures { λ _. ⌜ (now (present .exit) ≡ set (now (present .entry)) q true)
+        × (now (votes .exit) ≡ set (now (votes .entry)) q vote)
+        × (now (stamps .exit) ≡ set (now (stamps .entry)) q stamp) ⌝ }
+{
+    present[q] = true;
+    votes[q] = vote;
+    stamps[q] = stamp;
+}
+
+// Puts what a slot says into the columns of votes and stamps; a slot that does not count adds nothing.
+fn read_vote(
+    slot: &[u8],
+    q: usize,
+    run: u32,
+    phase: u8,
+    round: u8,
+    present: &mut [bool; 32],
+    votes: &mut [u16; 32],
+    stamps: &mut [u8; 32],
+)
+    requires { ⌜ q < 32 ⌝ }
+    ensures { λ _. ⌜ ((h : List ℕ) → Brief (now (present .exit)) (now (votes .exit)) (now (stamps .exit))
+        (put (columns (now (present .entry)) (now (votes .entry)) (now (stamps .entry)) h)
+        q (counted run phase round (readOf (now (slot .entry)))))) ⌝ }
+{
+    let heard = hear(slot, run, phase, round);
+    let Said::Ballot {
+        vote,
+        stamp,
+        count: _,
+    } = heard
+    else {
+        return;
+    };
+    put_vote(q, vote, stamp, present, votes, stamps);
+}
+
+// Puts what a slot says into the columns, its entries too.
 fn read_slot(
     slot: &[u8],
     q: usize,
@@ -113,9 +162,7 @@ fn read_slot(
     let Said::Ballot { vote, stamp, count } = heard else {
         return;
     };
-    present[q] = true;
-    votes[q] = vote;
-    stamps[q] = stamp;
+    put_vote(q, vote, stamp, present, votes, stamps);
     lay_entries(
         histories,
         Node::PHASES * q,
@@ -164,6 +211,40 @@ pub fn read_slots(
             votes,
             stamps,
             histories,
+        );
+        q = q + 1;
+    }
+}
+
+// Reads the slots of an inbox, once, into the columns of votes and stamps, where nobody looks at histories.
+pub fn read_votes(
+    inbox: &[u8],
+    run: u32,
+    phase: u8,
+    round: u8,
+    present: &mut [bool; 32],
+    votes: &mut [u16; 32],
+    stamps: &mut [u8; 32],
+)
+    ensures { λ _. ⌜ ((h : List ℕ) → Brief (now (present .exit)) (now (votes .exit)) (now (stamps .exit)) (filled
+        (columns (now (present .entry)) (now (votes .entry)) (now (stamps .entry)) h)
+        (λ q. counted run phase round (readOf (slotAt (now (inbox .entry)) q)))
+        (slotsIn (length (now (inbox .entry)))))) ⌝ }
+{
+    let n = slots_in(inbox.len());
+    let mut q = 0;
+    while q < n {
+        let start = SLOT * q;
+        let end = start + SLOT;
+        read_vote(
+            &inbox[start..end],
+            q,
+            run,
+            phase,
+            round,
+            present,
+            votes,
+            stamps,
         );
         q = q + 1;
     }

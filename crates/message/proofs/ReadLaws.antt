@@ -11,7 +11,7 @@ use lib.ListN.{length}
 use borrow.Author.Tests.{leb-true, eqb-true, eq-eqb}
 use Rattle.wire.specs.Outcome.{Outcome, accepted, refused, require}
 use Rattle.wire.proofs.Tests.{both-true}
-use Rattle.wire.proofs.Outcomes.{passed}
+use Rattle.wire.proofs.Outcomes.{passed, same-value}
 use Rattle.message.specs.Fields.{Message}
 use Rattle.message.specs.Bounds.{within}
 use Rattle.message.specs.Encoding.{sizeOf}
@@ -70,9 +70,6 @@ pub record Passes (s : List ℕ) (m : Message) : Type 0 where
   pub long : lengthAt s ≡ sizeOf (m .body)
   pub in-bounds : within m ≡ true
   pub fields : messageWith s (bodyAt s) ≡ m
-
-same-value : {A : Type 0} {a b : A} → accepted a ≡ accepted b → a ≡ b
-same-value e = cc
 
 pub read-passes : (s : List ℕ) (m : Message) → readOf s ≡ accepted m → Passes s m
 unfolding readOf tested

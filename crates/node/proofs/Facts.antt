@@ -9,12 +9,12 @@ use native.Mathlib.Decide.{ℕ-discrete, decLt}
 use lib.ListN.{length, getD}
 use lib.Dec.{leb, ltb, eqb}
 use borrow.Author.Tests.{ltb-true, leb-true, eqb-true, eqb-false, not-true, lt-ltb, le-leb, eq-eqb, ne-eqb}
-use Rattle.wire.specs.Outcome.{Outcome, accepted, refused}
+use Rattle.wire.specs.Outcome.{accepted, isAccepted}
+use Rattle.wire.proofs.Outcomes.{accepted-is}
 use Rattle.wire.proofs.Tests.{both-true}
 use Rattle.crew.specs.Acceptance.{acceptOf}
 use Rattle.node.specs.declared.Node.{Node}
 use Rattle.node.specs.Soundness.{
-  isAccepted,
   crewAccepted,
   ownKnown,
   placeKnown,
@@ -53,10 +53,6 @@ pub record Typed (d : Node) : Type 0 where
   pub result : d .result < 256 ^ 2
   pub entries : (phase : ℕ) → getD (d .history) phase 0 < 256 ^ 2
   pub long : length (d .history) ≡ 64
-
-accepted-is : (outcome : Outcome (Unit {0})) → isAccepted outcome ≡ true → outcome ≡ accepted tt
-accepted-is (accepted value) e = refl
-accepted-is (refused number) e = absurd (let z : _≡_ {A = ℕ} 0 1 = cc in omega arith)
 
 either-true : (a b : Bool) → (a || b) ≡ true → (a ≡ true) ⊎ (b ≡ true)
 either-true true b e = inl refl

@@ -1,15 +1,14 @@
 -- The empty entries of a history: a turn of the loop over them, and the test as a fact and back.
 -- Assumes nothing.
-use mathlib.Core.Path.{_≡_, refl, ap, _∙_}
-use mathlib.Core.Bool.{true, false, _&&_}
-use mathlib.Core.Logic.{_≢_}
+use mathlib.Core.Path.{_≡_, refl, sym, ap, _∙_}
+use mathlib.Core.Bool.{Bool, true, false, _&&_, and-assoc}
 use mathlib.Core.List.{List}
 use Prim.Native.Nat.{ℕ, zero, suc, _+_, _-_, _≤_, _<_}
 use native.Mathlib.Omega.{arith}
 use native.Mathlib.Decide.{ℕ-discrete}
 use lib.ListN.{getD}
 use lib.Dec.{eqb}
-use borrow.Author.Tests.{eq-eqb, ne-eqb, eqb-true}
+use borrow.Author.Tests.{eq-eqb, eqb-true}
 use Rattle.wire.proofs.Tests.{both-true}
 use Rattle.node.specs.Soundness.{emptyFrom}
 
@@ -22,20 +21,23 @@ empty-turn history phase h =
     let left : 64 - phase ≡ suc (64 - (phase + 1)) = omega arith in
     ap (emptyFrom history phase) left
 
--- after an empty entry the answer is that of those after it
-pub empty-more : (history : List ℕ) (phase : ℕ) → phase < 64 → getD history phase 0 ≡ 0
-    → emptyFrom history phase (64 - phase) ≡ emptyFrom history (phase + 1) (64 - (phase + 1))
-empty-more history phase h e = empty-turn history phase h ∙ simp (eq-eqb (getD history phase 0) 0 e)
-
--- an entry that is not empty settles it
-pub empty-stop : (history : List ℕ) (phase : ℕ) → phase < 64 → getD history phase 0 ≢ 0
-    → emptyFrom history phase (64 - phase) ≡ false
-empty-stop history phase h e = empty-turn history phase h ∙ simp (ne-eqb (getD history phase 0) 0 e)
+-- what was found so far, with one entry more
+pub empty-more : (so-far : Bool) (history : List ℕ) (phase : ℕ) → phase < 64
+    → ((so-far && eqb (getD history phase 0) 0) && emptyFrom history (phase + 1) (64 - (phase + 1)))
+    ≡ (so-far && emptyFrom history phase (64 - phase))
+empty-more so-far history phase h =
+    and-assoc so-far (eqb (getD history phase 0) 0) (emptyFrom history (phase + 1) (64 - (phase + 1)))
+    ∙ ap (λ b. so-far && b) (sym (empty-turn history phase h))
 
 -- no entries are left
-pub empty-end : (history : List ℕ) (phase : ℕ) → 64 ≤ phase → emptyFrom history phase (64 - phase) ≡ true
+pub empty-end : (so-far : Bool) (history : List ℕ) (phase : ℕ) → 64 ≤ phase
+    → so-far ≡ (so-far && emptyFrom history phase (64 - phase))
 unfolding emptyFrom
-empty-end history phase h = let left : 64 - phase ≡ 0 = omega arith in ap (emptyFrom history phase) left
+empty-end so-far history phase h = let left : 64 - phase ≡ 0 = omega arith in rw left (go so-far)
+  where
+    go : (b : Bool) → b ≡ (b && true)
+    go true = refl
+    go false = refl
 
 -- entries that are 0 pass the test
 pub empty-is : (history : List ℕ) (from count : ℕ)

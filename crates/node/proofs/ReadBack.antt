@@ -5,6 +5,7 @@ use mathlib.Core.Bool.{true}
 use mathlib.Core.List.{List, _++_}
 use mathlib.Core.Option.{some}
 use Prim.Native.Nat.{ℕ, _<_}
+use lib.ListN.{drop}
 use Rattle.wire.specs.Outcome.{accepted}
 use Rattle.message.specs.Fields.{Message}
 use Rattle.message.specs.Bounds.{within}
@@ -12,8 +13,9 @@ use Rattle.message.specs.Reading.{readOf}
 use Rattle.codec.proofs.Written.{read-of-encode}
 use Rattle.node.specs.declared.Node.{Node}
 use Rattle.node.specs.Soundness.{sound}
-use Rattle.node.specs.Sending.{comingOf, encoded, comingBytes}
+use Rattle.node.specs.Sending.{comingOf, encoded, comingBytes, writeOf, bufferAfter, bufferOf}
 use Rattle.node.proofs.Facts.{Typed, sound-facts}
+use Rattle.node.proofs.SendLaws.{write-accepted}
 use Rattle.node.proofs.Coming.{Says, coming-says, says-within, says-fits}
 
 -- What a sound, unspent record writes is within a message's bounds, and whatever follows it in the slice, reading gives
@@ -26,3 +28,11 @@ read-back d typed ok left m e =
     let bounds = says-within (sound-facts d ok) left says in
     let bytes = ap encoded e in
     (says, bounds, λ tail. rw bytes (read-of-encode m tail bounds (says-fits typed says)))
+
+-- So the buffer after an accepted write is read to the message of the coming round, whatever stands behind it.
+pub written-read : (d : Node) → Typed d → (buffer : List ℕ) (size : ℕ) → writeOf d buffer ≡ accepted size
+    → (m : Message) → comingOf d ≡ some m → readOf (bufferOf d buffer) ≡ accepted m
+written-read d typed buffer size e m coming =
+    let w = write-accepted d buffer size e in
+    let after : bufferOf d buffer ≡ comingBytes d ++ drop size buffer = ap (bufferAfter (comingBytes d) buffer) e in
+    rw after (read-back d typed (w .0) (w .1) m coming .2 (drop size buffer))

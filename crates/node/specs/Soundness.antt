@@ -1,18 +1,13 @@
 -- When a record is sound: document 01, 'Crew and node'. Every sound record is due an answer, reached by a start or not.
 use Prim.Native.Nat.{ℕ, zero, suc, _+_, _-_}
-use mathlib.Core.Bool.{Bool, true, false, not, cond, _&&_, _||_}
+use mathlib.Core.Bool.{Bool, true, not, cond, _&&_, _||_}
 use mathlib.Core.List.{List}
 use lib.ListN.{getD}
 use lib.Dec.{leb, ltb, eqb}
-use Rattle.wire.specs.Outcome.{Outcome, accepted, refused}
+use Rattle.wire.specs.Outcome.{isAccepted}
 use Rattle.crew.specs.declared.Crew.{Crew}
 use Rattle.crew.specs.Acceptance.{acceptOf}
 use Rattle.node.specs.declared.Node.{Node}
-
--- whether an operation was accepted
-abbrev pub isAccepted : {A : Type 0} → Outcome A → Bool
-isAccepted (accepted value) = true
-isAccepted (refused number) = false
 
 -- "crew accepted"
 abbrev pub crewAccepted : Crew → Bool

@@ -246,20 +246,18 @@ impl Node {
         phase + 1
     }
 
-    // No plan stands at a phase that has no selection yet.
+    // No plan stands at a phase that has no selection yet. All entries are tested, as the compiler tests several at once.
     fn is_empty_ahead(self) -> bool
         ensures { λ r. ⌜ r ≡ restEmpty self ⌝ }
     {
         let history = self.history;
+        let mut empty = true;
         let mut phase = self.first_unselected();
         while phase < Node::PHASES {
-            if history[phase] == Node::NO_PLAN {
-                phase = phase + 1;
-            } else {
-                return false;
-            }
+            empty = empty & (history[phase] == Node::NO_PLAN);
+            phase = phase + 1;
         }
-        true
+        empty
     }
 
     // Whether the record is one that a node can have, be it reached from a start or not.

@@ -9,7 +9,7 @@ use lib.Dec.{leb}
 use borrow.Author.Tests.{leb-true, le-leb}
 use Rattle.wire.proofs.Tests.{both-true}
 use Rattle.crew.specs.declared.Crew.{Crew}
-use Rattle.crew.specs.Thresholds.{classOf}
+use Rattle.crew.specs.Thresholds.{Class, classOf}
 use Rattle.ballot.specs.Ballot.{Ballot}
 use Rattle.ballot.specs.Selection.{any, nothing, selection, taken, takenOn}
 use Rattle.ballot.specs.Validation.{validated}
@@ -36,23 +36,24 @@ facts-countable crew facts =
     rw (le-leb _ _ (facts .places), le-leb _ _ (facts .some), le-leb _ _ (facts .within))
 
 -- 'any' is told to crews that can be counted with
-pub any-countable : (crew : Crew) (ballots : List Ballot) → any ≡ choiceOf crew ballots → countable crew ≡ true
+pub any-countable : (class : Class) (crew : Crew) (ballots : List Ballot) → any ≡ choiceOf class crew ballots
+    → countable crew ≡ true
 unfolding choiceOf
-any-countable crew ballots e = go (countable crew) e
+any-countable class crew ballots e = go (countable crew) e
   where
-    go : (b : Bool) → any ≡ cond b (selection (classOf crew) crew ballots) nothing → b ≡ true
+    go : (b : Bool) → any ≡ cond b (selection class crew ballots) nothing → b ≡ true
     go true e = refl
     go false e = absurd (let z : _≡_ {A = ℕ} 0 1 = cc in omega arith)
 
 -- the answers for such a crew are those of the rules
 module _ (crew : Crew) (ballots : List Ballot) (ok : countable crew ≡ true) where
-  pub choice-rule : choiceOf crew ballots ≡ selection (classOf crew) crew ballots
+  pub choice-rule : (class : Class) → choiceOf class crew ballots ≡ selection class crew ballots
   unfolding choiceOf
-  choice-rule = rw ok
+  choice-rule class = rw ok
 
-  pub selected-rule : selected crew ballots ≡ taken (classOf crew) crew ballots
+  pub selected-rule : (class : Class) → selected class crew ballots ≡ taken class crew ballots
   unfolding taken
-  selected-rule = ap (takenOn crew ballots) choice-rule
+  selected-rule class = ap (takenOn crew ballots) (choice-rule class)
 
   pub valid-rule : validIn crew ballots ≡ validated crew ballots
   unfolding validIn

@@ -4,9 +4,9 @@
 use Prim.Native.Nat.{ℕ}
 use mathlib.Core.Bool.{Bool, cond, _&&_}
 use mathlib.Core.List.{List}
-use lib.Dec.{leb}
+use lib.Dec.{leb, eqb}
 use Rattle.crew.specs.declared.Crew.{Crew}
-use Rattle.crew.specs.Thresholds.{classOf}
+use Rattle.crew.specs.Thresholds.{Class, one, two, classOf}
 use Rattle.ballot.specs.Ballot.{Ballot}
 use Rattle.ballot.specs.Selection.{Choice, plan, any, nothing, selection, takenOn}
 use Rattle.ballot.specs.Validation.{validated}
@@ -18,13 +18,17 @@ use Rattle.tally.specs.declared.Choice.the-variants.{Plan, Any, Nothing}
 abbrev pub countable : Crew → Bool
 countable crew = leb (crew .n) 32 && leb 1 (crew .d) && leb (crew .d) (crew .n)
 
--- selection's answer; 'none' for a crew that cannot be counted with
-unfoldable pub choiceOf : Crew → List Ballot → Choice
-choiceOf crew ballots = cond (countable crew) (selection (classOf crew) crew ballots) nothing
+-- the class of a crew whose selection goes by votes and stamps alone: 1 or 2
+abbrev pub byVotes : Crew → Class
+byVotes crew = cond (eqb (crew .class) 1) one two
+
+-- selection's answer in a class; 'none' for a crew that cannot be counted with
+unfoldable pub choiceOf : Class → Crew → List Ballot → Choice
+choiceOf class crew ballots = cond (countable crew) (selection class crew ballots) nothing
 
 -- the plan that a node takes on that answer, 0 where it takes none
-abbrev pub selected : Crew → List Ballot → ℕ
-selected crew ballots = takenOn crew ballots (choiceOf crew ballots)
+abbrev pub selected : Class → Crew → List Ballot → ℕ
+selected class crew ballots = takenOn crew ballots (choiceOf class crew ballots)
 
 -- the plan that is valid, and the one that is decided; 0 where there is none
 unfoldable pub validIn : Crew → List Ballot → ℕ

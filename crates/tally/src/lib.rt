@@ -1,15 +1,17 @@
 // The three rules over the columns of an inbox: selection, validation and decision by counts of marked slots.
+// Only selection in class 3 looks at histories: what the others answer holds whatever these are.
 // What each answers stands in specs/Rules.antt, the counts in specs/Marks.antt. Crate rounds acts on the answers.
 use crew::Crew;
 use node::Node;
 ghost use mathlib.Core.Path.{_≡_};
 ghost use mathlib.Core.Bool.{true, cond, _&&_};
+ghost use mathlib.Core.List.{List};
 ghost use lib.Dec.{leb, ltb, eqb};
-ghost use Prim.Native.Nat.{_+_, _*_, _-_, _<_, _≤_};
+ghost use Prim.Native.Nat.{ℕ, _+_, _*_, _-_, _<_, _≤_};
 ghost use lib.ListN.{getD};
 ghost use Rattle.ballot.specs.Count.{bit, tally};
 ghost use Rattle.ballot.specs.Least.{orZero};
-ghost use Rattle.ballot.specs.Selection.{anyIf, answer, selection, anyPlan};
+ghost use Rattle.ballot.specs.Selection.{any, anyIf, answer, selection, anyPlan, takenOn};
 ghost use Rattle.ballot.specs.Validation.{validated};
 ghost use Rattle.ballot.specs.Decision.{decision};
 ghost use Rattle.crew.specs.Thresholds.{one, two, three, classOf, E};
@@ -32,7 +34,7 @@ ghost use Rattle.tally.specs.Marks.{
   backingAs,
   highest,
 };
-ghost use Rattle.tally.specs.Rules.{countable, choiceAs, choiceOf, selected, validIn, decidedIn};
+ghost use Rattle.tally.specs.Rules.{countable, byVotes, choiceAs, choiceOf, selected, validIn, decidedIn};
 
 fn one_if(test: bool) -> u16
     ensures { λ r. ⌜ (r ≡ bit test) × (r ≤ 1) ⌝ }
@@ -192,8 +194,17 @@ fn mark_above(
         (above (now (present .entry)) (now (marks .entry)) (now (votes .entry)) (now (stamps .entry)) n threshold
         stamped) ⌝ }
 {
-    let counts = count_each(marks, votes, stamps, n, stamped);
-    mark_over(present, &counts, n, threshold)
+    let mut out = [false; 32];
+    let below = below_of(stamped, stamps[0]);
+    let mut count = count_supporting(marks, votes, stamps, n, votes[0], below);
+    out[0] = present[0] & (threshold < count);
+    let mut q = 1;
+    while q < n {
+        count = count_next(marks, votes, stamps, n, stamped, q, count);
+        out[q] = present[q] & (threshold < count);
+        q = q + 1;
+    }
+    out
 }
 
 // Marks each slot with this stamp.
@@ -433,17 +444,11 @@ fn bound(crew: Crew) -> u16
 }
 
 // Selection in class 1.
-fn choose_one(
-    crew: Crew,
-    present: &[bool; 32],
-    votes: &[u16; 32],
-    stamps: &[u8; 32],
-    histories: &[u16; 2048],
-) -> Choice
+fn choose_one(crew: Crew, present: &[bool; 32], votes: &[u16; 32], stamps: &[u8; 32]) -> Choice
     requires { ⌜ (crew .n ≤ 32) × (crew .d ≤ crew .n) ⌝ }
-    ensures { λ r. ⌜ choiceAs r ≡ selection one crew
-        (polled (columns (now (present .entry)) (now (votes .entry)) (now (stamps .entry)) (now (histories .entry)))
-        (crew .n)) ⌝ }
+    ensures { λ r. ⌜ ((h : List ℕ) → choiceAs r ≡ selection one crew
+        (polled (columns (now (present .entry)) (now (votes .entry)) (now (stamps .entry)) h)
+        (crew .n))) ⌝ }
 {
     let n = crew.n as usize;
     let e = bound(crew);
@@ -454,17 +459,11 @@ fn choose_one(
 }
 
 // Selection in class 2.
-fn choose_two(
-    crew: Crew,
-    present: &[bool; 32],
-    votes: &[u16; 32],
-    stamps: &[u8; 32],
-    histories: &[u16; 2048],
-) -> Choice
+fn choose_two(crew: Crew, present: &[bool; 32], votes: &[u16; 32], stamps: &[u8; 32]) -> Choice
     requires { ⌜ (crew .n ≤ 32) × (crew .d ≤ crew .n) ⌝ }
-    ensures { λ r. ⌜ choiceAs r ≡ selection two crew
-        (polled (columns (now (present .entry)) (now (votes .entry)) (now (stamps .entry)) (now (histories .entry)))
-        (crew .n)) ⌝ }
+    ensures { λ r. ⌜ ((h : List ℕ) → choiceAs r ≡ selection two crew
+        (polled (columns (now (present .entry)) (now (votes .entry)) (now (stamps .entry)) h)
+        (crew .n))) ⌝ }
 {
     let n = crew.n as usize;
     let b = crew.b as u16;
@@ -499,42 +498,50 @@ fn choose_three(
     answer_three(backing, e < count_marks(&unstamped, n))
 }
 
-// 01: "answers a plan, 'any' or 'none'"
-pub fn choose(
+// 01: "answers a plan, 'any' or 'none'": in classes 1 and 2 by votes and stamps alone.
+pub fn choose_by_votes(
+    crew: Crew,
+    present: &[bool; 32],
+    votes: &[u16; 32],
+    stamps: &[u8; 32],
+) -> Choice
+    ensures { λ r. ⌜ ((h : List ℕ) → choiceAs r ≡ choiceOf (byVotes crew) crew
+        (polled (columns (now (present .entry)) (now (votes .entry)) (now (stamps .entry)) h)
+        (crew .n))) ⌝ }
+{
+    if is_countable(crew) {
+        if crew.class == 1 {
+            return choose_one(crew, present, votes, stamps);
+        }
+        return choose_two(crew, present, votes, stamps);
+    }
+    Choice::Nothing
+}
+
+// The same in class 3, where histories play a part.
+pub fn choose_by_lists(
     crew: Crew,
     present: &[bool; 32],
     votes: &[u16; 32],
     stamps: &[u8; 32],
     histories: &[u16; 2048],
 ) -> Choice
-    ensures { λ r. ⌜ choiceAs r ≡ choiceOf crew
+    ensures { λ r. ⌜ choiceAs r ≡ choiceOf three crew
         (polled (columns (now (present .entry)) (now (votes .entry)) (now (stamps .entry)) (now (histories .entry)))
         (crew .n)) ⌝ }
 {
     if is_countable(crew) {
-        if crew.class == 1 {
-            return choose_one(crew, present, votes, stamps, histories);
-        }
-        if crew.class == 2 {
-            return choose_two(crew, present, votes, stamps, histories);
-        }
         return choose_three(crew, present, votes, stamps, histories);
     }
     Choice::Nothing
 }
 
 // 01: "For 'any' the node takes the vote of most slots, the least plan on a tie"
-fn any_plan(
-    crew: Crew,
-    present: &[bool; 32],
-    votes: &[u16; 32],
-    stamps: &[u8; 32],
-    histories: &[u16; 2048],
-) -> u16
+fn any_plan(crew: Crew, present: &[bool; 32], votes: &[u16; 32], stamps: &[u8; 32]) -> u16
     requires { ⌜ crew .n ≤ 32 ⌝ }
-    ensures { λ r. ⌜ r ≡ anyPlan crew
-        (polled (columns (now (present .entry)) (now (votes .entry)) (now (stamps .entry)) (now (histories .entry)))
-        (crew .n)) ⌝ }
+    ensures { λ r. ⌜ ((h : List ℕ) → r ≡ anyPlan crew
+        (polled (columns (now (present .entry)) (now (votes .entry)) (now (stamps .entry)) h)
+        (crew .n))) ⌝ }
 {
     let n = crew.n as usize;
     let counts = count_each(present, votes, stamps, n, false);
@@ -546,38 +553,63 @@ fn any_plan(
     least_marked(&leaders, votes, n)
 }
 
-// What a node takes: the plan, or 0 for 'none'.
-pub fn select(
+// What a node takes on an answer: the plan, or 0 for 'none'.
+fn take_on(
     crew: Crew,
+    choice: Choice,
     present: &[bool; 32],
     votes: &[u16; 32],
     stamps: &[u8; 32],
-    histories: &[u16; 2048],
 ) -> u16
-    ensures { λ r. ⌜ r ≡ selected crew
-        (polled (columns (now (present .entry)) (now (votes .entry)) (now (stamps .entry)) (now (histories .entry)))
-        (crew .n)) ⌝ }
+    requires { ⌜ (choiceAs choice ≡ any → crew .n ≤ 32) ⌝ }
+    ensures { λ r. ⌜ ((h : List ℕ) → r ≡ takenOn crew
+        (polled (columns (now (present .entry)) (now (votes .entry)) (now (stamps .entry)) h)
+        (crew .n)) (choiceAs choice)) ⌝ }
 {
-    let choice = choose(crew, present, votes, stamps, histories);
     match choice {
         Choice::Plan(plan) => plan,
-        Choice::Any => any_plan(crew, present, votes, stamps, histories),
+        Choice::Any => any_plan(crew, present, votes, stamps),
         Choice::Nothing => 0,
     }
 }
 
-// The plan that more than half of n + b slots hold, 0 where none does.
-fn least_valid(
+// What a node of class 1 or 2 takes.
+pub fn select_by_votes(
+    crew: Crew,
+    present: &[bool; 32],
+    votes: &[u16; 32],
+    stamps: &[u8; 32],
+) -> u16
+    ensures { λ r. ⌜ ((h : List ℕ) → r ≡ selected (byVotes crew) crew
+        (polled (columns (now (present .entry)) (now (votes .entry)) (now (stamps .entry)) h)
+        (crew .n))) ⌝ }
+{
+    let choice = choose_by_votes(crew, present, votes, stamps);
+    take_on(crew, choice, present, votes, stamps)
+}
+
+// What a node of class 3 takes.
+pub fn select_by_lists(
     crew: Crew,
     present: &[bool; 32],
     votes: &[u16; 32],
     stamps: &[u8; 32],
     histories: &[u16; 2048],
 ) -> u16
-    requires { ⌜ crew .n ≤ 32 ⌝ }
-    ensures { λ r. ⌜ r ≡ validated crew
+    ensures { λ r. ⌜ r ≡ selected three crew
         (polled (columns (now (present .entry)) (now (votes .entry)) (now (stamps .entry)) (now (histories .entry)))
         (crew .n)) ⌝ }
+{
+    let choice = choose_by_lists(crew, present, votes, stamps, histories);
+    take_on(crew, choice, present, votes, stamps)
+}
+
+// The plan that more than half of n + b slots hold, 0 where none does.
+fn least_valid(crew: Crew, present: &[bool; 32], votes: &[u16; 32], stamps: &[u8; 32]) -> u16
+    requires { ⌜ crew .n ≤ 32 ⌝ }
+    ensures { λ r. ⌜ ((h : List ℕ) → r ≡ validated crew
+        (polled (columns (now (present .entry)) (now (votes .entry)) (now (stamps .entry)) h)
+        (crew .n))) ⌝ }
 {
     let n = crew.n as usize;
     let half = (crew.n as u16 + crew.b as u16) / 2;
@@ -586,19 +618,13 @@ fn least_valid(
 }
 
 // 01: "If a plan stands in c slots with 2c > n + b": that plan, 0 where there is none.
-pub fn validate(
-    crew: Crew,
-    present: &[bool; 32],
-    votes: &[u16; 32],
-    stamps: &[u8; 32],
-    histories: &[u16; 2048],
-) -> u16
-    ensures { λ r. ⌜ r ≡ validIn crew
-        (polled (columns (now (present .entry)) (now (votes .entry)) (now (stamps .entry)) (now (histories .entry)))
-        (crew .n)) ⌝ }
+pub fn validate(crew: Crew, present: &[bool; 32], votes: &[u16; 32], stamps: &[u8; 32]) -> u16
+    ensures { λ r. ⌜ ((h : List ℕ) → r ≡ validIn crew
+        (polled (columns (now (present .entry)) (now (votes .entry)) (now (stamps .entry)) h)
+        (crew .n))) ⌝ }
 {
     if is_countable(crew) {
-        return least_valid(crew, present, votes, stamps, histories);
+        return least_valid(crew, present, votes, stamps);
     }
     Node::NO_PLAN
 }
@@ -621,12 +647,11 @@ fn least_deciding(
     present: &[bool; 32],
     votes: &[u16; 32],
     stamps: &[u8; 32],
-    histories: &[u16; 2048],
 ) -> u16
     requires { ⌜ (crew .n ≤ 32) × (1 ≤ crew .d) ⌝ }
-    ensures { λ r. ⌜ r ≡ decision (classOf crew) crew phase
-        (polled (columns (now (present .entry)) (now (votes .entry)) (now (stamps .entry)) (now (histories .entry)))
-        (crew .n)) ⌝ }
+    ensures { λ r. ⌜ ((h : List ℕ) → r ≡ decision (classOf crew) crew phase
+        (polled (columns (now (present .entry)) (now (votes .entry)) (now (stamps .entry)) h)
+        (crew .n))) ⌝ }
 {
     let n = crew.n as usize;
     let fresh = mark_fresh(crew, phase, present, stamps);
@@ -641,14 +666,13 @@ pub fn decide(
     present: &[bool; 32],
     votes: &[u16; 32],
     stamps: &[u8; 32],
-    histories: &[u16; 2048],
 ) -> u16
-    ensures { λ r. ⌜ r ≡ decidedIn crew phase
-        (polled (columns (now (present .entry)) (now (votes .entry)) (now (stamps .entry)) (now (histories .entry)))
-        (crew .n)) ⌝ }
+    ensures { λ r. ⌜ ((h : List ℕ) → r ≡ decidedIn crew phase
+        (polled (columns (now (present .entry)) (now (votes .entry)) (now (stamps .entry)) h)
+        (crew .n))) ⌝ }
 {
     if is_countable(crew) {
-        return least_deciding(crew, phase, present, votes, stamps, histories);
+        return least_deciding(crew, phase, present, votes, stamps);
     }
     Node::NO_PLAN
 }

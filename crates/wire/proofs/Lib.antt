@@ -1,3 +1,4 @@
 pub mod Tests
 pub mod Outcomes
 pub mod Numbers
+pub mod Stores

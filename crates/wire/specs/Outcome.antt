@@ -28,3 +28,8 @@ verdict (refused number) = refused number
 abbrev pub valueOr : {A : Type 0} → A → Outcome A → A
 valueOr before (accepted value) = value
 valueOr before (refused number) = before
+
+-- whether an operation was accepted
+abbrev pub isAccepted : {A : Type 0} → Outcome A → Bool
+isAccepted (accepted value) = true
+isAccepted (refused number) = false

@@ -1,15 +1,15 @@
 -- The entries listed from a history: that they keep their bounds, and what the loops over them go by.
 -- Assumes nothing.
-use mathlib.Core.Path.{_≡_, refl, ap, sym, _∙_}
+use mathlib.Core.Path.{_≡_, refl, ap, _∙_}
 use mathlib.Core.Bool.{Bool, true, false, cond}
 use mathlib.Core.List.{List, [], _∷_, _++_}
 use Prim.Native.Nat.{ℕ, zero, suc, _+_, _-_, _<_, _≤_}
-use native.Mathlib.Nat.{add-zero, add-suc, suc-add}
 use native.Mathlib.Omega.{arith}
 use lib.Dec.{leb}
 use lib.ListN.{length, getD, set, length-append}
 use lib.Seq.{sets}
 use borrow.Author.Tests.{le-leb, lt-ltb}
+use Rattle.wire.proofs.Stores.{sets-append}
 use Rattle.wire.specs.Entry.{Entry}
 use Rattle.message.specs.Bounds.{entriesOk}
 use Rattle.message.specs.Encoding.{entryBytes}
@@ -79,13 +79,6 @@ module _ (history : List ℕ) (j phases : ℕ) (more : j < phases) where
 pub listed-end : (history : List ℕ) (j phases : ℕ) → phases ≤ j → listed history j (phases - j) ≡ []
 unfolding listed
 listed-end history j phases h = let left : phases - j ≡ 0 = omega arith in ap (listed history j) left
-
--- stores of two runs of bytes, one after the other
-pub sets-append : (xs ys l : List ℕ) (i : ℕ) → sets l i (xs ++ ys) ≡ sets (sets l i xs) (i + length xs) ys
-sets-append [] ys l i = ap (λ (k : ℕ). sets l k ys) (sym (add-zero i))
-sets-append (x ∷ xs) ys l i =
-    sets-append xs ys (set l i x) (suc i)
-    ∙ ap (λ (k : ℕ). sets (sets (set l i x) (suc i) xs) k ys) (suc-add i (length xs) ∙ sym (add-suc i (length xs)))
 
 -- A turn of the loop that writes the entries: what is left still fits, and the stores that are left end in the same
 -- buffer.

@@ -2,15 +2,15 @@
 -- Assumes nothing.
 use mathlib.Core.Path.{_≡_, refl}
 use mathlib.Core.Bool.{Bool, true, false, _&&_}
-use mathlib.Core.List.{List, _++_}
-use Prim.Native.Nat.{ℕ, _+_, _≤_, _<_}
-use native.Mathlib.Nat.{zero-add}
+use mathlib.Core.List.{List}
+use Prim.Native.Nat.{ℕ, _≤_, _<_}
 use native.Mathlib.Omega.{arith}
 use lib.Dec.{leb, ltb}
-use lib.ListN.{length, drop}
-use lib.Seq.{sets, sets-eq}
+use lib.ListN.{length}
+use lib.Seq.{sets}
 use borrow.Author.Tests.{le-leb, lt-leb, leb-true}
 use Rattle.wire.specs.Outcome.{accepted, refused}
+use Rattle.wire.proofs.Stores.{sets-front}
 use Rattle.wire.proofs.Tests.{both-true}
 use Rattle.message.specs.Fields.{Message}
 use Rattle.message.specs.Bounds.{phaseOk, planOk, within}
@@ -25,12 +25,6 @@ use Rattle.writer.specs.Writing.{
 }
 use Rattle.message.proofs.EncodeLaws.{encode-length}
 use Rattle.writer.proofs.HistoryLaws.{listed-count, listed-ok}
-
--- stores from the front of a buffer on
-pub sets-front : (bs l : List ℕ) → length bs ≤ length l → sets l 0 bs ≡ bs ++ drop (length bs) l
-sets-front bs l h =
-    let room : 0 + length bs ≤ length l = rw zero-add h in
-    rw (← zero-add (length bs)) (sets-eq bs l 0 room)
 
 module _ (m : Message) (buffer : List ℕ) where
   pub written : within m ≡ true → sizeOf (m .body) ≤ length buffer

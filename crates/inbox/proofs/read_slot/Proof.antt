@@ -21,17 +21,8 @@ returns : tie.Need-returns
 returns c = let slot = now (c .before .before .before .before .args .slot) in
     simp (sym (c .before .before .hear .ensures) ∙ ap (λ r. saidAs r slot) (c .enum-told .given .1))
 
-element-write-present : tie.Need-element-write-present
-element-write-present c = search needs
-
-mul-votes : tie.Need-mul-votes
-mul-votes c = search needs
-
-element-write-votes : tie.Need-element-write-votes
-element-write-votes c = search needs
-
-element-write-stamps : tie.Need-element-write-stamps
-element-write-stamps c = search needs
+put-vote-requires : tie.Need-put-vote-requires
+put-vote-requires c κs = search needs
 
 mul-lay-entries : tie.Need-mul-lay-entries
 mul-lay-entries c = search needs
@@ -45,12 +36,12 @@ cast-lay-entries c = search needs
 lay-entries-requires : tie.Need-lay-entries-requires
 lay-entries-requires c κs =
     let b4 = c .before .before .before .before in
-    let b4 = b4 in
-    let slot = now (b4 .before .before .before .args .slot) in
-    let heard = sym (ap (λ r. saidAs r slot) (c .before .before .before .heard .given .1))
-    ∙ b4 .before .hear .ensures in
-    let shown = heard-shown slot (b4 .before .before .before .args .run) (b4 .before .before .before .args .phase)
-    (b4 .before .before .before .args .round) _ _ _ heard in (
+    let b8 = b4 .before .before .before .before in
+    let a = b8 .before .before .before .args in
+    let slot = now (a .slot) in
+    let b7 = b4 .before .before .before in
+    let heard = sym (ap (λ r. saidAs r slot) (b7 .heard .given .1)) ∙ b7 .before .before .hear .ensures in
+    let shown = heard-shown slot (a .run) (a .phase) (a .round) _ _ _ heard in (
       omega arith,
       rw (c .entries-counted .ensures) (shown .long),
       rw (c .entries-counted .ensures, shown .same) (shown .below),
@@ -60,10 +51,21 @@ returns-2 : tie.Need-returns-2
 returns-2 c =
     let b4 = c .before .before .before .before in
     let b8 = b4 .before .before .before .before in
-    let slot = now (b8 .args .slot) in
-    let heard = sym (ap (λ r. saidAs r slot) (b4 .heard .given .1)) ∙ b4 .before .before .hear .ensures in
-    let shown = heard-shown slot (b8 .args .run) (b8 .args .phase) (b8 .args .round) _ _ _ heard in
-    simp (sym heard, c .lay-entries .ensures, c .before .entries-counted .ensures, shown .same)
+    let b12 = b8 .before .before .before .before in
+    let a = b12 .args in
+    let slot = now (a .slot) in
+    let heard = sym (ap (λ r. saidAs r slot) (b8 .heard .given .1)) ∙ b8 .before .before .hear .ensures in
+    let shown = heard-shown slot (a .run) (a .phase) (a .round) _ _ _ heard in
+    let put = c .before .before .before .put-vote .ensures in
+    simp (
+      sym heard,
+      put .0,
+      put .1,
+      put .2,
+      c .lay-entries .ensures,
+      c .before .entries-counted .ensures,
+      shown .same,
+    )
 
 pub read-slot-spec : {M : Type 1} → statement M
 read-slot-spec =
@@ -73,10 +75,7 @@ read-slot-spec =
     enum-known-heard
     enum-told
     returns
-    element-write-present
-    mul-votes
-    element-write-votes
-    element-write-stamps
+    put-vote-requires
     mul-lay-entries
     entries-counted-requires
     cast-lay-entries

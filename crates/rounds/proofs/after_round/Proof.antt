@@ -1,14 +1,25 @@
 -- `after_round` meets its contract.
-use mathlib.Core.Path.{_∙_, ap}
+use mathlib.Core.Path.{ap, ap₂, _∙_}
+use lib.Dec.{eqb}
+use lib.ListN.{replicate}
 use borrow.Author.Needs.{needs}
-use borrow.Author.Tests.{eq-eqb, ne-eqb}
-use Rattle.tally.proofs.Countable.{selected-rule, valid-rule, decided-rule}
-use Rattle.rounds.specs.Taking.{afterSelection, afterValidation, afterDecision, afterRound}
+use borrow.Author.Tests.{eqb-true}
+use denote.Ref.{now}
+use Rattle.ballot.specs.Selection.{taken}
+use Rattle.crew.specs.Thresholds.{three}
+use Rattle.inbox.proofs.Inboxes.{polled-inbox}
+use Rattle.rounds.proofs.Sizes.{sound-places, sound-countable, class-lists}
+use Rattle.rounds.specs.Taking.{afterSelection, afterRound}
+use Rattle.tally.proofs.Countable.{selected-rule}
+use Rattle.wire.proofs.Tests.{both-true}
 use Rattle.rounds.proofs.after_round.Statement.{statement}
 use Rattle.rounds.proofs.after_round.Tie as tie
 
-select-requires : tie.Need-select-requires
-select-requires c κs = search needs
+read-slots-requires : tie.Need-read-slots-requires
+read-slots-requires c κs = search needs
+
+select-by-lists-requires : tie.Need-select-by-lists-requires
+select-by-lists-requires c κs = search needs
 
 after-selection-requires : tie.Need-after-selection-requires
 after-selection-requires c κs = search needs
@@ -17,50 +28,43 @@ returns : tie.Need-returns
 unfolding afterRound
 returns c =
     let b4 = c .before .before .before .before in
-    let b4 = b4 in
-    rw (eq-eqb _ _ (c .before .before .if1 .taken))
-    (c .after-selection .ensures ∙ ap (afterSelection (b4 .before .args .node)) (c .before .select .ensures ∙ selected-rule _ _ (b4 .before .pre .1)))
+    let b8 = b4 .before .before .before .before in
+    let b12 = b8 .before .before .before .before in
+    let d = b12 .before .before .before .args .node in
+    let ok = b12 .before .before .before .pre .1 in
+    let tests = both-true (eqb (d .round) 1) (eqb (d .crew .class) 3) (b8 .before .before .before .if1 .taken) in
+    let heard = polled-inbox d (now (b12 .before .before .before .args .inbox)) _ (sound-places d ok)
+    (b12 .before .before .before .pre .2) (b4 .before .before .read-slots .ensures) in
+    rw (tests .0)
+    (c .after-selection .ensures ∙ ap (afterSelection d)
+    (c .before .select-by-lists .ensures
+    ∙ selected-rule (d .crew) _ (sound-countable d ok) three
+    ∙ ap₂ (λ k ballots. taken k (d .crew) ballots) (class-lists (d .crew) (eqb-true _ _ (tests .1))) heard))
 
-validate-requires : tie.Need-validate-requires
-validate-requires c κs = search needs
+read-votes-requires : tie.Need-read-votes-requires
+read-votes-requires c κs = search needs
 
-after-validation-requires : tie.Need-after-validation-requires
-after-validation-requires c κs = search needs
+after-votes-requires : tie.Need-after-votes-requires
+after-votes-requires c κs = search needs
 
 returns-2 : tie.Need-returns-2
-unfolding afterRound
 returns-2 c =
     let b4 = c .before .before .before .before in
-    let b4 = b4 in
-    rw (ne-eqb _ _ (b4 .if1 .left), eq-eqb _ _ (c .before .before .if2 .taken))
-    (c .after-validation .ensures ∙ ap (afterValidation (b4 .before .before .before .args .node))
-    (c .before .validate .ensures ∙ valid-rule _ _ (b4 .before .before .before .pre .1)))
-
-decide-requires : tie.Need-decide-requires
-decide-requires c κs = search needs
-
-after-decision-requires : tie.Need-after-decision-requires
-after-decision-requires c κs = search needs
-
-returns-3 : tie.Need-returns-3
-unfolding afterRound
-returns-3 c =
-    let b4 = c .before .before .before .before in
-    let b4 = b4 in
-    rw (ne-eqb _ _ (b4 .if1 .left), ne-eqb _ _ (c .before .before .if2 .left))
-    (c .after-decision .ensures ∙ ap (afterDecision (b4 .before .before .before .args .node))
-    (c .before .decide .ensures ∙ decided-rule _ _ (b4 .before .before .before .pre .1) _))
+    let b8 = b4 .before .before .before .before in
+    let b12 = b8 .before .before .before .before in
+    let d = b12 .args .node in
+    let whole = b4 .read-votes .ensures (replicate 2048 0) in
+    let heard = polled-inbox d (now (b12 .args .inbox)) _ (sound-places d (b12 .pre .1)) (b12 .pre .2) whole in
+    c .after-votes .ensures _ ∙ ap (afterRound d) heard
 
 pub after-round-spec : {M : Type 1} → statement M
 after-round-spec =
     tie.close
     (tie.spec
-    select-requires
+    read-slots-requires
+    select-by-lists-requires
     after-selection-requires
     returns
-    validate-requires
-    after-validation-requires
-    returns-2
-    decide-requires
-    after-decision-requires
-    returns-3)
+    read-votes-requires
+    after-votes-requires
+    returns-2)

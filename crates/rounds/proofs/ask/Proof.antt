@@ -1,19 +1,12 @@
 -- `ask` meets its contract.
-use mathlib.Core.Bool.{true}
 use mathlib.Core.Path.{_∙_, ap, refl}
 use lib.Dec.{eqb}
 use borrow.Author.Needs.{needs}
 use borrow.Author.Tests.{eq-eqb, ne-eqb, lt-ltb, le-ltb}
-use denote.Ref.{now}
-use Rattle.ballot.specs.Selection.{selection}
-use Rattle.crew.specs.Thresholds.{classOf}
 use Rattle.node.specs.Soundness.{sound}
+use Rattle.rounds.specs.Asking.{askOf}
 use Rattle.wire.proofs.Tests.{both-true}
 use Rattle.wire.specs.Outcome.{accepted}
-use Rattle.inbox.proofs.Inboxes.{polled-inbox}
-use Rattle.tally.proofs.Countable.{choice-rule}
-use Rattle.rounds.proofs.Sizes.{sound-places, sound-countable}
-use Rattle.rounds.specs.Asking.{askOf}
 use Rattle.rounds.proofs.ask.Statement.{statement}
 use Rattle.rounds.proofs.ask.Tie as tie
 
@@ -26,11 +19,13 @@ cast-n c = search needs
 mul-if3 : tie.Need-mul-if3
 mul-if3 c = search needs
 
-read-slots-requires : tie.Need-read-slots-requires
-read-slots-requires c κs = search needs
-
 choose-requires : tie.Need-choose-requires
-choose-requires c κs = search needs
+choose-requires c κs =
+    let b4 = c .before .before .before .before in
+    let b8 = b4 .before .before .before .before in
+    let d = b8 .args .node in
+    let tests = rw (b4 .before .before .is-sound .ensures) at (b4 .if1 .taken) in
+    (both-true (sound d) (eqb (d .round) 1) tests .0, c .if3 .taken)
 
 to-asking-requires : tie.Need-to-asking-requires
 to-asking-requires c κs = search needs
@@ -39,22 +34,10 @@ returns : tie.Need-returns
 unfolding askOf
 returns c =
     let b4 = c .before .before .before .before in
-    let b4 = b4 in
     let b8 = b4 .before .before .before .before in
-    let b12 = b8 .before .before .before .before in
-    let b16 = b12 .before .before .before .before in
-    let d = b16 .before .before .before .args .node in
-    let tests = rw (b16 .before .is-sound .ensures) at (b12 .before .before .before .if1 .taken) in
-    let ok = both-true (sound d) (eqb (d .round) 1) tests .0 in
-    let heard = polled-inbox d (now (b16 .before .before .before .args .inbox)) _ (sound-places d ok) (b8 .before .before .before .if3 .taken)
-    (b4 .before .before .read-slots .ensures) in
-    simp (tests, lt-ltb _ _ (b12 .before .if2 .taken), eq-eqb _ _ (b8 .before .before .before .if3 .taken)) (
-      c .to-asking .ensures ∙ ap accepted
-          (c .before .choose .ensures
-          ∙ choice-rule (d .crew) _ (sound-countable d ok)
-          ∙ ap (selection (classOf (d .crew)) (d .crew)) heard),
-      refl,
-    )
+    let tests = rw (b8 .is-sound .ensures) at (b4 .before .before .if1 .taken) in
+    simp (tests, lt-ltb _ _ (b4 .if2 .taken), eq-eqb _ _ (c .before .before .if3 .taken))
+    (c .to-asking .ensures ∙ ap accepted (c .before .choose .ensures), refl)
 
 refuse-ask-requires : tie.Need-refuse-ask-requires
 refuse-ask-requires c κs = search needs
@@ -80,7 +63,8 @@ unfolding askOf
 returns-3 c =
     let b4 = c .before .before .before .before in
     let tests = rw (b4 .before .is-sound .ensures) at (c .before .before .before .if1 .taken) in
-    simp (tests, le-ltb _ _ (c .before .if2 .left), c .refuse-ask2 .ensures .0, c .refuse-ask2 .ensures .1) (refl, refl)
+    simp (tests, le-ltb _ _ (c .before .if2 .left), c .refuse-ask2 .ensures .0, c .refuse-ask2 .ensures .1)
+    (refl, refl)
 
 refuse-ask-requires-3 : tie.Need-refuse-ask-requires-3
 refuse-ask-requires-3 c κs = search needs
@@ -97,7 +81,6 @@ ask-spec =
     is-sound-requires
     cast-n
     mul-if3
-    read-slots-requires
     choose-requires
     to-asking-requires
     returns

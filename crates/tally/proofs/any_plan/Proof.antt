@@ -27,9 +27,10 @@ highest-count-requires c κs = search needs
 returns : tie.Need-returns
 unfolding anyPlan
 returns c =
+    λ h.
     let b4 = c .before .before .before .before in
     let a = b4 .before .args in
-    let read = columns (now (a .present)) (now (a .votes)) (now (a .stamps)) (now (a .histories)) in
+    let read = columns (now (a .present)) (now (a .votes)) (now (a .stamps)) h in
     let highest : c .before .highest-count .result ≡ most (a .crew) read (a .crew .n) =
     c .before .highest-count .ensures ∙ highest-same (marked (now (a .present))) _ _ (a .crew .n)
     (c .before .before .before .count-each .ensures) in
@@ -47,11 +48,12 @@ least-marked-requires c κs = search needs
 returns-2 : tie.Need-returns-2
 unfolding anyPlan mostVoted
 returns-2 c =
+    λ h.
     let b4 = c .before .before .before .before in
     let b8 = b4 .before .before .before .before in
     let a = b8 .before .args in
     let crew = a .crew in
-    let read = columns (now (a .present)) (now (a .votes)) (now (a .stamps)) (now (a .histories)) in
+    let read = columns (now (a .present)) (now (a .votes)) (now (a .stamps)) h in
     let best = b4 .before .highest-count .result in
     let highest : best ≡ most crew read (crew .n) =
     b4 .before .highest-count .ensures ∙ highest-same (marked (now (a .present))) _ _ (crew .n)

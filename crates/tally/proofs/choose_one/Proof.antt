@@ -32,10 +32,11 @@ answer-below-three-requires c κs = search needs
 
 returns : tie.Need-returns
 returns c =
+    λ h.
     let b4 = c .before .before .before .before in
     let a = b4 .before .before .before .args in
     let crew = a .crew in
-    let read = columns (now (a .present)) (now (a .votes)) (now (a .stamps)) (now (a .histories)) in
+    let read = columns (now (a .present)) (now (a .votes)) (now (a .stamps)) h in
     let marks = rw (b4 .before .bound .ensures .0) at (c .before .before .before .mark-above .ensures) in
     let slots = rw (← b4 .before .bound .ensures .0)
     at (enough-one crew read (crew .n) (b4 .count-marks .result) (b4 .count-marks .ensures .0)) in

@@ -38,11 +38,12 @@ answer-below-three-requires c κs = search needs
 
 returns : tie.Need-returns
 returns c =
+    λ h.
     let b4 = c .before .before .before .before in
     let b8 = b4 .before .before .before .before in
     let a = b8 .before .before .args in
     let crew = a .crew in
-    let read = columns (now (a .present)) (now (a .votes)) (now (a .stamps)) (now (a .histories)) in
+    let read = columns (now (a .present)) (now (a .votes)) (now (a .stamps)) h in
     let above = rw (b4 .before .before .before .bound .ensures .0) at (b4 .before .mark-above .ensures) in
     let slots = rw (← b4 .before .before .before .bound .ensures .0)
     at (enough-two crew read (crew .n) (b4 .before .before .count-marks .result)

@@ -17,11 +17,12 @@ least-deciding-requires c κs =
 
 returns : tie.Need-returns
 unfolding decidedIn
-returns c = rw (sym (c .before .before .is-countable .ensures) ∙ c .before .if1 .taken) (c .least-deciding .ensures)
+returns c =
+    λ h. rw (sym (c .before .before .is-countable .ensures) ∙ c .before .if1 .taken) (c .least-deciding .ensures h)
 
 returns-2 : tie.Need-returns-2
 unfolding decidedIn
-returns-2 c = rw (sym (c .before .is-countable .ensures) ∙ c .if1 .left)
+returns-2 c = λ h. rw (sym (c .before .is-countable .ensures) ∙ c .if1 .left)
 
 pub decide-spec : {M : Type 1} → statement M
 decide-spec = tie.close (tie.spec is-countable-requires least-deciding-requires returns returns-2)

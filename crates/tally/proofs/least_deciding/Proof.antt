@@ -30,12 +30,13 @@ least-marked-requires c κs = search needs
 returns : tie.Need-returns
 unfolding decision
 returns c =
+    λ h.
     let b4 = c .before .before .before .before in
     let b4 = b4 in
     let a = b4 .before .before .before .args in
     let crew = a .crew in
     let class = classOf crew in
-    let read = columns (now (a .present)) (now (a .votes)) (now (a .stamps)) (now (a .histories)) in
+    let read = columns (now (a .present)) (now (a .votes)) (now (a .stamps)) h in
     c .least-marked .ensures
     ∙ sym (least-of crew read (crew .n) (decides class crew (a .phase) (polled read (crew .n)))
     (c .before .before .mark-above .result)

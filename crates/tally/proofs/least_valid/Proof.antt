@@ -28,9 +28,11 @@ least-marked-requires c κs = search needs
 
 returns : tie.Need-returns
 unfolding validated
-returns c = let a = c .before .before .before .before .before .before .args in
+returns c =
+    λ h.
+    let a = c .before .before .before .before .before .before .args in
     let crew = a .crew in
-    let read = columns (now (a .present)) (now (a .votes)) (now (a .stamps)) (now (a .histories)) in
+    let read = columns (now (a .present)) (now (a .votes)) (now (a .stamps)) h in
     c .least-marked .ensures
     ∙ sym (least-of crew read (crew .n) (valid crew (polled read (crew .n))) (c .before .before .mark-above .result)
     (λ q less. c .before .before .mark-above .ensures q less ∙ sym (valid-slot crew read (crew .n) q)))

@@ -17,11 +17,11 @@ least-valid-requires c κs =
 
 returns : tie.Need-returns
 unfolding validIn
-returns c = rw (sym (c .before .before .is-countable .ensures) ∙ c .before .if1 .taken) (c .least-valid .ensures)
+returns c = λ h. rw (sym (c .before .before .is-countable .ensures) ∙ c .before .if1 .taken) (c .least-valid .ensures h)
 
 returns-2 : tie.Need-returns-2
 unfolding validIn
-returns-2 c = rw (sym (c .before .is-countable .ensures) ∙ c .if1 .left)
+returns-2 c = λ h. rw (sym (c .before .is-countable .ensures) ∙ c .if1 .left)
 
 pub validate-spec : {M : Type 1} → statement M
 validate-spec = tie.close (tie.spec is-countable-requires least-valid-requires returns returns-2)

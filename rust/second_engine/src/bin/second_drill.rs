@@ -1,11 +1,24 @@
-//! The drill as a program: standard input to standard output.
+//! The drill as a program: standard input to standard output. With a word it is a wrong engine's, one of `Mutation`, so
+//! that a class can see on the screen where the error leads: `second_drill NewestStampWins < script`.
 
-use second_engine::drill;
+use second_engine::{drill, Mutation};
 use std::io::{self, Read, Write};
+use std::process::ExitCode;
 
-fn main() -> io::Result<()> {
+fn main() -> io::Result<ExitCode> {
+    let mutation = match std::env::args().nth(1) {
+        None => Mutation::Unmutated,
+        Some(name) => match Mutation::MUTANTS.into_iter().find(|mutant| format!("{mutant:?}") == name) {
+            Some(mutant) => mutant,
+            None => {
+                eprintln!("no wrong engine is called {name}; there are: {:?}", Mutation::MUTANTS);
+                return Ok(ExitCode::from(2));
+            }
+        },
+    };
     let mut input = Vec::new();
     // One byte over the longest input is enough to know that it is too long.
     io::stdin().lock().take(drill::LONGEST_INPUT as u64 + 1).read_to_end(&mut input)?;
-    io::stdout().lock().write_all(&drill::run(&input))
+    io::stdout().lock().write_all(&drill::run_mutated(&input, mutation))?;
+    Ok(ExitCode::SUCCESS)
 }

@@ -1,0 +1,99 @@
+-- `read_votes` meets its contract. The invariant: the columns hold the first q slots, whatever the histories.
+use mathlib.Core.List.{List}
+use mathlib.Core.Option.{Option}
+use mathlib.Core.Path.{_≡_, refl, ap}
+use Prim.Native.Nat.{ℕ, _*_, _≤_, _-_}
+use native.Mathlib.Nat.{add-sub-cancel-left}
+use native.Mathlib.Omega.{arith}
+use lib.ListN.{take, drop}
+use borrow.Author.Needs.{needs}
+use denote.Ref.{now}
+use Rattle.ballot.specs.Ballot.{Ballot}
+use Rattle.inbox.proofs.Filling.{brief-more}
+use Rattle.inbox.specs.Columns.{columns, Brief, filled}
+use Rattle.inbox.specs.Inbox.{slotAt, counted}
+use Rattle.message.specs.Reading.{readOf}
+use Rattle.inbox.proofs.read_votes.Statement.{statement}
+use Rattle.inbox.proofs.read_votes.Tie as tie
+
+abbrev Inv-loop : tie.InvT-loop
+Inv-loop inbox run phase round present₀ votes₀ stamps₀ n q₀ present votes stamps q =
+    (q ≤ n)
+    × ((h : List ℕ) → Brief present votes stamps
+    (filled (columns present₀ votes₀ stamps₀ h) (λ k. counted run phase round (readOf (slotAt inbox k))) q))
+
+abbrev μ-loop : tie.MeasureT-loop
+μ-loop inbox run phase round present₀ votes₀ stamps₀ n q₀ present votes stamps q = n - q
+
+slots-in-requires : tie.Need-slots-in-requires Inv-loop μ-loop
+slots-in-requires c κs = search needs
+
+loop-holds : tie.Need-loop-holds Inv-loop μ-loop
+unfolding filled
+loop-holds c = (omega arith, λ h. refl)
+
+mul-start : tie.Need-mul-start Inv-loop μ-loop
+mul-start c = search needs
+
+add-end : tie.Need-add-end Inv-loop μ-loop
+add-end c = search needs
+
+sub-read-vote : tie.Need-sub-read-vote Inv-loop μ-loop
+sub-read-vote c = search needs
+
+part-read-vote-start : tie.Need-part-read-vote-start Inv-loop μ-loop
+part-read-vote-start c = search needs
+
+part-read-vote-end : tie.Need-part-read-vote-end Inv-loop μ-loop
+part-read-vote-end c = search needs
+
+read-vote-requires : tie.Need-read-vote-requires Inv-loop μ-loop
+read-vote-requires c κs = search needs
+
+add-q : tie.Need-add-q Inv-loop μ-loop
+add-q c = search needs
+
+loop-less : tie.Need-loop-less Inv-loop μ-loop
+loop-less c = search needs
+
+loop-again : tie.Need-loop-again Inv-loop μ-loop
+loop-again c =
+    let b4 = c .before .before .before .before in
+    let b8 = b4 .before .before .before .before in
+    let a = b8 .before .args in
+    let l = b4 .before .before .loop in
+    let inbox = now (a .inbox) in
+    let slots : ℕ → Option Ballot = λ k. counted (a .run) (a .phase) (a .round) (readOf (slotAt inbox k)) in
+    let at-q = 202 * l .q in
+    let slot =
+    ap (λ size. counted (a .run) (a .phase) (a .round) (readOf (take size (drop at-q inbox))))
+    (add-sub-cancel-left at-q 202) in (
+      omega arith,
+      λ h. brief-more (columns (now (a .present)) (now (a .votes)) (now (a .stamps)) h) slots (l .q) _ _ _ _ _ _ _
+          (l .inv .1 h) slot (c .read-vote .ensures),
+    )
+
+returns : tie.Need-returns Inv-loop μ-loop
+returns c = let l = c .before .loop in
+    let n = c .before .before .slots-in in
+    let done : l .q ≡ n .result = omega (arith, l .inv .0, c .loop-test .left) in
+    λ h. rw (← n .ensures .0, ← done) (l .inv .1 h)
+
+pub read-votes-spec : {M : Type 1} → statement M
+read-votes-spec =
+    tie.close
+    (tie.spec
+    Inv-loop
+    μ-loop
+    slots-in-requires
+    loop-holds
+    mul-start
+    add-end
+    sub-read-vote
+    part-read-vote-start
+    part-read-vote-end
+    read-vote-requires
+    add-q
+    loop-less
+    loop-again
+    returns)

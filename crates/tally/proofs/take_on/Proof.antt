@@ -1,0 +1,39 @@
+-- `take_on` meets its contract.
+use mathlib.Core.Path.{ap}
+use borrow.Author.Needs.{needs}
+use Rattle.tally.specs.Rules.{choiceAs}
+use Rattle.tally.proofs.take_on.Statement.{statement}
+use Rattle.tally.proofs.take_on.Tie as tie
+
+enum-known-choice : tie.Need-enum-known-choice
+enum-known-choice c = search needs
+
+enum-told : tie.Need-enum-told
+enum-told c = search needs
+
+any-plan-requires : tie.Need-any-plan-requires
+any-plan-requires c κs = c .before .before .pre (ap choiceAs (c .enum-told .given .1))
+
+enum-told-2 : tie.Need-enum-told-2
+enum-told-2 c = search needs
+
+returns : tie.Need-returns
+returns c = λ h. simp (c .before .choice .given .1)
+
+returns-2 : tie.Need-returns-2
+returns-2 c = λ h. simp (c .before .enum-told .given .1) (c .any-plan .ensures h)
+
+returns-3 : tie.Need-returns-3
+returns-3 c = λ h. simp (c .enum-told2 .given .1)
+
+pub take-on-spec : {M : Type 1} → statement M
+take-on-spec =
+    tie.close
+    (tie.spec
+    enum-known-choice
+    enum-told
+    any-plan-requires
+    enum-told-2
+    returns
+    returns-2
+    returns-3)
