@@ -10,6 +10,7 @@ use native.Mathlib.Decide.{ℕ-discrete}
 use lib.ListN.{length, getD, set}
 use lib.Dec.{eqb}
 use borrow.Author.Tests.{eq-eqb, eqb-true, eqb-false}
+use Rattle.wire.specs.Plan.{ifPlan}
 use Rattle.wire.specs.Outcome.{accepted, refused, valueOr}
 use Rattle.wire.specs.Bytes.{AreBytes}
 use Rattle.crew.specs.declared.Crew.{Crew}
@@ -21,7 +22,6 @@ use Rattle.ballot.specs.Decision.{decides, decision}
 use Rattle.ballot.proofs.Least.{Voted, leastOf-voted}
 use Rattle.ballot.proofs.Selection.{taken-voted}
 use Rattle.ballot.proofs.Validation.{validated-voted}
-use Rattle.model.specs.Node.{ifPlan}
 use Rattle.model.proofs.Node.{ifPlan-is, kept, kept-length, kept-other, kept-here}
 use Rattle.node.specs.declared.Node.{Node}
 use Rattle.node.specs.Soundness.{firstUnselected, sound}

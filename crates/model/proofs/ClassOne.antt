@@ -8,6 +8,7 @@ use Prim.Native.Nat.{ℕ, _+_, _≤_}
 use native.Mathlib.Omega.{arith}
 use native.Mathlib.Decide.{ℕ-discrete}
 use lib.Dec.{T, eqb→eq}
+use Rattle.wire.specs.Plan.{ifPlan}
 use Rattle.wire.proofs.Tests.{tests}
 use Rattle.crew.specs.declared.Crew.{Crew}
 use Rattle.crew.specs.Thresholds.{one}
@@ -20,7 +21,7 @@ use Rattle.ballot.proofs.Tests.{and-T, holds-T}
 use Rattle.ballot.proofs.Counting.{count-gather, tally-split, tally-not}
 use Rattle.ballot.proofs.Slots.{same-ballot, same-vote, FewLiars}
 use Rattle.ballot.proofs.Locked.{Core, Takes, outside-lock-at-most-E, lock-taken-one}
-use Rattle.model.specs.Node.{Node, Round, selecting, validating, deciding, ifPlan, say, turn}
+use Rattle.model.specs.Node.{Node, Round, selecting, validating, deciding, say, turn}
 use Rattle.model.specs.Run.{Each, State, Inboxes, roundAfter, step, Faithful, Decides}
 use Rattle.model.proofs.Node.{ifPlan-is}
 use Rattle.model.proofs.Run.{heard, Locking}

@@ -9,6 +9,7 @@ use Prim.Native.Nat.{ℕ, _+_, _-_, _*_, _≤_, _<_}
 use native.Mathlib.Omega.{arith}
 use lib.ListN.{getD}
 use lib.Dec.{T, eqb, lt→ltb}
+use Rattle.wire.specs.Plan.{ifPlan}
 use Rattle.wire.proofs.Tests.{tests}
 use Rattle.crew.specs.declared.Crew.{Crew}
 use Rattle.crew.specs.Thresholds.{Class, one, two, three, anyAbove, validAbove}
@@ -25,7 +26,7 @@ use Rattle.ballot.proofs.Validation.{valid-validated}
 use Rattle.ballot.proofs.Decision.{Stamps, stamp-fresh}
 use Rattle.ballot.proofs.Order.{taken-same}
 use Rattle.ballot.proofs.Circle.{circle-counts, answers-one, answers-two, answers-three}
-use Rattle.model.specs.Node.{Node, Round, selecting, validating, deciding, number, ifPlan, entriesBelow}
+use Rattle.model.specs.Node.{Node, Round, selecting, validating, deciding, number, entriesBelow}
 use Rattle.model.specs.Run.{Each, State, Inboxes, turned, step, saying}
 use Rattle.model.proofs.Node.{ifPlan-is, confirms-is, lists-below}
 use Rattle.model.proofs.Run.{at}

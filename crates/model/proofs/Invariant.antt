@@ -8,6 +8,7 @@ use Prim.Native.Nat.{ℕ, suc, _+_, _*_, _≤_, _<_}
 use native.Mathlib.Omega.{arith}
 use lib.ListN.{length, getD, length-replicate}
 use lib.Dec.{T, eqb}
+use Rattle.wire.specs.Plan.{ifPlan}
 use Rattle.wire.proofs.Tests.{tests}
 use Rattle.crew.specs.declared.Crew.{Crew}
 use Rattle.crew.specs.Thresholds.{Class, one, two, three, validAbove}
@@ -22,7 +23,7 @@ use Rattle.ballot.proofs.Slots.{same-vote, FewLiars}
 use Rattle.ballot.proofs.Validation.{validated-slots, validated-unique}
 use Rattle.ballot.proofs.Decision.{Stamps}
 use Rattle.model.specs.Node.{Node, Round, selecting, validating, deciding, number}
-use Rattle.model.specs.Node.{begin, ifPlan, selects, confirms, settles}
+use Rattle.model.specs.Node.{begin, selects, confirms, settles}
 use Rattle.model.specs.Run.{Each, State, Inboxes, turned, step, Faithful, spent, start}
 use Rattle.model.proofs.Node.{ifPlan-is, confirms-is, said-plan, begins-blank}
 use Rattle.model.proofs.Node.{kept-length, kept-other, kept-here}

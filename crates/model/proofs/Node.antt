@@ -12,6 +12,7 @@ use lib.ListN.{length, getD, set, replicate, length-set}
 use lib.Seq.{getD-set-same, getD-set-other, set-out}
 use lib.Dec.{T, eqb, eqb→eq, ltb→lt}
 use borrow.Author.Tests.{eqb-true, eqb-false}
+use Rattle.wire.specs.Plan.{ifPlan}
 use Rattle.wire.proofs.Tests.{tests}
 use Rattle.wire.specs.Entry.{Entry}
 use Rattle.crew.specs.Thresholds.{Class, one, two, three}
@@ -20,7 +21,7 @@ use Rattle.ballot.specs.Ballot.{Ballot, isEntry, lists}
 use Rattle.ballot.proofs.Tests.{and-T, T-and}
 use Rattle.ballot.proofs.Counting.{bit-T, bit-pos, count-append}
 use Rattle.ballot.proofs.Slots.{same-ballot, not-none}
-use Rattle.model.specs.Node.{ifPlan, entryOf, entriesBelow, entriesSaid}
+use Rattle.model.specs.Node.{entryOf, entriesBelow, entriesSaid}
 
 pub ifPlan-is : {A : Type 0} (v : ℕ) (new old : A)
     → ((v ≡ 0) × (ifPlan v new old ≡ old)) ⊎ ((v ≢ 0) × (ifPlan v new old ≡ new))

@@ -6,13 +6,14 @@ use Prim.Native.Nat.{ℕ, zero, suc, _≤_, _<_}
 use native.Mathlib.Omega.{arith}
 use native.Mathlib.Decide.{ℕ-discrete}
 use lib.Dec.{T, eqb→eq}
+use Rattle.wire.specs.Plan.{ifPlan}
 use Rattle.crew.proofs.Facts.{accepts, quorum-positive}
 use Rattle.ballot.specs.Count.{countIf}
 use Rattle.ballot.specs.Ballot.{Ballot, inbox, votes}
 use Rattle.ballot.specs.Decision.{decision}
 use Rattle.ballot.proofs.Slots.{no-slot-counts}
 use Rattle.ballot.proofs.Decision.{decision-decides, decides-voted, decision-least, decision-plan}
-use Rattle.model.specs.Node.{Round, selecting, validating, deciding, number, ifPlan, turn}
+use Rattle.model.specs.Node.{Round, selecting, validating, deciding, number, turn}
 use Rattle.model.specs.Run.{Run, class, state, Held, DecidesAt, Undecided, PlanDecided, Admissible}
 use Rattle.model.proofs.Node.{ifPlan-is}
 use Rattle.model.proofs.Run.{moves}

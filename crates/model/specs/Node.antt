@@ -6,7 +6,7 @@ use mathlib.Core.List.{List, [], _∷_, _++_}
 use mathlib.Core.Option.{Option, none, some}
 use Prim.Native.Nat.{ℕ, zero, suc}
 use lib.ListN.{getD, set, replicate}
-use lib.Dec.{eqb}
+use Rattle.wire.specs.Plan.{ifPlan}
 use Rattle.wire.specs.Entry.{Entry}
 use Rattle.crew.specs.declared.Crew.{Crew}
 use Rattle.crew.specs.Thresholds.{Class, one, two, three}
@@ -36,10 +36,6 @@ number deciding = 3
 -- 01: "Start: vote, base and history entry 0 are the initial plan; stamp, select, result and all other entries 0"
 abbrev pub begin : ℕ → Node
 begin v = record { vote = v; base = v; stamp = 0; select = 0; result = 0; history = v ∷ replicate 63 0 }
-
--- 01: "0 means none": the new value where v is a plan, the old one where it is 0
-abbrev pub ifPlan : {A : Type 0} → ℕ → A → A → A
-ifPlan v new old = cond (eqb v 0) old new
 
 -- What a node says.
 

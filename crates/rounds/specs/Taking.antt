@@ -4,6 +4,7 @@ use mathlib.Core.Bool.{cond}
 use mathlib.Core.List.{List}
 use lib.ListN.{length, set}
 use lib.Dec.{ltb, eqb}
+use Rattle.wire.specs.Plan.{ifPlan}
 use Rattle.wire.specs.Outcome.{Outcome, accepted, refused, require}
 use Rattle.crew.specs.Thresholds.{classOf}
 use Rattle.ballot.specs.Ballot.{Ballot}
@@ -17,10 +18,6 @@ use Rattle.rounds.specs.declared.Refusal.{Refusal}
 use Rattle.rounds.specs.declared.Refusal.the-variants.{Unsound, Spent, Inbox}
 use Rattle.rounds.specs.declared.Taking.{Taking}
 use Rattle.rounds.specs.declared.Taking.the-variants.{Accepted, Refused}
-
--- 01: "0 means none": the new value where v is a plan, the old one where it is 0
-abbrev pub ifPlan : {A : Type 0} → ℕ → A → A → A
-ifPlan v new old = cond (eqb v 0) old new
 
 -- 01: "Select is the plan, or 0 for 'none'; a plan becomes the vote and the phase's history entry. Class 1 goes on to
 -- round 3, the others to round 2 and then 3."

@@ -10,6 +10,7 @@ use native.Mathlib.Omega.{arith}
 use lib.Dec.{ltb, eqb}
 use lib.ListN.{length, getD}
 use borrow.Author.Tests.{le-ltb}
+use Rattle.wire.proofs.Tests.{and-true}
 use Rattle.ballot.specs.Count.{tally, countIf, gather, push, holds}
 use Rattle.ballot.specs.Ballot.{Ballot, votes}
 use Rattle.ballot.specs.Least.{lower, least}
@@ -49,11 +50,7 @@ module _ (read : Columns) where
   pub length-polled : (n : ℕ) → length (polled read n) ≡ tally (marked (read .present)) n
   length-polled n =
       length-count (polled read n) ∙ count-polled n (λ m. true) (marked (read .present))
-      (λ q less. both (marked (read .present) q))
-    where
-      both : (b : Bool) → (b && true) ≡ b
-      both true = refl
-      both false = refl
+      (λ q less. and-true (marked (read .present) q))
 
   -- votes and stamps among the slots that are present
   pub supports-polled : (n vote below : ℕ)

@@ -22,6 +22,7 @@ use borrow.Author.Tests.{
   eq-eqb,
   ne-eqb,
 }
+use Rattle.wire.proofs.Tests.{and-true}
 use Rattle.crew.specs.declared.Crew.{Crew}
 use Rattle.crew.specs.Thresholds.{Class, one, two, three, E, validAbove}
 use Rattle.ballot.specs.Count.{bit, tally, countIf}
@@ -205,11 +206,7 @@ module _ (crew : Crew) (read : Columns) (n : ℕ) where
   -- in class 1 every slot's vote counts; in the others those with the phase's stamp
   pub fresh-slot : (class : Class) (phase q : ℕ)
       → onSlot read (fresh class phase) q ≡ freshSlot class (read .present) (read .stamps) phase q
-  fresh-slot one phase q = on-slot read (fresh one phase) q ∙ both (marked (read .present) q)
-    where
-      both : (b : Bool) → (b && true) ≡ b
-      both true = refl
-      both false = refl
+  fresh-slot one phase q = on-slot read (fresh one phase) q ∙ and-true (marked (read .present) q)
   fresh-slot two phase q = on-slot read (fresh two phase) q
   fresh-slot three phase q = on-slot read (fresh three phase) q
 

@@ -1,3 +1,4 @@
 pub mod Outcome
 pub mod Entry
 pub mod Bytes
+pub mod Plan
