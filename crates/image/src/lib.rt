@@ -136,6 +136,7 @@ pub struct Loaded {
     pub node: Node,
 }
 
+// Loads the record that a slice is the image of.
 pub fn load(s: &[u8]) -> Loaded
     ensures { λ r. ⌜ (r .fits ≡ imageFits (now (s .entry))) × (r .node ≡ loadOf (now (s .entry))) ⌝ }
 {

@@ -1,7 +1,7 @@
 -- The columns of an inbox: its ballots by slot, read once from the raw bytes. The rules run over them.
 -- A column of presence, one of votes, one of stamps, and the histories as one flat array with a place for each slot
 -- and phase.
--- What the crates below rounds promise each other: no contract of rounds cites this file.
+-- What the crates below rounds promise each other: no public contract of rounds cites this file.
 use Prim.Native.Nat.{ℕ, zero, suc, _+_, _*_, _/_, _<_, min}
 use mathlib.Core.Path.{_≡_}
 use mathlib.Core.Bool.{Bool, true, false, cond}

@@ -14,7 +14,6 @@ const HEAD: usize = 24;
 
 const CUT: usize = 8;
 
-// The output of no script is longer than the buffer: proofs/Bound.antt of `drill`.
 // Runs the script in the file that an argument names.
 fn run_named(i: usize) {
     let mut name = io::buffer();

@@ -134,12 +134,14 @@ fn is_framed(s: &[u8]) -> bool
     (HEADER <= size) & (size <= s.len())
 }
 
+// Whether a message may have this phase.
 pub fn is_phase(phase: u8) -> bool
     ensures { λ r. ⌜ r ≡ phaseOk phase ⌝ }
 {
     (1 <= phase) & (phase <= LAST_PHASE)
 }
 
+// Whether a number is a plan: 0 means none.
 pub fn is_plan(plan: u16) -> bool
     ensures { λ r. ⌜ r ≡ planOk plan ⌝ }
 {

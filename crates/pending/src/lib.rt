@@ -72,6 +72,7 @@ impl Pending {
         pending
     }
 
+    // Whether what the sender sends the receiver is lost.
     pub fn is_cut(self, sender: usize, receiver: usize) -> bool
         ensures { λ r. ⌜ r ≡ isCut self sender receiver ⌝ }
     {
@@ -83,6 +84,7 @@ impl Pending {
         false
     }
 
+    // What the sender is to say to the receiver; plan 0 where there is no say.
     pub fn say_of(self, sender: usize, receiver: usize) -> Said
         ensures { λ r. ⌜ r ≡ saidOf self sender receiver ⌝ }
     {

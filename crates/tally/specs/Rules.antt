@@ -1,6 +1,6 @@
 -- What the three rules answer from the columns of an inbox, for every crew: the rules of crate ballot where a crew's
 -- numbers can be counted with.
--- What the crates below rounds promise each other: no contract of rounds cites this file.
+-- What the crates below rounds promise each other: no public contract of rounds cites this file.
 use Prim.Native.Nat.{ℕ}
 use mathlib.Core.Bool.{Bool, cond, _&&_}
 use mathlib.Core.List.{List}

@@ -1,4 +1,5 @@
--- `put_history` meets its contract.
+-- `put_history` meets its contract. The invariant: the plans that are left, laid from this place on, end in the image
+-- with all plans.
 use mathlib.Core.Path.{_≡_, _∙_}
 use Prim.Native.Nat.{_≤_, _+_, _*_, _-_}
 use native.Mathlib.Omega.{arith}
