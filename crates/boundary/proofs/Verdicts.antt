@@ -1,14 +1,14 @@
 -- What the engine's answers say of the definitions' outcomes, as the functions for C and Rust use them.
 -- Assumes nothing.
-use mathlib.Core.Path.{_≡_, refl, ap, _∙_}
-use mathlib.Core.List.{List, [], _++_}
-use Prim.Native.Nat.{ℕ, _*_, _≤_, _<_}
+use mathlib.Core.Path.{_≡_, refl, ap}
+use mathlib.Core.List.{List, []}
+use Prim.Native.Nat.{ℕ, _*_, _<_}
 use native.Mathlib.Omega.{arith}
-use lib.ListN.{length, drop, drop-of-length-le}
+use lib.ListN.{length}
 use lib.Seq.{sets}
 use borrow.Author.Tests.{le-ltb}
 use Rattle.wire.specs.Outcome.{Outcome, accepted, refused, verdict, valueOr}
-use Rattle.wire.proofs.Stores.{sets-front}
+use Rattle.wire.proofs.Stores.{sets-whole}
 use Rattle.node.specs.declared.Node.{Node}
 use Rattle.image.specs.Layout.{imageOf}
 use Rattle.boundary.specs.Answers.{answerOf, Apart, done, recordAfter, fieldBytes, entryIn}
@@ -34,10 +34,8 @@ module _ (image : List ℕ) (before : Node) where
 pub fields-laid : (fields : List ℕ) (kind run phase vote stamp count : ℕ) → length fields ≡ 10
     → sets fields 0 (fieldBytes kind run phase vote stamp count) ≡ fieldBytes kind run phase vote stamp count
 fields-laid fields kind run phase vote stamp count long =
-    let bytes = fieldBytes kind run phase vote stamp count in
-    let over : length fields ≤ 10 = omega arith in
-    let none : drop 10 fields ≡ [] = drop-of-length-le fields over in
-    sets-front bytes fields (omega arith) ∙ ap (λ (tail : List ℕ). bytes ++ tail) none
+    let same : 10 ≡ length fields = omega arith in
+    sets-whole (fieldBytes kind run phase vote stamp count) fields same
 
 -- messages of kinds 2 and 3 have no entry to show
 pub entry-of-none : (i : ℕ) → entryIn [] i ≡ refused 27

@@ -1,14 +1,14 @@
 -- Laying plans one after the other, and reading them so: what the loops go by.
 -- Assumes nothing.
 use mathlib.Core.Path.{_≡_, refl, ap, sym, _∙_}
-use mathlib.Core.List.{List, [], _∷_, _++_, append-nil}
+use mathlib.Core.List.{List, [], _∷_, _++_}
 use Prim.Native.Nat.{ℕ, zero, suc, _+_, _*_, _-_, _<_, _≤_}
 use native.Mathlib.Omega.{arith}
 use native.Mathlib.Numerals.{add-one}
 use lib.ListN.{length, getD, set, drop, replicate, drop-of-length-le}
 use lib.Seq.{sets, drop-cons}
 use Rattle.wire.specs.Bytes.{numberAt, bytesOf}
-use Rattle.wire.proofs.Stores.{sets-append, sets-front}
+use Rattle.wire.proofs.Stores.{sets-append, sets-whole}
 use Rattle.node.specs.declared.Node.{Node}
 use Rattle.image.specs.Layout.{historyBytes, scalarBytes, imageOf, plansIn}
 
@@ -26,11 +26,8 @@ plans-length s place (suc count) = omega (arith, plans-length s (place + 2) coun
 -- the plans laid over an empty history are the history
 pub read-start : (s : List ℕ) → sets (replicate 64 0) 0 (plansIn s 21 64) ≡ plansIn s 21 64
 read-start s =
-    let plans = plansIn s 21 64 in
-    let long : length plans ≡ 64 = plans-length s 21 64 in
-    let room : length plans ≤ length (replicate {A = ℕ} 64 0) = omega arith in
-    let none : drop (length plans) (replicate {A = ℕ} 64 0) ≡ [] = rw long refl in
-    sets-front plans (replicate 64 0) room ∙ ap (λ (rest : List ℕ). plans ++ rest) none ∙ append-nil plans
+    let long : length (plansIn s 21 64) ≡ length (replicate {A = ℕ} 64 0) = omega (arith, plans-length s 21 64) in
+    sets-whole (plansIn s 21 64) (replicate 64 0) long
 
 -- A turn of the loop that reads the plans: those left, laid over what is there, end in the same plans.
 pub read-turn : (s history whole : List ℕ) (i plan : ℕ) → i < 64 → plan ≡ numberAt 2 s (21 + 2 * i)
@@ -74,9 +71,5 @@ pub image-laid : (d : Node) (image : List ℕ) → length image ≡ 149 → leng
 image-laid d image long plans =
     let bytes = scalarBytes d in
     let rest = historyBytes (d .history) in
-    let whole : length (bytes ++ rest) ≡ 149 = omega (arith, history-bytes-length (d .history)) in
-    let room : length (bytes ++ rest) ≤ length image = omega arith in
-    let over : length image ≤ length (bytes ++ rest) = omega arith in
-    let none : drop (length (bytes ++ rest)) image ≡ [] = drop-of-length-le image over in
-    sym (sets-append bytes rest image 0) ∙ sets-front (bytes ++ rest) image room
-    ∙ ap (λ (tail : List ℕ). (bytes ++ rest) ++ tail) none ∙ append-nil (bytes ++ rest)
+    let whole : length (bytes ++ rest) ≡ length image = omega (arith, history-bytes-length (d .history)) in
+    sym (sets-append bytes rest image 0) ∙ sets-whole (bytes ++ rest) image whole

@@ -1,10 +1,11 @@
 -- Stores of bytes one after the other: what the writers of messages, texts and images go by.
 -- Assumes nothing.
 use mathlib.Core.Path.{_≡_, ap, sym, _∙_}
-use mathlib.Core.List.{List, [], _∷_, _++_}
+use mathlib.Core.List.{List, [], _∷_, _++_, append-nil}
 use Prim.Native.Nat.{ℕ, suc, _+_, _≤_}
 use native.Mathlib.Nat.{add-zero, add-suc, suc-add, zero-add}
-use lib.ListN.{length, set, drop}
+use native.Mathlib.Omega.{arith}
+use lib.ListN.{length, set, drop, drop-of-length-le}
 use lib.Seq.{sets, sets-eq}
 
 -- two runs of bytes, one after the other
@@ -19,3 +20,10 @@ pub sets-front : (bs l : List ℕ) → length bs ≤ length l → sets l 0 bs �
 sets-front bs l h =
     let room : 0 + length bs ≤ length l = rw zero-add h in
     rw (← zero-add (length bs)) (sets-eq bs l 0 room)
+
+-- as many stores as a buffer has bytes leave nothing of what stood there
+pub sets-whole : (bs l : List ℕ) → length bs ≡ length l → sets l 0 bs ≡ bs
+sets-whole bs l same =
+    let room : length bs ≤ length l = omega arith in
+    let over : length l ≤ length bs = omega arith in
+    sets-front bs l room ∙ ap (λ (rest : List ℕ). bs ++ rest) (drop-of-length-le l over) ∙ append-nil bs

@@ -1,5 +1,5 @@
--- `history_in` meets its contract. The invariant: the plans that are left, laid over the history from this phase on, make
--- up the whole history.
+-- `history_in` meets its contract. The invariant: the plans that are left, laid over the history from this phase on,
+-- make up the whole history.
 use mathlib.Core.Path.{_≡_}
 use Prim.Native.Nat.{_≤_, _+_, _*_, _-_}
 use native.Mathlib.Omega.{arith}
