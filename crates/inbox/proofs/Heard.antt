@@ -1,103 +1,81 @@
--- What is known of the entries of a slot that counts: they stand in the slot, and their phases have a place in a row.
+-- What is known of a slot that counts as a selection: its ballot lists the entries that stand in it, there are no more
+-- than 63, and their phases rise.
 -- Assumes nothing.
-use mathlib.Core.Path.{_≡_, refl, sym, ap, _∙_, subst}
+use mathlib.Core.Path.{_≡_, refl, sym, ap, _∙_}
 use mathlib.Core.Bool.{Bool, true, false, cond, _&&_}
-use mathlib.Core.List.{List, [], _∷_}
+use mathlib.Core.List.{List}
 use mathlib.Core.Option.{none, some}
-use Prim.Native.Nat.{ℕ, zero, suc, _+_, _*_, _<_, _≤_}
+use Prim.Native.Nat.{ℕ, _≤_}
 use native.Mathlib.Omega.{arith}
-use lib.Dec.{leb, ltb}
-use lib.ListN.{length, take, drop, length-take, length-drop}
-use borrow.Author.Tests.{leb-true, ltb-true, le-leb}
+use lib.Dec.{leb, ltb, eqb}
+use lib.ListN.{length, getD, drop}
+use borrow.Author.Tests.{leb-true, eqb-true}
 use Rattle.wire.specs.Outcome.{Outcome, accepted, refused}
-use Rattle.wire.specs.Entry.{Entry}
+use Rattle.wire.specs.Bytes.{numberAt}
 use Rattle.wire.proofs.Tests.{both-true}
-use Rattle.message.specs.Fields.{Body, selection, validation, decision, Message}
+use Rattle.message.specs.Fields.{selection, validation, decision, Message}
 use Rattle.message.specs.Bounds.{phaseOk, planOk, bodyOk, entriesOk}
-use Rattle.message.specs.Reading.{entriesIn, entriesCounted, readOf}
-use Rattle.message.proofs.EntryLaws.{entries-count, entries-take}
-use Rattle.message.proofs.ReadLaws.{read-passes, read-fits}
+use Rattle.message.specs.Encoding.{kindOf}
+use Rattle.message.specs.Reading.{kindAt, bodyAt, selectionAt, validationAt, decisionAt, readOf}
+use Rattle.message.proofs.EntryLaws.{entries-count}
+use Rattle.message.proofs.ReadLaws.{read-passes}
 use Rattle.ballot.specs.Ballot.{Ballot}
 use Rattle.inbox.specs.Inbox.{isOf, ballotOf, counted}
-use Rattle.inbox.specs.Columns.{PhasesBelow}
+use Rattle.inbox.specs.Columns.{historyIn}
+use Rattle.inbox.proofs.Rising.{ok-later}
 
--- entries that keep their bounds in a message of some phase lie below that phase, and below any later one
-pub ok-below : (least phase later : ℕ) (es : List Entry) → phase ≤ later → entriesOk least phase es ≡ true
-    → PhasesBelow later es
-unfolding entriesOk
-ok-below least phase later [] h ok = tt
-ok-below least phase later (e ∷ es) h ok =
-    let first = leb least (e .phase) && ltb (e .phase) phase in
-    let parts = both-true (first && planOk (e .plan)) (entriesOk (e .phase + 1) phase es) ok in
-    let rises = both-true first (planOk (e .plan)) (parts .0) .0 in
-    let below : e .phase < phase = ltb-true _ _ (both-true (leb least (e .phase)) (ltb (e .phase) phase) rises .1) in
-    (omega arith, ok-below (e .phase + 1) phase later es h (parts .1))
+pub record Shown (slot : List ℕ) (m : Ballot) : Type 0 where
+  pub same : historyIn slot ≡ m .entries
+  pub few : getD slot 12 0 ≤ 63
+  pub rises : entriesOk 0 64 (historyIn slot) ≡ true
 
--- A slot that is heard as a ballot with so many entries.
-abbrev ballot : ℕ → ℕ → ℕ → List ℕ → Ballot
-ballot vote stamp count slot = record { vote = vote; stamp = stamp; entries = entriesIn count (drop 13 slot) }
+-- a body of kind 1 that stands after the header is a selection's
+selection-body : (slot : List ℕ) → kindOf (bodyAt slot) ≡ 1 → bodyAt slot ≡ selectionAt slot
+unfolding bodyAt
+selection-body slot e = by-kind (eqb (kindAt slot) 1) (eqb (kindAt slot) 2) e
+  where
+    by-kind : (first second : Bool)
+        → kindOf (cond first (selectionAt slot) (cond second (validationAt slot) (decisionAt slot))) ≡ 1
+        → cond first (selectionAt slot) (cond second (validationAt slot) (decisionAt slot)) ≡ selectionAt slot
+    by-kind true second e = refl
+    by-kind false true e = absurd (omega arith)
+    by-kind false false e = absurd (omega arith)
 
-pub record Shown (slot : List ℕ) (count : ℕ) : Type 0 where
-  -- the part that shows the entries holds them
-  pub long : 3 * count ≤ length (entriesCounted slot count)
-  pub same : entriesIn count (entriesCounted slot count) ≡ entriesIn count (drop 13 slot)
-  pub below : PhasesBelow 64 (entriesIn count (drop 13 slot))
-
-shown-some : (slot : List ℕ) (count : ℕ) → 13 + 3 * count ≤ length slot
-    → PhasesBelow 64 (entriesIn count (drop 13 slot)) → Shown slot count
-shown-some slot count fits below =
-    let rest : 3 * count ≤ length (drop 13 slot) = rw (length-drop 13 slot) (omega arith) in
+-- the message of a slot whose kind is 1
+message-shown : (slot : List ℕ) (m : Message) → readOf slot ≡ accepted m → kindOf (m .body) ≡ 1
+    → Shown slot (ballotOf (m .body))
+message-shown slot m read kind =
+    let passes = read-passes slot m read in
+    let body = ap (λ (k : Message). k .body) (passes .fields) in
+    let is : m .body ≡ selectionAt slot = sym body ∙ selection-body slot (ap kindOf body ∙ kind) in
+    let parts = both-true (phaseOk (m .phase)) (bodyOk (m .phase) (m .body)) (passes .in-bounds) in
+    let last : m .phase ≤ 63 = leb-true _ _ (both-true (leb 1 (m .phase)) (leb (m .phase) 63) (parts .0) .1) in
+    let bounds = ap (bodyOk (m .phase)) (sym is) ∙ parts .1 in
+    let vote = planOk (numberAt 2 slot 9) && ltb (getD slot 11 0) (m .phase) in
+    let size = leb (length (historyIn slot)) 63 in
+    let rising = both-true (vote && size) (entriesOk 0 (m .phase) (historyIn slot)) bounds in
+    let few : length (historyIn slot) ≤ 63 = leb-true _ _ (both-true vote size (rising .0) .1) in
     record {
-      long = rw (le-leb _ _ fits, length-take) (omega arith);
-      same = rw (le-leb _ _ fits) (entries-take count (3 * count) (drop 13 slot) (omega arith) rest);
-      below = below;
+      same = sym (ap (λ b. ballotOf b .entries) is);
+      few = omega (arith, few, entries-count (getD slot 12 0) (drop 13 slot));
+      rises = ok-later 0 (m .phase) 64 (historyIn slot) (omega arith) (rising .1);
     }
 
-shown-none : (slot : List ℕ) (count : ℕ) → count ≡ 0 → Shown slot count
-unfolding entriesIn
-shown-none slot zero e = record { long = omega arith; same = refl; below = tt }
-shown-none slot (suc count) e = absurd (omega arith)
-
--- a message of a selection that was read shows its entries
-selection-shown : (slot : List ℕ) (m : Message) (vote stamp : ℕ) (entries : List Entry) (count : ℕ) → readOf slot
-    ≡ accepted m
-    → m .body ≡ selection vote stamp entries → entries ≡ entriesIn count (drop 13 slot) → Shown slot count
-selection-shown slot m vote stamp entries count read is same =
-    let long : length entries ≡ count = ap length same ∙ entries-count count (drop 13 slot) in
-    let fits : 13 + 3 * length entries ≤ length slot = rw is at (read-fits slot m read) in
-    let ok = read-passes slot m read .in-bounds in
-    let parts = both-true (phaseOk (m .phase)) (bodyOk (m .phase) (m .body)) ok in
-    let last : m .phase ≤ 63 = leb-true _ _ (both-true (leb 1 (m .phase)) (leb (m .phase) 63) (parts .0) .1) in
-    let scalars = planOk vote && ltb stamp (m .phase) && leb (length entries) 63 in
-    let rising = both-true scalars (entriesOk 0 (m .phase) entries) (rw is at (parts .1)) .1 in
-    shown-some slot count (omega arith)
-    (subst (PhasesBelow 64) same (ok-below 0 (m .phase) 64 entries (omega arith) rising))
-
-no-entries : (count : ℕ) (slot : List ℕ) → entriesIn count (drop 13 slot) ≡ [] → count ≡ 0
-no-entries count slot e = sym (entries-count count (drop 13 slot)) ∙ ap length e
-
-pub heard-shown : (slot : List ℕ) (run phase round vote stamp count : ℕ)
-    → some (ballot vote stamp count slot) ≡ counted run phase round (readOf slot) → Shown slot count
-heard-shown slot run phase round vote stamp count e = by-reading (readOf slot) refl e
+pub heard-shown : (run phase : ℕ) (slot : List ℕ) (m : Ballot) → counted run phase 1 (readOf slot) ≡ some m
+    → Shown slot m
+heard-shown run phase slot m e = by-reading (readOf slot) refl e
   where
-    by-body : (m : Message) → readOf slot ≡ accepted m → (body : Body) → m .body ≡ body
-        → ballot vote stamp count slot ≡ ballotOf body → Shown slot count
-    by-body m read (selection v t es) is same =
-        selection-shown slot m v t es count read is (sym (ap (λ (b : Ballot). b .entries) same))
-    by-body m read (validation v) is same =
-        shown-none slot count (no-entries count slot (ap (λ (b : Ballot). b .entries) same))
-    by-body m read (decision v t) is same =
-        shown-none slot count (no-entries count slot (ap (λ (b : Ballot). b .entries) same))
-
     same-ballot : (a b : Ballot) → some a ≡ some b → a ≡ b
     same-ballot a b e = cc
 
-    by-run : (m : Message) → readOf slot ≡ accepted m → (b : Bool)
-        → some (ballot vote stamp count slot) ≡ cond b (some (ballotOf (m .body))) none → Shown slot count
-    by-run m read true e = by-body m read (m .body) refl (same-ballot _ _ e)
-    by-run m read false e = absurd (let z : _≡_ {A = ℕ} 0 1 = cc in omega arith)
+    by-run : (k : Message) → readOf slot ≡ accepted k → (b : Bool) → isOf run phase 1 k ≡ b
+        → cond b (some (ballotOf (k .body))) none ≡ some m → Shown slot m
+    by-run k read true of e =
+        let place = both-true (eqb (k .run) run && eqb (kindOf (k .body)) 1) (eqb (k .phase) phase) of in
+        let kind = eqb-true _ _ (both-true (eqb (k .run) run) (eqb (kindOf (k .body)) 1) (place .0) .1) in
+        rw (sym (same-ballot _ _ e)) (message-shown slot k read kind)
+    by-run k read false of e = absurd (let z : _≡_ {A = ℕ} 0 1 = cc in omega arith)
 
-    by-reading : (o : Outcome Message) → readOf slot ≡ o
-        → some (ballot vote stamp count slot) ≡ counted run phase round o → Shown slot count
-    by-reading (accepted m) read e = by-run m read (isOf run phase round m) e
+    by-reading : (o : Outcome Message) → readOf slot ≡ o → counted run phase 1 o ≡ some m → Shown slot m
+    by-reading (accepted k) read e = by-run k read (isOf run phase 1 k) refl e
     by-reading (refused number) read e = absurd (let z : _≡_ {A = ℕ} 0 1 = cc in omega arith)

@@ -1,6 +1,7 @@
-pub mod EntryTurns
+pub mod Rising
 pub mod Heard
 pub mod Filling
-pub mod Rows
 pub mod Meaning
 pub mod Inboxes
+pub mod Finding
+pub mod Listed

@@ -1,18 +1,17 @@
 -- The columns of an inbox: its ballots by slot, read once from the raw bytes. The rules run over them.
--- A column of presence, one of votes, one of stamps, and the histories as one flat array with a place for each slot
--- and phase.
+-- A column of presence, one of votes and one of stamps. The entries of a history stay in the slot: reading has tested
+-- them there, and the one rule that looks at histories looks up single entries.
 -- What the crates below rounds promise each other: no public contract of rounds cites this file.
-use Prim.Native.Nat.{ℕ, zero, suc, _+_, _*_, _/_, _<_, min}
-use mathlib.Core.Path.{_≡_}
+use Prim.Native.Nat.{ℕ, zero, suc, _/_, min}
 use mathlib.Core.Bool.{Bool, true, false, cond}
-use mathlib.Core.List.{List, [], _∷_}
+use mathlib.Core.List.{List, []}
 use mathlib.Core.Option.{Option, none, some}
 use lib.ListN.{getD, set, replicate, drop}
 use Rattle.wire.specs.Entry.{Entry}
-use Rattle.writer.specs.Writing.{listed}
 use Rattle.message.specs.Reading.{entriesIn}
 use Rattle.ballot.specs.Count.{gather}
 use Rattle.ballot.specs.Ballot.{Ballot}
+use Rattle.inbox.specs.Inbox.{slotAt}
 use Rattle.inbox.specs.declared.Said.{Said}
 use Rattle.inbox.specs.declared.Said.the-variants.{Ballot as Says, Nothing}
 
@@ -20,44 +19,19 @@ pub record Columns : Type 0 where
   pub present : List Bool
   pub votes : List ℕ
   pub stamps : List ℕ
-  pub histories : List ℕ
 
-abbrev pub columns : List Bool → List ℕ → List ℕ → List ℕ → Columns
-columns present votes stamps histories =
-    record { present = present; votes = votes; stamps = stamps; histories = histories }
-
--- three columns that, with the histories of these, are these
-abbrev pub Brief : List Bool → List ℕ → List ℕ → Columns → Type 0
-Brief present votes stamps read = columns present votes stamps (read .histories) ≡ read
+abbrev pub columns : List Bool → List ℕ → List ℕ → Columns
+columns present votes stamps = record { present = present; votes = votes; stamps = stamps }
 
 -- nothing has been read yet
 abbrev pub empty : Columns
-empty = record {
-  present = replicate 32 false;
-  votes = replicate 32 0;
-  stamps = replicate 32 0;
-  histories = replicate 2048 0;
-}
-
--- every entry's phase is below this one
-abbrev pub PhasesBelow : ℕ → List Entry → Type 0
-PhasesBelow phase [] = Unit {0}
-PhasesBelow phase (e ∷ es) = (e .phase < phase) × PhasesBelow phase es
-
--- entries laid into the flat array of histories, each at its phase's place after `row`
-unfoldable pub laid : List ℕ → ℕ → List Entry → List ℕ
-laid histories row [] = histories
-laid histories row (e ∷ es) = laid (set histories (row + e .phase) (e .plan)) row es
+empty = columns (replicate 32 false) (replicate 32 0) (replicate 32 0)
 
 -- a slot's ballot put into the columns
 abbrev pub put : Columns → ℕ → Option Ballot → Columns
 put before q none = before
-put before q (some m) = record {
-  present = set (before .present) q true;
-  votes = set (before .votes) q (m .vote);
-  stamps = set (before .stamps) q (m .stamp);
-  histories = laid (before .histories) (64 * q) (m .entries);
-}
+put before q (some m) =
+    columns (set (before .present) q true) (set (before .votes) q (m .vote)) (set (before .stamps) q (m .stamp))
 
 -- how many slots are read of an inbox of so many bytes: the whole ones, as far as the columns have places
 abbrev pub slotsIn : ℕ → ℕ
@@ -68,24 +42,36 @@ unfoldable pub filled : Columns → (ℕ → Option Ballot) → ℕ → Columns
 filled before slots zero = before
 filled before slots (suc n) = put (filled before slots n) n (slots n)
 
--- what the columns have in the places of slot q
-abbrev pub rowOf : Columns → ℕ → Ballot
-rowOf read q = record {
+-- what a slot lists, where it counts
+abbrev pub entriesOf : Option Ballot → List Entry
+entriesOf none = []
+entriesOf (some m) = m .entries
+
+-- the entries of a selection, as they stand in its slot
+abbrev pub historyIn : List ℕ → List Entry
+historyIn slot = entriesIn (getD slot 12 0) (drop 13 slot)
+
+-- the histories of an inbox of selections, by slot
+abbrev pub historiesIn : List ℕ → ℕ → List Entry
+historiesIn bytes q = historyIn (slotAt bytes q)
+
+-- what the columns have in the places of slot q, with what the slot lists
+abbrev pub rowOf : Columns → (ℕ → List Entry) → ℕ → Ballot
+rowOf read histories q = record {
   vote = getD (read .votes) q 0;
   stamp = getD (read .stamps) q 0;
-  entries = listed (drop (64 * q) (read .histories)) 0 64;
+  entries = histories q;
 }
 
 -- what the columns say of slot q
-abbrev pub slotOf : Columns → ℕ → Option Ballot
-slotOf read q = cond (getD (read .present) q false) (some (rowOf read q)) none
+abbrev pub slotOf : Columns → (ℕ → List Entry) → ℕ → Option Ballot
+slotOf read histories q = cond (getD (read .present) q false) (some (rowOf read histories q)) none
 
 -- the ballots of the first n slots, as the columns have them
-abbrev pub polled : Columns → ℕ → List Ballot
-polled read n = gather (slotOf read) n
+abbrev pub polled : Columns → (ℕ → List Entry) → ℕ → List Ballot
+polled read histories n = gather (slotOf read histories) n
 
--- what an answer of `hear` says of the slot; the entries themselves stand in the slot
-abbrev pub saidAs : Said → List ℕ → Option Ballot
-saidAs (Says vote stamp count) slot =
-    some (record { vote = vote; stamp = stamp; entries = entriesIn count (drop 13 slot) })
-saidAs Nothing slot = none
+-- what an answer of `hear` says of a slot that lists these entries
+abbrev pub saidAs : Said → List Entry → Option Ballot
+saidAs (Says vote stamp) entries = some (record { vote = vote; stamp = stamp; entries = entries })
+saidAs Nothing entries = none

@@ -1,2 +1,3 @@
 pub mod Inbox
 pub mod Columns
+pub mod Lookup

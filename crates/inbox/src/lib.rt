@@ -4,30 +4,29 @@ use message::Reading;
 use node::Node;
 ghost use mathlib.Core.Path.{_≡_};
 ghost use mathlib.Core.Bool.{true};
-ghost use mathlib.Core.List.{List};
-ghost use Prim.Native.Nat.{ℕ, _+_, _*_, _<_, _≤_};
+ghost use Prim.Native.Nat.{_+_, _*_, _<_, _≤_, min};
 ghost use lib.ListN.{length, set};
-ghost use Rattle.message.specs.Reading.{readOf, entriesIn};
+ghost use Rattle.wire.specs.Bytes.{numberAt};
+ghost use Rattle.message.specs.Reading.{readOf};
 ghost use Rattle.inbox.specs.Inbox.{slotAt, counted};
-ghost use Rattle.inbox.specs.Columns.{columns, Brief, PhasesBelow, laid, put, slotsIn, filled, saidAs};
+ghost use Rattle.inbox.specs.Columns.{columns, entriesOf, put, slotsIn, filled, saidAs};
+ghost use Rattle.inbox.specs.Lookup.{entriesUntil, found, listsAt};
 
 // 01: "An inbox is n slots of 202 bytes": a selection with all 63 entries fits.
 pub const SLOT: usize = 202;
 // The columns have a place for each node of the largest crew.
 pub const SLOTS: usize = 32;
-// The histories have a place for each slot and phase.
-pub const PLACES: usize = 2048;
 
-// What a slot says to a node: a ballot, of its history only how many entries it has, or nothing where it does not
-// count.
+// What a slot says to a node: a ballot, whose entries stay where they stand, or nothing where it does not count.
 enum Said {
-    Ballot { vote: u16, stamp: u8, count: u8 },
+    Ballot { vote: u16, stamp: u8 },
     Nothing,
 }
 
 // Kind and coming round are matched here and nowhere else: round k takes kind k.
 fn hear(slot: &[u8], run: u32, phase: u8, round: u8) -> Said
-    ensures { λ r. ⌜ saidAs r (now (slot .entry)) ≡ counted run phase round (readOf (now (slot .entry))) ⌝ }
+    ensures { λ r. ⌜ saidAs r (entriesOf (counted run phase round (readOf (now (slot .entry)))))
+        ≡ counted run phase round (readOf (now (slot .entry))) ⌝ }
 {
     let reading = message::read(slot);
     match reading {
@@ -36,11 +35,11 @@ fn hear(slot: &[u8], run: u32, phase: u8, round: u8) -> Said
             phase: its_phase,
             vote,
             stamp,
-            count,
+            count: _,
         } => {
             let counts = (its_run == run) & (Node::SELECTION == round) & (its_phase == phase);
             if counts {
-                return Said::Ballot { vote, stamp, count };
+                return Said::Ballot { vote, stamp };
             }
             Said::Nothing
         }
@@ -54,7 +53,6 @@ fn hear(slot: &[u8], run: u32, phase: u8, round: u8) -> Said
                 return Said::Ballot {
                     vote: plan,
                     stamp: 0,
-                    count: 0,
                 };
             }
             Said::Nothing
@@ -67,30 +65,11 @@ fn hear(slot: &[u8], run: u32, phase: u8, round: u8) -> Said
         } => {
             let counts = (its_run == run) & (Node::DECISION == round) & (its_phase == phase);
             if counts {
-                return Said::Ballot {
-                    vote,
-                    stamp,
-                    count: 0,
-                };
+                return Said::Ballot { vote, stamp };
             }
             Said::Nothing
         }
         Reading::Refused(_) => Said::Nothing,
-    }
-}
-
-// Lays a slot's entries into its row of the histories.
-fn lay_entries(histories: &mut [u16; 2048], row: usize, part: &[u8], count: usize)
-    requires { ⌜ (row + 64 ≤ 2048) × (3 * count ≤ length (now part)) × PhasesBelow 64 (entriesIn count (now part)) ⌝ }
-    ensures { λ _. ⌜ now (histories .exit)
-        ≡ laid (now (histories .entry)) row (entriesIn count (now (part .entry))) ⌝ }
-{
-    let mut i = 0;
-    while i < count {
-        let entry = message::entry_at(part, i);
-        let place = row + entry.phase as usize;
-        histories[place] = entry.plan;
-        i = i + 1;
     }
 }
 
@@ -113,35 +92,7 @@ fn put_vote(
     stamps[q] = stamp;
 }
 
-// Puts what a slot says into the columns of votes and stamps; a slot that does not count adds nothing.
-fn read_vote(
-    slot: &[u8],
-    q: usize,
-    run: u32,
-    phase: u8,
-    round: u8,
-    present: &mut [bool; 32],
-    votes: &mut [u16; 32],
-    stamps: &mut [u8; 32],
-)
-    requires { ⌜ q < 32 ⌝ }
-    ensures { λ _. ⌜ ((h : List ℕ) → Brief (now (present .exit)) (now (votes .exit)) (now (stamps .exit))
-        (put (columns (now (present .entry)) (now (votes .entry)) (now (stamps .entry)) h)
-        q (counted run phase round (readOf (now (slot .entry)))))) ⌝ }
-{
-    let heard = hear(slot, run, phase, round);
-    let Said::Ballot {
-        vote,
-        stamp,
-        count: _,
-    } = heard
-    else {
-        return;
-    };
-    put_vote(q, vote, stamp, present, votes, stamps);
-}
-
-// Puts what a slot says into the columns, its entries too.
+// Puts what a slot says into the columns; a slot that does not count adds nothing.
 fn read_slot(
     slot: &[u8],
     q: usize,
@@ -151,24 +102,17 @@ fn read_slot(
     present: &mut [bool; 32],
     votes: &mut [u16; 32],
     stamps: &mut [u8; 32],
-    histories: &mut [u16; 2048],
 )
     requires { ⌜ q < 32 ⌝ }
-    ensures { λ _. ⌜ columns (now (present .exit)) (now (votes .exit)) (now (stamps .exit)) (now (histories .exit))
-        ≡ put (columns (now (present .entry)) (now (votes .entry)) (now (stamps .entry)) (now (histories .entry)))
+    ensures { λ _. ⌜ columns (now (present .exit)) (now (votes .exit)) (now (stamps .exit))
+        ≡ put (columns (now (present .entry)) (now (votes .entry)) (now (stamps .entry)))
         q (counted run phase round (readOf (now (slot .entry)))) ⌝ }
 {
     let heard = hear(slot, run, phase, round);
-    let Said::Ballot { vote, stamp, count } = heard else {
+    let Said::Ballot { vote, stamp } = heard else {
         return;
     };
     put_vote(q, vote, stamp, present, votes, stamps);
-    lay_entries(
-        histories,
-        Node::PHASES * q,
-        message::entries_counted(slot, count),
-        count as usize,
-    );
 }
 
 // How many slots of an inbox have a place in the columns; a slot that is not whole is none.
@@ -188,11 +132,9 @@ pub fn read_slots(
     present: &mut [bool; 32],
     votes: &mut [u16; 32],
     stamps: &mut [u8; 32],
-    histories: &mut [u16; 2048],
 )
-    ensures { λ _. ⌜ columns (now (present .exit)) (now (votes .exit)) (now (stamps .exit)) (now (histories .exit))
-        ≡ filled
-        (columns (now (present .entry)) (now (votes .entry)) (now (stamps .entry)) (now (histories .entry)))
+    ensures { λ _. ⌜ columns (now (present .exit)) (now (votes .exit)) (now (stamps .exit))
+        ≡ filled (columns (now (present .entry)) (now (votes .entry)) (now (stamps .entry)))
         (λ q. counted run phase round (readOf (slotAt (now (inbox .entry)) q)))
         (slotsIn (length (now (inbox .entry)))) ⌝ }
 {
@@ -210,42 +152,70 @@ pub fn read_slots(
             present,
             votes,
             stamps,
-            histories,
         );
         q = q + 1;
     }
 }
 
-// Reads the slots of an inbox, once, into the columns of votes and stamps, where nobody looks at histories.
-pub fn read_votes(
-    inbox: &[u8],
-    run: u32,
-    phase: u8,
-    round: u8,
-    present: &mut [bool; 32],
-    votes: &mut [u16; 32],
-    stamps: &mut [u8; 32],
-)
-    ensures { λ _. ⌜ ((h : List ℕ) → Brief (now (present .exit)) (now (votes .exit)) (now (stamps .exit)) (filled
-        (columns (now (present .entry)) (now (votes .entry)) (now (stamps .entry)) h)
-        (λ q. counted run phase round (readOf (slotAt (now (inbox .entry)) q)))
-        (slotsIn (length (now (inbox .entry)))))) ⌝ }
+fn lower(a: usize, b: usize) -> usize
+    ensures { λ r. ⌜ r ≡ min a b ⌝ }
 {
-    let n = slots_in(inbox.len());
-    let mut q = 0;
-    while q < n {
+    if a < b { a } else { b }
+}
+
+fn wide(x: u8) -> u16
+    ensures { λ r. ⌜ (r ≡ x) × (r < 256) ⌝ }
+{
+    x as u16
+}
+
+// The little-endian number of two bytes from a place on.
+fn u16_at(s: &[u8], place: usize) -> u16
+    requires { ⌜ place + 1 < length (now s) ⌝ }
+    ensures { λ r. ⌜ r ≡ numberAt 2 (now (s .entry)) place ⌝ }
+{
+    wide(s[place]) + 256 * wide(s[place + 1])
+}
+
+// How many of a selection's entries can be of a phase or an earlier one: phases rise from 0, so that entry i is of
+// phase i or a later one.
+fn entries_until(slot: &[u8], phase: u8) -> usize
+    requires { ⌜ length (now slot) ≡ 202 ⌝ }
+    ensures { λ r. ⌜ (r ≡ entriesUntil (now (slot .entry)) phase) × (r ≤ 63) ⌝ }
+{
+    let listed = lower(
+        wide(slot[message::COUNT_AT]) as usize,
+        Node::LAST_PHASE as usize,
+    );
+    lower(listed, phase as usize + 1)
+}
+
+// Whether the selection in a slot lists the plan at a phase. The entries are looked at where they stand, from the last
+// that can be of the phase back to the first that is not later.
+fn slot_lists(slot: &[u8], plan: u16, phase: u8) -> bool
+    requires { ⌜ length (now slot) ≡ 202 ⌝ }
+    ensures { λ r. ⌜ r ≡ found (now (slot .entry)) plan phase (entriesUntil (now (slot .entry)) phase) ⌝ }
+{
+    let mut i = entries_until(slot, phase);
+    while 0 < i {
+        let place = message::ENTRIES_AT + message::ENTRY_SIZE * (i - 1);
+        if slot[place] <= phase {
+            return (slot[place] == phase) & (u16_at(slot, place + 1) == plan);
+        }
+        i = i - 1;
+    }
+    false
+}
+
+// Whether the selection in slot q lists the plan at a phase. It goes by the phases' rising, which reading has tested of
+// every slot that counts; of another slot it answers what `listsAt` says.
+pub fn lists(inbox: &[u8], q: usize, plan: u16, phase: u8) -> bool
+    ensures { λ r. ⌜ r ≡ listsAt (now (inbox .entry)) q plan phase ⌝ }
+{
+    if q < slots_in(inbox.len()) {
         let start = SLOT * q;
         let end = start + SLOT;
-        read_vote(
-            &inbox[start..end],
-            q,
-            run,
-            phase,
-            round,
-            present,
-            votes,
-            stamps,
-        );
-        q = q + 1;
+        return slot_lists(&inbox[start..end], plan, phase);
     }
+    false
 }

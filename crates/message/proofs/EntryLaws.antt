@@ -1,20 +1,22 @@
 -- The entries in a list of bytes: how many there are, and what the loop over them goes by.
 -- Assumes nothing.
 use mathlib.Core.Path.{_≡_, refl, ap, sym, _∙_}
-use mathlib.Core.Bool.{Bool, true, false, _&&_}
+use mathlib.Core.Bool.{Bool, true, false, cond, _&&_}
 use mathlib.Core.List.{List, [], _∷_}
+use mathlib.Core.Logic.{_≢_}
 use Prim.Native.Nat.{ℕ, zero, suc, _+_, _*_, _-_, _<_, _≤_}
-use native.Mathlib.Nat.{add-zero, add-assoc}
+use native.Mathlib.Nat.{add-zero, add-assoc, sub-zero}
 use native.Mathlib.Omega.{arith}
 use native.Mathlib.Decide.{decLt}
 use lib.Dec.{leb, ltb}
 use lib.ListN.{length, getD, take, drop}
 use lib.Seq.{getD-drop, drop-drop}
 use borrow.Author.Tests.{le-leb, lt-leb, lt-ltb, le-ltb}
+use Rattle.wire.specs.Entry.{Entry}
 use Rattle.wire.specs.Bytes.{numberAt}
 use Rattle.wire.proofs.Tests.{and-false, and-true}
-use Rattle.message.specs.Bounds.{planOk, entriesOk}
-use Rattle.message.specs.Reading.{entriesIn}
+use Rattle.message.specs.Bounds.{planOk, entriesOk, leastAfter}
+use Rattle.message.specs.Reading.{entriesIn, listedAt}
 
 pub entries-count : (k : ℕ) (s : List ℕ) → length (entriesIn k s) ≡ k
 unfolding entriesIn
@@ -42,46 +44,76 @@ entries-take (suc k) (suc (suc (suc n))) (a ∷ b ∷ c ∷ s) room long =
     ap (λ es. record { phase = a; plan = numberAt 2 (a ∷ b ∷ c ∷ s) 1 } ∷ es)
     (entries-take k n s (omega arith) (omega arith))
 
--- A turn of the loop: entry i has been read, `whole` is what all entries answer, and those from i on answer it too
--- where the least phase that the next may have is no later than the message's.
-module _ (count i least phase entry-phase plan : ℕ) (s : List ℕ) (whole : Bool)
-    (phase-is : entry-phase ≡ getD s (13 + 3 * i) 0)
-    (plan-is : plan ≡ numberAt 2 s (13 + 3 * i + 1))
-    (more : i < count)
-    (rest : (leb least phase && entriesOk least phase (entriesIn (count - i) (drop (13 + 3 * i) s))) ≡ whole) where
-  turn : (leb least phase && (leb least entry-phase && ltb entry-phase phase && planOk plan
-      && entriesOk (entry-phase + 1) phase (entriesIn (count - (i + 1)) (drop (13 + 3 * (i + 1)) s)))) ≡ whole
-  unfolding entriesOk
-  turn =
-      let left : count - i ≡ suc (count - (i + 1)) = omega arith in
-      let next : 13 + 3 * (i + 1) ≡ 13 + 3 * i + 3 = omega arith in
-      let first = rw (left, entries-next (count - (i + 1)) (13 + 3 * i) s) at rest in
-      rw (phase-is, plan-is, next) first
+-- the bounds that an entry keeps by itself
+abbrev keeps : ℕ → Entry → Bool
+keeps least e = leb least (e .phase) && planOk (e .plan)
 
-  pub entries-more : least ≤ entry-phase → 1 ≤ plan
-      → (leb (entry-phase + 1) phase
-      && entriesOk (entry-phase + 1) phase (entriesIn (count - (i + 1)) (drop (13 + 3 * (i + 1)) s))) ≡ whole
-  entries-more rises known = elim (decLt entry-phase phase) [
-    | yes before ↦
+-- Entries keep their bounds where the first does by itself and the others do. Each side also asks that the least phase
+-- which its first entry may have is no later than the message's.
+one-entry : (least phase : ℕ) (e : Entry) (es : List Entry)
+    → (leb least phase && entriesOk least phase (e ∷ es))
+    ≡ (keeps least e && (leb (e .phase + 1) phase && entriesOk (e .phase + 1) phase es))
+unfolding entriesOk
+one-entry least phase e es = elim (decLt (e .phase) phase) [
+  | yes before ↦ elim (decLt (e .phase) least) [
+    | yes falls ↦ simp (lt-leb _ _ falls, and-false)
+    | no rises ↦
         let early = le-leb least phase (omega arith) in
-        let now = simp (early, le-leb _ _ rises, lt-ltb _ _ before, le-leb _ _ known) at turn in
-        rw (le-leb (entry-phase + 1) phase (omega arith)) now
-    | no late ↦
-        let now = simp (le-leb _ _ rises, le-ltb entry-phase phase (omega arith)) at turn in
-        rw (lt-leb (entry-phase + 1) phase (omega arith)) (sym (and-false (leb least phase)) ∙ now)
+        let next = le-leb (e .phase + 1) phase (omega arith) in
+        simp (early, le-leb least (e .phase) (omega arith), lt-ltb _ _ before, next)
   ]
+  | no late ↦ simp (le-ltb (e .phase) phase (omega arith), lt-leb (e .phase + 1) phase (omega arith), and-false)
+]
 
-  pub entries-fall : entry-phase < least → false ≡ whole
-  entries-fall falls =
-      let now = simp (lt-leb _ _ falls) at turn in
-      sym (and-false (leb least phase)) ∙ now
+kept : (test : Bool) (next after : ℕ) (rest : ℕ → Bool) → after ≡ cond test next 0 → after ≢ 0
+    → (test && rest next) ≡ rest after
+kept true next after rest after-is some = ap rest (sym after-is)
+kept false next after rest after-is some = absurd (some after-is)
 
-  pub entries-empty : plan ≡ 0 → false ≡ whole
-  entries-empty none = simp (none, and-false) at turn
+broken : (test : Bool) (phase : ℕ) (rest : Bool) → cond test (phase + 1) 0 ≡ 0 → (test && rest) ≡ false
+broken true phase rest none = absurd (omega arith)
+broken false phase rest none = refl
 
-pub entries-done : (count i least phase : ℕ) (s : List ℕ) (whole : Bool) → count ≤ i
-    → (leb least phase && entriesOk least phase (entriesIn (count - i) s)) ≡ whole → leb least phase ≡ whole
-unfolding entriesOk entriesIn
-entries-done count i least phase s whole h rest =
-    let left : count - i ≡ 0 = omega arith in
-    sym (and-true (leb least phase)) ∙ rw left at rest
+-- What all entries answer; and what is left to test before entry i: that the least phase which it may have is no later
+-- than the message's, and that the entries from i on keep their bounds.
+abbrev whole : (s : List ℕ) → (count phase : ℕ) → Bool
+whole s count phase = entriesOk 0 phase (entriesIn count (drop 13 s))
+
+abbrev rest : (s : List ℕ) → (count phase i least : ℕ) → Bool
+rest s count phase i least = leb least phase && entriesOk least phase (entriesIn (count - i) (drop (13 + 3 * i) s))
+
+-- what is left to test answers for all
+pub record Left (s : List ℕ) (count phase i least : ℕ) : Type 0 where
+  pub same : rest s count phase i least ≡ whole s count phase
+
+pub all-left : (s : List ℕ) (count phase : ℕ) → Left s count phase 0 0
+all-left s count phase = record { same = simp (sub-zero, le-leb 0 phase (omega arith)) }
+
+module _ {s : List ℕ} {count phase i least : ℕ} (left : Left s count phase i least) where
+  step : i < count → (keeps least (listedAt s i) && rest s count phase (i + 1) (listedAt s i .phase + 1))
+      ≡ whole s count phase
+  step more =
+      let some : count - i ≡ suc (count - (i + 1)) = omega arith in
+      let next : 13 + 3 * (i + 1) ≡ 13 + 3 * i + 3 = omega arith in
+      let first = rw (some, entries-next (count - (i + 1)) (13 + 3 * i) s) at (left .same) in
+      rw next (sym (one-entry least phase _ _) ∙ first)
+
+  -- an entry that keeps its bounds leaves those after it
+  pub entry-passes : (after : ℕ) → after ≡ leastAfter least (listedAt s i) → i < count → after ≢ 0
+      → Left s count phase (i + 1) after
+  entry-passes after after-is more some =
+      let same = kept (keeps least (listedAt s i)) _ after (rest s count phase (i + 1)) after-is some in
+      record { same = sym same ∙ step more }
+
+  -- an entry that breaks a bound settles the answer
+  pub entry-breaks : (after : ℕ) → after ≡ leastAfter least (listedAt s i) → i < count → after ≡ 0
+      → false ≡ whole s count phase
+  entry-breaks after after-is more none =
+      sym (broken (keeps least (listedAt s i)) (listedAt s i .phase) _ (sym after-is ∙ none)) ∙ step more
+
+  -- with no entry left, only the message's phase counts
+  pub none-left : count ≤ i → leb least phase ≡ whole s count phase
+  unfolding entriesOk entriesIn
+  none-left done =
+      let none : count - i ≡ 0 = omega arith in
+      sym (and-true (leb least phase)) ∙ rw none at (left .same)

@@ -2,7 +2,7 @@
 -- 01: "Bounds: phase 1 to 63; plans not 0; stamp below the phase in kind 1, at most the phase in kind 3; entries
 -- whose phases rise strictly and are below the message's phase."
 use Prim.Native.Nat.{ℕ, _+_, _^_, _<_}
-use mathlib.Core.Bool.{Bool, true, _&&_}
+use mathlib.Core.Bool.{Bool, true, cond, _&&_}
 use mathlib.Core.List.{List, [], _∷_}
 use lib.ListN.{length}
 use lib.Dec.{leb, ltb}
@@ -22,6 +22,11 @@ unfoldable pub entriesOk : ℕ → ℕ → List Entry → Bool
 entriesOk least phase [] = true
 entriesOk least phase (e ∷ es) =
     leb least (e .phase) && ltb (e .phase) phase && planOk (e .plan) && entriesOk (e .phase + 1) phase es
+
+-- The least phase that the entry after this one may have; 0 where this one's is before `least`, or it has no plan.
+-- A promise of a private function: no public contract cites it.
+abbrev pub leastAfter : ℕ → Entry → ℕ
+leastAfter least e = cond (leb least (e .phase) && planOk (e .plan)) (e .phase + 1) 0
 
 -- "stamp below the phase in kind 1, at most the phase in kind 3"; "k at most 63"
 abbrev pub bodyOk : ℕ → Body → Bool

@@ -31,6 +31,10 @@ unfoldable pub entriesIn : ℕ → List ℕ → List Entry
 entriesIn zero s = []
 entriesIn (suc k) s = record { phase = getD s 0 0; plan = numberAt 2 s 1 } ∷ entriesIn k (drop 3 s)
 
+-- entry i of those that a selection lists, where it stands
+abbrev pub listedAt : List ℕ → ℕ → Entry
+listedAt s i = record { phase = getD s (13 + 3 * i) 0; plan = numberAt 2 s (13 + 3 * i + 1) }
+
 -- the body that stands after the header, by the kind
 abbrev pub selectionAt : List ℕ → Body
 selectionAt s = selection (numberAt 2 s 9) (getD s 11 0) (entriesIn (getD s 12 0) (drop 13 s))

@@ -1,56 +1,86 @@
--- A sound record's crew can be counted with, and is of a class that selection knows.
+-- A sound record's crew, with an inbox of its own, can be counted with: a round then comes to the plan of the rules.
 -- Assumes nothing.
-use mathlib.Core.Path.{_≡_, refl}
-use mathlib.Core.Bool.{Bool, true, false, true≢false, cond, _&&_}
-use mathlib.Core.Logic.{_≢_}
-use Prim.Native.Nat.{_≤_}
+use mathlib.Core.Path.{_≡_, refl, sym, ap, _∙_}
+use mathlib.Core.Bool.{Bool, true, false, cond}
+use mathlib.Core.List.{List}
+use Prim.Native.Nat.{ℕ, _*_}
 use native.Mathlib.Omega.{arith}
 use lib.Dec.{eqb}
-use borrow.Author.Tests.{eqb-false, eq-eqb, ne-eqb}
-use Rattle.crew.specs.declared.Crew.{Crew}
-use Rattle.crew.specs.Thresholds.{one, two, three, classOf}
+use lib.ListN.{length}
+use borrow.Author.Tests.{eqb-true, eqb-false}
+use Rattle.crew.specs.Thresholds.{classOf}
 use Rattle.crew.proofs.Facts.{accepts, quorum-positive}
+use Rattle.ballot.specs.Selection.{taken}
+use Rattle.ballot.specs.Validation.{validated}
+use Rattle.ballot.specs.Decision.{decision}
 use Rattle.node.specs.declared.Node.{Node}
 use Rattle.node.specs.Soundness.{sound}
 use Rattle.node.proofs.Facts.{sound-facts}
-use Rattle.tally.specs.Rules.{countable, byVotes}
-use Rattle.tally.proofs.Countable.{facts-countable}
+use Rattle.inbox.specs.Inbox.{ballotAt, ballots}
+use Rattle.tally.specs.Rules.{countable, heard, selected, validIn, decidedIn}
+use Rattle.tally.proofs.Countable.{facts-countable, selected-rule, valid-rule, decided-rule}
+use Rattle.rounds.specs.Taking.{afterSelection, afterValidation, afterDecision, afterRound}
+use Rattle.rounds.specs.Steps.{planOf, afterPlan}
 
-pub sound-places : (d : Node) → sound d ≡ true → d .crew .n ≤ 32
-sound-places d ok = accepts (d .crew) (sound-facts d ok .crew) .size-to
-
-pub sound-countable : (d : Node) → sound d ≡ true → countable (d .crew) ≡ true
-sound-countable d ok =
+pub sound-countable : (d : Node) (size : ℕ) → sound d ≡ true → size ≡ 202 * d .crew .n → countable (d .crew) size ≡ true
+sound-countable d size ok whole =
     let crew = accepts (d .crew) (sound-facts d ok .crew) in
-    facts-countable (d .crew) (record {
+    facts-countable (d .crew) size (record {
       places = crew .size-to;
       some = quorum-positive crew;
       within = omega (arith, crew .reach);
+      whole = whole;
     })
 
--- a crew of class 3, and one of the others
-pub class-lists : (crew : Crew) → crew .class ≡ 3 → three ≡ classOf crew
-class-lists crew e = rw (ne-eqb (crew .class) 1 (λ f. omega arith), ne-eqb (crew .class) 2 (λ f. omega arith))
+-- what the node hears in its coming round are the ballots of its inbox
+pub heard-ballots : (d : Node) (bytes : List ℕ) (round : ℕ) → d .round ≡ round
+    → heard (d .crew) (d .run) (d .phase) round bytes ≡ ballots d bytes
+unfolding ballotAt
+heard-ballots d bytes round is = rw (sym is)
 
-pub class-votes : (d : Node) → sound d ≡ true → d .crew .class ≢ 3 → byVotes (d .crew) ≡ classOf (d .crew)
-class-votes d ok other = go (eqb (d .crew .class) 1) refl
-  where
-    go : (b : Bool) → eqb (d .crew .class) 1 ≡ b
-        → cond b one two ≡ cond b one (cond (eqb (d .crew .class) 2) two three)
-    go true e = refl
-    go false e =
-        let crew = accepts (d .crew) (sound-facts d ok .crew) in
-        let second : d .crew .class ≡ 2 = omega (
-          arith,
-          crew .class-from,
-          crew .class-to,
-          eqb-false (d .crew .class) 1 e,
-          other,
-        ) in
-        rw (eq-eqb (d .crew .class) 2 second)
+-- The plan that the round comes to is that of its rule.
+module _ (d : Node) (bytes : List ℕ) (ok : sound d ≡ true) (whole : length bytes ≡ 202 * d .crew .n) where
+  counted : countable (d .crew) (length bytes) ≡ true
+  counted = sound-countable d (length bytes) ok whole
 
--- where not both tests hold, a selection is not one of class 3
-pub by-votes : (d : Node) → (eqb (d .round) 1 && eqb (d .crew .class) 3) ≡ false → d .round ≡ 1 → d .crew .class ≢ 3
-by-votes d e first third =
-    let z : _≡_ {A = Bool} true false = simp (eq-eqb (d .round) 1 first, eq-eqb (d .crew .class) 3 third) at e in
-    true≢false z
+  selects : d .round ≡ 1
+      → selected (d .crew) (d .run) (d .phase) bytes ≡ taken (classOf (d .crew)) (d .crew) (ballots d bytes)
+  selects is =
+      selected-rule (d .crew) (d .run) (d .phase) bytes counted
+      ∙ ap (taken (classOf (d .crew)) (d .crew)) (heard-ballots d bytes 1 is)
+
+  validates : d .round ≡ 2
+      → validIn (d .crew) (d .run) (d .phase) bytes ≡ validated (d .crew) (ballots d bytes)
+  validates is =
+      valid-rule (d .crew) (d .run) (d .phase) bytes counted ∙ ap (validated (d .crew)) (heard-ballots d bytes 2 is)
+
+  decides : d .round ≡ 3
+      → decidedIn (d .crew) (d .run) (d .phase) bytes
+      ≡ decision (classOf (d .crew)) (d .crew) (d .phase) (ballots d bytes)
+  decides is =
+      decided-rule (d .crew) (d .run) (d .phase) bytes counted
+      ∙ ap (decision (classOf (d .crew)) (d .crew) (d .phase)) (heard-ballots d bytes 3 is)
+
+  -- the record after that plan is the record after the round
+  pub after-plan-round : afterPlan d (planOf (d .crew) (d .run) (d .phase) (d .round) bytes)
+      ≡ afterRound d (ballots d bytes)
+  unfolding afterRound
+  after-plan-round = by-round (eqb (d .round) 1) (eqb (d .round) 2) refl refl
+    where
+      by-round : (first second : Bool) → eqb (d .round) 1 ≡ first → eqb (d .round) 2 ≡ second
+          → afterPlan d (planOf (d .crew) (d .run) (d .phase) (d .round) bytes)
+          ≡ cond (eqb (d .round) 1) (afterSelection d (taken (classOf (d .crew)) (d .crew) (ballots d bytes)))
+          (cond (eqb (d .round) 2) (afterValidation d (validated (d .crew) (ballots d bytes)))
+          (afterDecision d (decision (classOf (d .crew)) (d .crew) (d .phase) (ballots d bytes))))
+      by-round true second one other = rw one (ap (afterSelection d) (selects (eqb-true _ _ one)))
+      by-round false true one two = rw (one, two) (ap (afterValidation d) (validates (eqb-true _ _ two)))
+      by-round false false one two =
+          let facts = sound-facts d ok in
+          let last : d .round ≡ 3 = omega (
+            arith,
+            facts .round-from,
+            facts .round-to,
+            eqb-false (d .round) 1 one,
+            eqb-false (d .round) 2 two,
+          ) in
+          rw (one, two) (ap (afterDecision d) (decides last))

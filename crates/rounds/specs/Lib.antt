@@ -1,2 +1,3 @@
 pub mod Taking
 pub mod Asking
+pub mod Steps

@@ -1,32 +1,23 @@
 // Asking for the coming selection, and taking a round: from an inbox's bytes to the next record.
-// What each answers stands in specs/Asking.antt and specs/Taking.antt. Crate inbox reads the slots into columns, crate
-// tally runs the rules over those.
-use inbox::PLACES;
+// What each answers stands in specs/Asking.antt and specs/Taking.antt. Crate tally runs the rules over the inbox.
+use crew::Crew;
 use inbox::SLOT;
-use inbox::SLOTS;
 use node::Node;
 use tally::Choice;
 ghost use mathlib.Core.Path.{_≡_};
-ghost use mathlib.Core.Bool.{true, false, cond, _&&_};
-ghost use mathlib.Core.List.{List};
+ghost use mathlib.Core.Bool.{cond};
 ghost use lib.Dec.{eqb};
-ghost use Prim.Native.Nat.{ℕ, _*_, _<_};
-ghost use lib.ListN.{length};
+ghost use Prim.Native.Nat.{_<_};
 ghost use Rattle.wire.specs.Outcome.{accepted, verdict, valueOr};
-ghost use Rattle.crew.specs.Thresholds.{classOf};
-ghost use Rattle.ballot.specs.Selection.{selection};
-ghost use Rattle.node.specs.Soundness.{sound};
-ghost use Rattle.inbox.specs.Inbox.{ballots};
-ghost use Rattle.inbox.specs.Columns.{columns, polled};
 ghost use Rattle.tally.specs.Rules.{choiceAs};
 ghost use Rattle.rounds.specs.Taking.{
   afterSelection,
   afterValidation,
   afterDecision,
-  afterRound,
   takeOf,
   answered as takenAs,
 };
+ghost use Rattle.rounds.specs.Steps.{planOf, afterPlan};
 ghost use Rattle.rounds.specs.Asking.{askOf, answered as askedAs};
 
 // Why a round is not taken, or a selection not told; `number` in specs/Taking.antt has 01's numbers.
@@ -123,60 +114,32 @@ fn after_decision(node: Node, plan: u16) -> Node
     next
 }
 
-// The record after its coming round, with the ballots of the columns. Nobody looks at histories here.
-fn after_votes(node: Node, present: &[bool; 32], votes: &[u16; 32], stamps: &[u8; 32]) -> Node
-    requires { ⌜ (node .phase < 64) × (sound node ≡ true)
-        × ((eqb (node .round) 1 && eqb (node .crew .class) 3) ≡ false) ⌝ }
-    ensures { λ r. ⌜ ((h : List ℕ) → r ≡ afterRound node
-        (polled (columns (now (present .entry)) (now (votes .entry)) (now (stamps .entry)) h) (node .crew .n))) ⌝ }
+// The plan that a round comes to, 0 where it comes to none. It is handed what it needs of the record and not the
+// record, whose history would be copied.
+fn plan_of(crew: Crew, run: u32, phase: u8, round: u8, inbox: &[u8]) -> u16
+    ensures { λ r. ⌜ r ≡ planOf crew run phase round (now (inbox .entry)) ⌝ }
 {
-    let crew = node.crew;
-    if node.round == Node::SELECTION {
-        return after_selection(node, tally::select_by_votes(crew, present, votes, stamps));
+    if round == Node::SELECTION {
+        return tally::select(crew, run, phase, inbox);
     }
-    if node.round == Node::VALIDATION {
-        return after_validation(node, tally::validate(crew, present, votes, stamps));
+    if round == Node::VALIDATION {
+        return tally::validate(crew, run, phase, inbox);
     }
-    after_decision(
-        node,
-        tally::decide(crew, node.phase, present, votes, stamps),
-    )
+    tally::decide(crew, run, phase, inbox)
 }
 
-// The record after its coming round, with this inbox. Histories are read for a selection in class 3 alone.
-fn after_round(node: Node, inbox: &[u8]) -> Node
-    requires { ⌜ (node .phase < 64) × (sound node ≡ true) × (length (now inbox) ≡ 202 * node .crew .n) ⌝ }
-    ensures { λ r. ⌜ r ≡ afterRound node (ballots node (now (inbox .entry))) ⌝ }
+// The record after its coming round, which came to this plan.
+fn after_plan(node: Node, plan: u16) -> Node
+    requires { ⌜ node .phase < 64 ⌝ }
+    ensures { λ r. ⌜ r ≡ afterPlan node plan ⌝ }
 {
-    let mut present = [false; SLOTS];
-    let mut votes = [0u16; SLOTS];
-    let mut stamps = [0u8; SLOTS];
-    let by_lists = (node.round == Node::SELECTION) & (node.crew.class == Node::LISTING_CLASS);
-    if by_lists {
-        let mut histories = [0u16; PLACES];
-        inbox::read_slots(
-            inbox,
-            node.run,
-            node.phase,
-            node.round,
-            &mut present,
-            &mut votes,
-            &mut stamps,
-            &mut histories,
-        );
-        let plan = tally::select_by_lists(node.crew, &present, &votes, &stamps, &histories);
+    if node.round == Node::SELECTION {
         return after_selection(node, plan);
     }
-    inbox::read_votes(
-        inbox,
-        node.run,
-        node.phase,
-        node.round,
-        &mut present,
-        &mut votes,
-        &mut stamps,
-    );
-    after_votes(node, &present, &votes, &stamps)
+    if node.round == Node::VALIDATION {
+        return after_validation(node, plan);
+    }
+    after_decision(node, plan)
 }
 
 fn refuse_take(node: Node, why: Refusal) -> Taken
@@ -197,9 +160,10 @@ pub fn take(node: Node, inbox: &[u8]) -> Taken
         if node.phase < Node::SPENT {
             let n = node.crew.n as usize;
             if inbox.len() == SLOT * n {
+                let plan = plan_of(node.crew, node.run, node.phase, node.round, inbox);
                 return Taken {
                     answer: Taking::Accepted,
-                    node: after_round(node, inbox),
+                    node: after_plan(node, plan),
                 };
             }
             return refuse_take(node, Refusal::Inbox);
@@ -228,40 +192,6 @@ fn to_asking(choice: Choice) -> Asking
     }
 }
 
-// The coming selection, with this inbox. Histories are read in class 3 alone.
-fn choose(node: Node, inbox: &[u8]) -> Choice
-    requires { ⌜ (sound node ≡ true) × (length (now inbox) ≡ 202 * node .crew .n) ⌝ }
-    ensures { λ r. ⌜ choiceAs r ≡ selection (classOf (node .crew)) (node .crew) (ballots node (now (inbox .entry))) ⌝ }
-{
-    let mut present = [false; SLOTS];
-    let mut votes = [0u16; SLOTS];
-    let mut stamps = [0u8; SLOTS];
-    if node.crew.class == Node::LISTING_CLASS {
-        let mut histories = [0u16; PLACES];
-        inbox::read_slots(
-            inbox,
-            node.run,
-            node.phase,
-            node.round,
-            &mut present,
-            &mut votes,
-            &mut stamps,
-            &mut histories,
-        );
-        return tally::choose_by_lists(node.crew, &present, &votes, &stamps, &histories);
-    }
-    inbox::read_votes(
-        inbox,
-        node.run,
-        node.phase,
-        node.round,
-        &mut present,
-        &mut votes,
-        &mut stamps,
-    );
-    tally::choose_by_votes(node.crew, &present, &votes, &stamps)
-}
-
 // Tells the coming selection with this inbox, and leaves the record as it was.
 pub fn ask(node: Node, inbox: &[u8]) -> Asked
     ensures { λ r. ⌜ (askedAs (r .answer) ≡ askOf node (now (inbox .entry))) × (r .node ≡ node) ⌝ }
@@ -271,8 +201,9 @@ pub fn ask(node: Node, inbox: &[u8]) -> Asked
         if node.phase < Node::SPENT {
             let n = node.crew.n as usize;
             if inbox.len() == SLOT * n {
+                let choice = tally::choose(node.crew, node.run, node.phase, inbox);
                 return Asked {
-                    answer: to_asking(choose(node, inbox)),
+                    answer: to_asking(choice),
                     node: node,
                 };
             }

@@ -7,6 +7,7 @@ use Prim.Native.Nat.{ℕ}
 use lib.Dec.{ltb}
 use Rattle.crew.specs.declared.Crew.{Crew}
 use Rattle.crew.specs.Thresholds.{Class, one, two, three, anyAbove}
+use Rattle.wire.specs.Entry.{Entry}
 use Rattle.ballot.specs.Count.{tally}
 use Rattle.ballot.specs.Selection.{Backing, Choice, backed, enough, answer, selection}
 use Rattle.inbox.specs.Columns.{Columns, polled}
@@ -15,38 +16,38 @@ use Rattle.tally.proofs.Tallies.{tally-same}
 use Rattle.tally.proofs.Polling.{voteAt, onSlot, backing-polled, backing-same}
 use Rattle.tally.proofs.Ruling.{counting, unstamped}
 
-module _ (crew : Crew) (read : Columns) (n : ℕ) where
+module _ (crew : Crew) (read : Columns) (h : ℕ → List Entry) (n : ℕ) where
   pub selection-marked : (class : Class) (marks : List Bool) (votes : Backing) (slots : Bool) (choice : Choice)
-      → Marks marks n (onSlot read (backed class crew (polled read n)))
+      → Marks marks n (onSlot read h (backed class crew (polled read h n)))
       → choice ≡ answer class votes slots
-      → votes ≡ backingMarked (marked marks) (voteAt read) n
-      → slots ≡ enough class crew (polled read n)
-      → choice ≡ selection class crew (polled read n)
+      → votes ≡ backingMarked (marked marks) (voteAt read h) n
+      → slots ≡ enough class crew (polled read h n)
+      → choice ≡ selection class crew (polled read h n)
   unfolding selection
   selection-marked class marks votes slots choice are is is-votes is-enough =
-      let test = backed class crew (polled read n) in
+      let test = backed class crew (polled read h n) in
       is
       ∙ ap₂ (answer class)
       (is-votes
-      ∙ backing-same (marked marks) (onSlot read test) (voteAt read) n are
-      ∙ sym (backing-polled read n test)) is-enough
+      ∙ backing-same (marked marks) (onSlot read h test) (voteAt read h) n are
+      ∙ sym (backing-polled read h n test)) is-enough
 
   pub enough-one : (count : ℕ) → count ≡ tally (marked (read .present)) n
-      → ltb (anyAbove one crew) count ≡ enough one crew (polled read n)
+      → ltb (anyAbove one crew) count ≡ enough one crew (polled read h n)
   unfolding enough
-  enough-one count is = ap (ltb (anyAbove one crew)) (is ∙ sym (counting crew read n))
+  enough-one count is = ap (ltb (anyAbove one crew)) (is ∙ sym (counting crew read h n))
 
   pub enough-two : (count : ℕ) → count ≡ tally (marked (read .present)) n
-      → ltb (anyAbove two crew) count ≡ enough two crew (polled read n)
+      → ltb (anyAbove two crew) count ≡ enough two crew (polled read h n)
   unfolding enough
-  enough-two count is = ap (ltb (anyAbove two crew)) (is ∙ sym (counting crew read n))
+  enough-two count is = ap (ltb (anyAbove two crew)) (is ∙ sym (counting crew read h n))
 
   pub enough-three : (count : ℕ) (marks : List Bool) → count ≡ tally (marked marks) n
       → Marks marks n (stampedWith (read .present) (read .stamps) 0)
-      → ltb (anyAbove three crew) count ≡ enough three crew (polled read n)
+      → ltb (anyAbove three crew) count ≡ enough three crew (polled read h n)
   unfolding enough
   enough-three count marks is are =
-      ap (ltb (anyAbove three crew)) (is ∙ tally-same (marked marks) _ n are ∙ sym (unstamped crew read n))
+      ap (ltb (anyAbove three crew)) (is ∙ tally-same (marked marks) _ n are ∙ sym (unstamped crew read h n))
 
 -- classes 2 and 3 count the same slots in a decision
 pub fresh-later : (second : Bool) (present : List Bool) (stamps : List ℕ) (phase q : ℕ)

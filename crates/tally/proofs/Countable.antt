@@ -1,64 +1,58 @@
--- What is known of a crew that can be counted with, and what its rules then answer.
+-- What is known of a crew and an inbox that can be counted with, and what the rules then answer.
 -- Assumes nothing.
-use mathlib.Core.Path.{_≡_, refl, ap}
-use mathlib.Core.Bool.{Bool, true, false, cond, _&&_}
+use mathlib.Core.Path.{_≡_, ap}
+use mathlib.Core.Bool.{true, _&&_}
 use mathlib.Core.List.{List}
-use Prim.Native.Nat.{ℕ, _≤_}
-use native.Mathlib.Omega.{arith}
-use lib.Dec.{leb}
-use borrow.Author.Tests.{leb-true, le-leb}
+use Prim.Native.Nat.{ℕ, _*_, _≤_}
+use lib.Dec.{leb, eqb}
+use lib.ListN.{length}
+use borrow.Author.Tests.{leb-true, eqb-true, le-leb, eq-eqb}
 use Rattle.wire.proofs.Tests.{both-true}
 use Rattle.crew.specs.declared.Crew.{Crew}
-use Rattle.crew.specs.Thresholds.{Class, classOf}
-use Rattle.ballot.specs.Ballot.{Ballot}
-use Rattle.ballot.specs.Selection.{any, nothing, selection, taken, takenOn}
+use Rattle.crew.specs.Thresholds.{classOf}
+use Rattle.ballot.specs.Selection.{selection, taken, takenOn}
 use Rattle.ballot.specs.Validation.{validated}
 use Rattle.ballot.specs.Decision.{decision}
-use Rattle.tally.specs.Rules.{countable, choiceOf, selected, validIn, decidedIn}
+use Rattle.tally.specs.Rules.{countable, heard, choiceOf, selected, validIn, decidedIn}
 
-pub record Countable (crew : Crew) : Type 0 where
+pub record Countable (crew : Crew) (size : ℕ) : Type 0 where
   pub places : crew .n ≤ 32
   pub some : 1 ≤ crew .d
   pub within : crew .d ≤ crew .n
+  pub whole : size ≡ 202 * crew .n
 
-pub countable-facts : (crew : Crew) → countable crew ≡ true → Countable crew
-countable-facts crew e =
-    let parts = both-true (leb (crew .n) 32 && leb 1 (crew .d)) (leb (crew .d) (crew .n)) e in
+pub countable-facts : (crew : Crew) (size : ℕ) → countable crew size ≡ true → Countable crew size
+countable-facts crew size e =
+    let places = leb (crew .n) 32 && leb 1 (crew .d) in
+    let all = both-true (places && leb (crew .d) (crew .n)) (eqb size (202 * crew .n)) e in
+    let parts = both-true places (leb (crew .d) (crew .n)) (all .0) in
     let sizes = both-true (leb (crew .n) 32) (leb 1 (crew .d)) (parts .0) in
     record {
       places = leb-true _ _ (sizes .0);
       some = leb-true _ _ (sizes .1);
       within = leb-true _ _ (parts .1);
+      whole = eqb-true _ _ (all .1);
     }
 
-pub facts-countable : (crew : Crew) → Countable crew → countable crew ≡ true
-facts-countable crew facts =
-    rw (le-leb _ _ (facts .places), le-leb _ _ (facts .some), le-leb _ _ (facts .within))
+pub facts-countable : (crew : Crew) (size : ℕ) → Countable crew size → countable crew size ≡ true
+facts-countable crew size facts =
+    rw (le-leb _ _ (facts .places), le-leb _ _ (facts .some), le-leb _ _ (facts .within), eq-eqb _ _ (facts .whole))
 
--- 'any' is told to crews that can be counted with
-pub any-countable : (class : Class) (crew : Crew) (ballots : List Ballot) → any ≡ choiceOf class crew ballots
-    → countable crew ≡ true
-unfolding choiceOf
-any-countable class crew ballots e = go (countable crew) e
-  where
-    go : (b : Bool) → any ≡ cond b (selection class crew ballots) nothing → b ≡ true
-    go true e = refl
-    go false e = absurd (let z : _≡_ {A = ℕ} 0 1 = cc in omega arith)
-
--- the answers for such a crew are those of the rules
-module _ (crew : Crew) (ballots : List Ballot) (ok : countable crew ≡ true) where
-  pub choice-rule : (class : Class) → choiceOf class crew ballots ≡ selection class crew ballots
+-- the answers are then those of the rules
+module _ (crew : Crew) (run phase : ℕ) (bytes : List ℕ) (ok : countable crew (length bytes) ≡ true) where
+  pub choice-rule : choiceOf crew run phase bytes ≡ selection (classOf crew) crew (heard crew run phase 1 bytes)
   unfolding choiceOf
-  choice-rule class = rw ok
+  choice-rule = rw ok
 
-  pub selected-rule : (class : Class) → selected class crew ballots ≡ taken class crew ballots
+  pub selected-rule : selected crew run phase bytes ≡ taken (classOf crew) crew (heard crew run phase 1 bytes)
   unfolding taken
-  selected-rule class = ap (takenOn crew ballots) (choice-rule class)
+  selected-rule = ap (takenOn crew (heard crew run phase 1 bytes)) choice-rule
 
-  pub valid-rule : validIn crew ballots ≡ validated crew ballots
+  pub valid-rule : validIn crew run phase bytes ≡ validated crew (heard crew run phase 2 bytes)
   unfolding validIn
   valid-rule = rw ok
 
-  pub decided-rule : (phase : ℕ) → decidedIn crew phase ballots ≡ decision (classOf crew) crew phase ballots
+  pub decided-rule :
+      decidedIn crew run phase bytes ≡ decision (classOf crew) crew phase (heard crew run phase 3 bytes)
   unfolding decidedIn
-  decided-rule phase = rw ok
+  decided-rule = rw ok

@@ -6,3 +6,4 @@ pub mod Listing
 pub mod Ruling
 pub mod BackingLaws
 pub mod Choosing
+pub mod Heard

@@ -11,9 +11,9 @@ use lib.Dec.{ltb}
 use lib.ListN.{length, getD, set}
 use lib.Seq.{getD-set-same, getD-set-other}
 use borrow.Author.Tests.{ltb-true, ltb-false}
+use Rattle.wire.proofs.Tests.{by-equality}
 use Rattle.ballot.specs.Least.{lower, orZero}
 use Rattle.tally.specs.Marks.{Marks, Counts, orTop, leastMarked, highest}
-use Rattle.inbox.proofs.Rows.{by-equality}
 
 -- one slot more of a column is as it should be
 column-next : {A : Type 0} (column : List A) (q : ℕ) (is : ℕ → A) (here other : A) → q < length column

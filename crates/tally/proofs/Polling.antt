@@ -11,6 +11,7 @@ use lib.Dec.{ltb, eqb}
 use lib.ListN.{length, getD}
 use borrow.Author.Tests.{le-ltb}
 use Rattle.wire.proofs.Tests.{and-true}
+use Rattle.wire.specs.Entry.{Entry}
 use Rattle.ballot.specs.Count.{tally, countIf, gather, push, holds}
 use Rattle.ballot.specs.Ballot.{Ballot, votes}
 use Rattle.ballot.specs.Least.{lower, least}
@@ -25,84 +26,85 @@ never : (b : Bool) (stamp : ℕ) → (b || ltb stamp 0) ≡ b
 never true stamp = refl
 never false stamp = le-ltb stamp 0 (omega arith)
 
-module _ (read : Columns) where
+module _ (read : Columns) (h : ℕ → List Entry) where
   abbrev pub voteAt : ℕ → ℕ
   voteAt q = getD (read .votes) q 0
 
   -- a test of ballots, on a slot: a slot that is absent passes none
   abbrev pub onSlot : (Ballot → Bool) → ℕ → Bool
-  onSlot p q = holds p (slotOf read q)
+  onSlot p q = holds p (slotOf read h q)
 
-  pub on-slot : (p : Ballot → Bool) (q : ℕ) → onSlot p q ≡ (marked (read .present) q && p (rowOf read q))
+  pub on-slot : (p : Ballot → Bool) (q : ℕ) → onSlot p q ≡ (marked (read .present) q && p (rowOf read h q))
   on-slot p q = go (marked (read .present) q)
     where
-      go : (b : Bool) → holds p (cond b (some (rowOf read q)) none) ≡ (b && p (rowOf read q))
+      go : (b : Bool) → holds p (cond b (some (rowOf read h q)) none) ≡ (b && p (rowOf read h q))
       go true = refl
       go false = refl
 
   -- a count of ballots is a tally of slots
   pub count-polled : (n : ℕ) (p : Ballot → Bool) (test : ℕ → Bool)
-      → ((q : ℕ) → q < n → (marked (read .present) q && p (rowOf read q)) ≡ test q)
-      → countIf p (polled read n) ≡ tally test n
+      → ((q : ℕ) → q < n → (marked (read .present) q && p (rowOf read h q)) ≡ test q)
+      → countIf p (polled read h n) ≡ tally test n
   count-polled n p test same =
-      count-gather p (slotOf read) n ∙ tally-same (onSlot p) test n (λ q less. on-slot p q ∙ same q less)
+      count-gather p (slotOf read h) n ∙ tally-same (onSlot p) test n (λ q less. on-slot p q ∙ same q less)
 
-  pub length-polled : (n : ℕ) → length (polled read n) ≡ tally (marked (read .present)) n
+  pub length-polled : (n : ℕ) → length (polled read h n) ≡ tally (marked (read .present)) n
   length-polled n =
-      length-count (polled read n) ∙ count-polled n (λ m. true) (marked (read .present))
+      length-count (polled read h n) ∙ count-polled n (λ m. true) (marked (read .present))
       (λ q less. and-true (marked (read .present) q))
 
   -- votes and stamps among the slots that are present
   pub supports-polled : (n vote below : ℕ)
-      → countIf (λ k. votes vote k || ltb (k .stamp) below) (polled read n)
+      → countIf (λ k. votes vote k || ltb (k .stamp) below) (polled read h n)
       ≡ tally (supporting (read .present) (read .votes) (read .stamps) vote below) n
   supports-polled n vote below = count-polled n (λ k. votes vote k || ltb (k .stamp) below) _ (λ q less. refl)
 
   pub votes-polled : (n vote : ℕ)
-      → countIf (votes vote) (polled read n) ≡ tally (supporting (read .present) (read .votes) (read .stamps) vote 0) n
+      → countIf (votes vote) (polled read h n)
+      ≡ tally (supporting (read .present) (read .votes) (read .stamps) vote 0) n
   votes-polled n vote =
       count-polled n (votes vote) _
       (λ q less. ap (λ b. marked (read .present) q && b)
-      (sym (never (votes vote (rowOf read q)) (getD (read .stamps) q 0))))
+      (sym (never (votes vote (rowOf read h q)) (getD (read .stamps) q 0))))
 
   -- votes among the slots that pass a test, which marks single out
   pub marked-polled : (n vote : ℕ) (p : Ballot → Bool) (marks : List Bool) → Marks marks n (onSlot p)
-      → countIf (λ k. p k && votes vote k) (polled read n)
+      → countIf (λ k. p k && votes vote k) (polled read h n)
       ≡ tally (supporting marks (read .votes) (read .stamps) vote 0) n
   marked-polled n vote p marks are =
       count-polled n (λ k. p k && votes vote k) _
       (λ q less.
-      sym (and-assoc (marked (read .present) q) (p (rowOf read q)) (votes vote (rowOf read q)))
+      sym (and-assoc (marked (read .present) q) (p (rowOf read h q)) (votes vote (rowOf read h q)))
       ∙ ap₂ (λ a b. a && b) (sym (are q less ∙ on-slot p q))
-      (sym (never (votes vote (rowOf read q)) (getD (read .stamps) q 0))))
+      (sym (never (votes vote (rowOf read h q)) (getD (read .stamps) q 0))))
 
   -- the least vote of the ballots that pass a test
-  pub least-polled : (n : ℕ) (p : Ballot → Bool) → least p (polled read n) ≡ leastMarked (onSlot p) voteAt n
+  pub least-polled : (n : ℕ) (p : Ballot → Bool) → least p (polled read h n) ≡ leastMarked (onSlot p) voteAt n
   unfolding gather least leastMarked
   least-polled zero p = refl
   least-polled (suc n) p =
       go (marked (read .present) n) ∙ ap (λ o. cond (onSlot p n) (lower (voteAt n) o) o) (least-polled n p)
     where
-      go : (b : Bool) → least p (push (cond b (some (rowOf read n)) none) (polled read n))
-          ≡ cond (holds p (cond b (some (rowOf read n)) none)) (lower (voteAt n) (least p (polled read n)))
-          (least p (polled read n))
+      go : (b : Bool) → least p (push (cond b (some (rowOf read h n)) none) (polled read h n))
+          ≡ cond (holds p (cond b (some (rowOf read h n)) none)) (lower (voteAt n) (least p (polled read h n)))
+          (least p (polled read h n))
       go true = refl
       go false = refl
 
   -- which votes the ballots that pass a test have
-  pub backing-polled : (n : ℕ) (p : Ballot → Bool) → backing p (polled read n) ≡ backingMarked (onSlot p) voteAt n
+  pub backing-polled : (n : ℕ) (p : Ballot → Bool) → backing p (polled read h n) ≡ backingMarked (onSlot p) voteAt n
   unfolding backing
-  backing-polled n p = ap (besides p (polled read n)) (least-polled n p) ∙ go (leastMarked (onSlot p) voteAt n)
+  backing-polled n p = ap (besides p (polled read h n)) (least-polled n p) ∙ go (leastMarked (onSlot p) voteAt n)
     where
-      others : (v : ℕ) → countIf (λ m. p m && not (votes v m)) (polled read n)
+      others : (v : ℕ) → countIf (λ m. p m && not (votes v m)) (polled read h n)
           ≡ tally (λ q. onSlot p q && not (eqb (voteAt q) v)) n
       others v =
           count-polled n (λ m. p m && not (votes v m)) _
           (λ q less.
-          sym (and-assoc (marked (read .present) q) (p (rowOf read q)) (not (votes v (rowOf read q))))
-          ∙ ap (λ b. b && not (votes v (rowOf read q))) (sym (on-slot p q)))
+          sym (and-assoc (marked (read .present) q) (p (rowOf read h q)) (not (votes v (rowOf read h q))))
+          ∙ ap (λ b. b && not (votes v (rowOf read h q))) (sym (on-slot p q)))
 
-      go : (o : Option ℕ) → besides p (polled read n) o ≡ besidesMarked (onSlot p) voteAt n o
+      go : (o : Option ℕ) → besides p (polled read h n) o ≡ besidesMarked (onSlot p) voteAt n o
       go none = refl
       go (some v) = rw (others v)
 

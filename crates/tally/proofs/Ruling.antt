@@ -22,9 +22,10 @@ use borrow.Author.Tests.{
   eq-eqb,
   ne-eqb,
 }
-use Rattle.wire.proofs.Tests.{and-true}
+use Rattle.wire.proofs.Tests.{and-true, by-equality}
 use Rattle.crew.specs.declared.Crew.{Crew}
 use Rattle.crew.specs.Thresholds.{Class, one, two, three, E, validAbove}
+use Rattle.wire.specs.Entry.{Entry}
 use Rattle.ballot.specs.Count.{bit, tally, countIf}
 use Rattle.ballot.specs.Ballot.{Ballot, votes, stamped, lists}
 use Rattle.ballot.specs.Least.{least, leastOf, orZero}
@@ -56,8 +57,6 @@ use Rattle.tally.proofs.Polling.{
   least-polled,
   least-same,
 }
-use Rattle.tally.proofs.Listing.{row-lists}
-use Rattle.inbox.proofs.Rows.{by-equality}
 use Rattle.ballot.proofs.Counting.{tally-has}
 
 -- nobody passes a bound where the highest number does not
@@ -113,62 +112,66 @@ nobody-least test vote zero absent = refl
 nobody-least test vote (suc n) absent =
     rw (absent n (omega arith)) (nobody-least test vote n (λ q less. absent q (omega arith)))
 
-module _ (crew : Crew) (read : Columns) (n : ℕ) where
+module _ (crew : Crew) (read : Columns) (h : ℕ → List Entry) (n : ℕ) where
   abbrev ballots : List Ballot
-  ballots = polled read n
+  ballots = polled read h n
 
   -- a test of a slot that is present
   abbrev here : ℕ → Bool → Bool
   here q b = marked (read .present) q && b
 
-  pub possible-slot : (q : ℕ) → onSlot read (possible crew ballots) q
+  pub possible-slot : (q : ℕ) → onSlot read h (possible crew ballots) q
       ≡ above (read .present) (read .present) (read .votes) (read .stamps) n (E crew) true q
   unfolding possible
   possible-slot q =
-      on-slot read (possible crew ballots) q
-      ∙ ap (λ k. here q (ltb (E crew) k)) (supports-polled read n (voteAt read q) (getD (read .stamps) q 0))
+      on-slot read h (possible crew ballots) q
+      ∙ ap (λ k. here q (ltb (E crew) k)) (supports-polled read h n (voteAt read h q) (getD (read .stamps) q 0))
 
-  pub backed-one-slot : (q : ℕ) → onSlot read (backed one crew ballots) q
+  pub backed-one-slot : (q : ℕ) → onSlot read h (backed one crew ballots) q
       ≡ above (read .present) (read .present) (read .votes) (read .stamps) n (E crew) false q
   unfolding backed
   backed-one-slot q =
-      on-slot read (backed one crew ballots) q ∙ ap (λ k. here q (ltb (E crew) k)) (votes-polled read n (voteAt read q))
+      on-slot read h (backed one crew ballots) q
+      ∙ ap (λ k. here q (ltb (E crew) k)) (votes-polled read h n (voteAt read h q))
 
   -- with marks for the possible slots
-  module _ (marks : List Bool) (are : Marks marks n (onSlot read (possible crew ballots))) where
-    pub backed-two-slot : (q : ℕ) → onSlot read (backed two crew ballots) q
+  module _ (marks : List Bool) (are : Marks marks n (onSlot read h (possible crew ballots))) where
+    pub backed-two-slot : (q : ℕ) → onSlot read h (backed two crew ballots) q
         ≡ above (read .present) marks (read .votes) (read .stamps) n (crew .b) false q
     unfolding backed
     backed-two-slot q =
-        on-slot read (backed two crew ballots) q
-        ∙ ap (λ k. here q (ltb (crew .b) k)) (marked-polled read n (voteAt read q) (possible crew ballots) marks are)
+        on-slot read h (backed two crew ballots) q
+        ∙ ap (λ k. here q (ltb (crew .b) k))
+        (marked-polled read h n (voteAt read h q) (possible crew ballots) marks are)
 
-    pub backed-three-slot : (q : ℕ) → q < n → onSlot read (backed three crew ballots) q
-        ≡ listedAbove marks (read .present) (read .votes) (read .stamps) (read .histories) n (crew .b) q
+    pub backed-three-slot : (bytes : List ℕ)
+        → ((v t k : ℕ) → k < n → here k (lists v t (rowOf read h k)) ≡ listing (read .present) bytes v t k)
+        → (q : ℕ) → q < n
+        → onSlot read h (backed three crew ballots) q
+        ≡ listedAbove marks (read .present) (read .votes) (read .stamps) bytes n (crew .b) q
     unfolding backed
-    backed-three-slot q less =
-        let v = voteAt read q in
+    backed-three-slot bytes listed q less =
+        let v = voteAt read h q in
         let t = getD (read .stamps) q 0 in
-        let listers = count-polled read n (lists v t) (listing (read .present) (read .histories) v t)
-        (λ k inside. ap (here k) (row-lists read k t v)) in
-        on-slot read (backed three crew ballots) q
-        ∙ sym (and-assoc (marked (read .present) q) (possible crew ballots (rowOf read q)) _)
-        ∙ ap₂ (λ a k. a && ltb (crew .b) k) (sym (are q less ∙ on-slot read (possible crew ballots) q)) listers
+        let listers = count-polled read h n (lists v t) (listing (read .present) bytes v t) (listed v t) in
+        on-slot read h (backed three crew ballots) q
+        ∙ sym (and-assoc (marked (read .present) q) (possible crew ballots (rowOf read h q)) _)
+        ∙ ap₂ (λ a k. a && ltb (crew .b) k) (sym (are q less ∙ on-slot read h (possible crew ballots) q)) listers
 
   -- how many slots 'any' counts
   pub counting : length ballots ≡ tally (marked (read .present)) n
-  counting = length-polled read n
+  counting = length-polled read h n
 
   pub unstamped : countIf (stamped 0) ballots ≡ tally (stampedWith (read .present) (read .stamps) 0) n
-  unstamped = count-polled read n (stamped 0) _ (λ q less. refl)
+  unstamped = count-polled read h n (stamped 0) _ (λ q less. refl)
 
   -- the least vote that passes a test of plans, where marks single out the slots with such votes
-  pub least-of : (f : ℕ → Bool) (marks : List Bool) → Marks marks n (onSlot read (λ m. f (m .vote)))
-      → leastOf f ballots ≡ orZero (leastMarked (marked marks) (voteAt read) n)
+  pub least-of : (f : ℕ → Bool) (marks : List Bool) → Marks marks n (onSlot read h (λ m. f (m .vote)))
+      → leastOf f ballots ≡ orZero (leastMarked (marked marks) (voteAt read h) n)
   unfolding leastOf
   least-of f marks are =
-      ap orZero (least-polled read n (λ m. f (m .vote))
-      ∙ sym (least-same (marked marks) (onSlot read (λ m. f (m .vote))) (voteAt read) n are))
+      ap orZero (least-polled read h n (λ m. f (m .vote))
+      ∙ sym (least-same (marked marks) (onSlot read h (λ m. f (m .vote))) (voteAt read h) n are))
 
   -- twice a count passes n + b where the count passes half of it
   half : (sum k : ℕ) → ltb sum (2 * k) ≡ ltb (sum / 2) k
@@ -178,12 +181,13 @@ module _ (crew : Crew) (read : Columns) (n : ℕ) where
       go true e = lt-ltb sum (2 * k) (omega (arith, ltb-true (sum / 2) k e))
       go false e = le-ltb sum (2 * k) (omega (arith, ltb-false (sum / 2) k e))
 
-  pub valid-slot : (q : ℕ) → onSlot read (λ m. valid crew ballots (m .vote)) q
+  pub valid-slot : (q : ℕ) → onSlot read h (λ m. valid crew ballots (m .vote)) q
       ≡ above (read .present) (read .present) (read .votes) (read .stamps) n (validAbove crew / 2) false q
   unfolding valid
   valid-slot q =
-      on-slot read (λ m. valid crew ballots (m .vote)) q
-      ∙ ap (here q) (half (validAbove crew) _ ∙ ap (ltb (validAbove crew / 2)) (votes-polled read n (voteAt read q)))
+      on-slot read h (λ m. valid crew ballots (m .vote)) q
+      ∙ ap (here q)
+      (half (validAbove crew) _ ∙ ap (ltb (validAbove crew / 2)) (votes-polled read h n (voteAt read h q)))
 
   -- at least D is more than D − 1
   reach : (d k : ℕ) → 1 ≤ d → leb d k ≡ ltb (d - 1) k
@@ -194,60 +198,61 @@ module _ (crew : Crew) (read : Columns) (n : ℕ) where
       go false e = lt-leb d k (omega (arith, ltb-false (d - 1) k e))
 
   pub decides-slot : (class : Class) (phase : ℕ) (marks : List Bool) → 1 ≤ crew .d
-      → Marks marks n (onSlot read (fresh class phase)) → (q : ℕ)
-      → onSlot read (λ m. decides class crew phase ballots (m .vote)) q
+      → Marks marks n (onSlot read h (fresh class phase)) → (q : ℕ)
+      → onSlot read h (λ m. decides class crew phase ballots (m .vote)) q
       ≡ above (read .present) marks (read .votes) (read .stamps) n (crew .d - 1) false q
   unfolding decides
   decides-slot class phase marks some are q =
-      on-slot read (λ m. decides class crew phase ballots (m .vote)) q
+      on-slot read h (λ m. decides class crew phase ballots (m .vote)) q
       ∙ ap (here q) (reach (crew .d) _ some
-      ∙ ap (ltb (crew .d - 1)) (marked-polled read n (voteAt read q) (fresh class phase) marks are))
+      ∙ ap (ltb (crew .d - 1)) (marked-polled read h n (voteAt read h q) (fresh class phase) marks are))
 
   -- in class 1 every slot's vote counts; in the others those with the phase's stamp
   pub fresh-slot : (class : Class) (phase q : ℕ)
-      → onSlot read (fresh class phase) q ≡ freshSlot class (read .present) (read .stamps) phase q
-  fresh-slot one phase q = on-slot read (fresh one phase) q ∙ and-true (marked (read .present) q)
-  fresh-slot two phase q = on-slot read (fresh two phase) q
-  fresh-slot three phase q = on-slot read (fresh three phase) q
+      → onSlot read h (fresh class phase) q ≡ freshSlot class (read .present) (read .stamps) phase q
+  fresh-slot one phase q = on-slot read h (fresh one phase) q ∙ and-true (marked (read .present) q)
+  fresh-slot two phase q = on-slot read h (fresh two phase) q
+  fresh-slot three phase q = on-slot read h (fresh three phase) q
 
   -- how many slots vote for a plan, and how many for the plan of most votes
   abbrev pub votesFor : ℕ → ℕ
   votesFor v = tally (supporting (read .present) (read .votes) (read .stamps) v 0) n
 
   abbrev pub most : ℕ
-  most = highest (marked (read .present)) (λ q. votesFor (voteAt read q)) n
+  most = highest (marked (read .present)) (λ q. votesFor (voteAt read h q)) n
 
   leads : (v : ℕ) → leading ballots v ≡ leb most (votesFor v)
   unfolding leading
   leads v =
-      ap (λ k. eqb k 0) (count-polled read n (λ k. ltb (countIf (votes v) ballots) (countIf (votes (k .vote)) ballots))
-      (λ q. here q (ltb (votesFor v) (votesFor (voteAt read q))))
-      (λ q less. ap₂ (λ a b. here q (ltb a b)) (votes-polled read n v) (votes-polled read n (voteAt read q))))
-      ∙ highest-within (marked (read .present)) (λ q. votesFor (voteAt read q)) (votesFor v) n
+      ap (λ k. eqb k 0)
+      (count-polled read h n (λ k. ltb (countIf (votes v) ballots) (countIf (votes (k .vote)) ballots))
+      (λ q. here q (ltb (votesFor v) (votesFor (voteAt read h q))))
+      (λ q less. ap₂ (λ a b. here q (ltb a b)) (votes-polled read h n v) (votes-polled read h n (voteAt read h q))))
+      ∙ highest-within (marked (read .present)) (λ q. votesFor (voteAt read h q)) (votesFor v) n
 
-  pub leading-slot : 1 ≤ most → (q : ℕ) → onSlot read (λ m. leading ballots (m .vote)) q
+  pub leading-slot : 1 ≤ most → (q : ℕ) → onSlot read h (λ m. leading ballots (m .vote)) q
       ≡ above (read .present) (read .present) (read .votes) (read .stamps) n (most - 1) false q
   leading-slot some q =
-      on-slot read (λ m. leading ballots (m .vote)) q
-      ∙ ap (here q) (leads (voteAt read q) ∙ reach most (votesFor (voteAt read q)) some)
+      on-slot read h (λ m. leading ballots (m .vote)) q
+      ∙ ap (here q) (leads (voteAt read h q) ∙ reach most (votesFor (voteAt read h q)) some)
 
   -- where no plan has a vote, no slot is present
   pub no-votes : most ≡ 0 → mostVoted ballots ≡ 0
   unfolding mostVoted leastOf
   no-votes none-voted =
-      ap orZero (least-polled read n (λ m. leading ballots (m .vote))
-      ∙ nobody-least (onSlot read (λ m. leading ballots (m .vote))) (voteAt read) n
-      (λ q less. on-slot read (λ m. leading ballots (m .vote)) q ∙ absent q less (marked (read .present) q) refl))
+      ap orZero (least-polled read h n (λ m. leading ballots (m .vote))
+      ∙ nobody-least (onSlot read h (λ m. leading ballots (m .vote))) (voteAt read h) n
+      (λ q less. on-slot read h (λ m. leading ballots (m .vote)) q ∙ absent q less (marked (read .present) q) refl))
     where
       itself : (q : ℕ) → marked (read .present) q ≡ true
-          → T (supporting (read .present) (read .votes) (read .stamps) (voteAt read q) 0 q)
-      itself q e = rw (e, eq-eqb (voteAt read q) (voteAt read q) refl) tt
+          → T (supporting (read .present) (read .votes) (read .stamps) (voteAt read h q) 0 q)
+      itself q e = rw (e, eq-eqb (voteAt read h q) (voteAt read h q) refl) tt
 
-      absent : (q : ℕ) → q < n → (b : Bool) → marked (read .present) q ≡ b → (b && leading ballots (voteAt read q))
+      absent : (q : ℕ) → q < n → (b : Bool) → marked (read .present) q ≡ b → (b && leading ballots (voteAt read h q))
           ≡ false
       absent q less false e = refl
       absent q less true e =
-          let own = tally-has (supporting (read .present) (read .votes) (read .stamps) (voteAt read q) 0) n q less
+          let own = tally-has (supporting (read .present) (read .votes) (read .stamps) (voteAt read h q) 0) n q less
           (itself q e) in
-          let bound = at-most-highest (marked (read .present)) (λ k. votesFor (voteAt read k)) n q less (rw e tt) in
+          let bound = at-most-highest (marked (read .present)) (λ k. votesFor (voteAt read h k)) n q less (rw e tt) in
           absurd (omega (arith, own, bound, none-voted))

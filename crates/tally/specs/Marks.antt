@@ -1,17 +1,21 @@
 -- Counts over the columns: marks single out slots, and the rules count marked slots. The functions that run over the
 -- columns promise these numbers; proofs/ joins them to the rules of crate ballot.
 -- Promises of private functions: no public contract cites this file.
-use Prim.Native.Nat.{ℕ, zero, suc, _+_, _*_, _<_, max}
+use Prim.Native.Nat.{ℕ, zero, suc, _<_, _≤_, max}
 use mathlib.Core.Path.{_≡_}
-use mathlib.Core.Bool.{Bool, false, not, cond, _&&_, _||_}
+use mathlib.Core.Bool.{Bool, true, false, not, cond, _&&_, _||_}
 use mathlib.Core.List.{List}
 use mathlib.Core.Option.{Option, none, some}
 use lib.ListN.{getD}
-use lib.Dec.{leb, ltb, eqb}
+use lib.Dec.{ltb, eqb}
+use Rattle.message.specs.Bounds.{entriesOk}
 use Rattle.crew.specs.Thresholds.{Class, one, two, three}
 use Rattle.ballot.specs.Count.{tally}
 use Rattle.ballot.specs.Least.{lower}
 use Rattle.ballot.specs.Selection.{Backing, nobody, sole, several}
+use Rattle.inbox.specs.Inbox.{slotAt}
+use Rattle.inbox.specs.Columns.{historiesIn}
+use Rattle.inbox.specs.Lookup.{listsAt}
 use Rattle.tally.specs.declared.Backing.{Backing as DeclaredBacking}
 use Rattle.tally.specs.declared.Backing.the-variants.{Nobody, Sole, Several}
 
@@ -58,15 +62,20 @@ freshSlot one present stamps phase q = marked present q
 freshSlot two present stamps phase q = stampedWith present stamps phase q
 freshSlot three present stamps phase q = stampedWith present stamps phase q
 
--- a slot that is present lists the plan at a phase; a history has no place past phase 63, and 0 there is no plan
+-- a slot that is present lists the plan at a phase
 abbrev pub listing : List Bool → List ℕ → ℕ → ℕ → ℕ → Bool
-listing present histories v phase q =
-    marked present q && (ltb phase 64 && (leb 1 v && eqb (getD histories (64 * q + phase) 0) v))
+listing present bytes v phase q = marked present q && listsAt bytes q v phase
+
+-- the slots that are present are selections: no more than 63 entries, whose phases rise
+abbrev pub Rising : List Bool → List ℕ → ℕ → Type 0
+Rising present bytes n =
+    (q : ℕ) → q < n → marked present q ≡ true
+    → (getD (slotAt bytes q) 12 0 ≤ 63) × (entriesOk 0 64 (historiesIn bytes q) ≡ true)
 
 -- a marked slot whose vote more than `threshold` slots list at its stamp
 abbrev pub listedAbove : List Bool → List Bool → List ℕ → List ℕ → List ℕ → ℕ → ℕ → ℕ → Bool
-listedAbove marks present votes stamps histories n threshold q =
-    marked marks q && ltb threshold (tally (listing present histories (getD votes q 0) (getD stamps q 0)) n)
+listedAbove marks present votes stamps bytes n threshold q =
+    marked marks q && ltb threshold (tally (listing present bytes (getD votes q 0) (getD stamps q 0)) n)
 
 -- the least of the votes of the marked slots below n
 unfoldable pub leastMarked : (ℕ → Bool) → (ℕ → ℕ) → ℕ → Option ℕ

@@ -1,21 +1,25 @@
-// The three rules over the columns of an inbox: selection, validation and decision by counts of marked slots.
-// Only selection in class 3 looks at histories: what the others answer holds whatever these are.
+// The three rules on an inbox's bytes: selection, validation and decision. Crate inbox reads the bytes into columns;
+// the rules go by counts of marked slots over these. Only selection in class 3 looks at histories: what the others
+// answer holds whatever these are.
 // What each answers stands in specs/Rules.antt, the counts in specs/Marks.antt. Crate rounds acts on the answers.
 use crew::Crew;
+use inbox::SLOT;
+use inbox::SLOTS;
 use node::Node;
 ghost use mathlib.Core.Path.{_≡_};
-ghost use mathlib.Core.Bool.{true, cond, _&&_};
+ghost use mathlib.Core.Bool.{cond, _&&_};
 ghost use mathlib.Core.List.{List};
-ghost use lib.Dec.{leb, ltb, eqb};
-ghost use Prim.Native.Nat.{ℕ, _+_, _*_, _-_, _<_, _≤_};
-ghost use lib.ListN.{getD};
+ghost use lib.Dec.{ltb};
+ghost use Prim.Native.Nat.{ℕ, _-_, _<_, _≤_};
+ghost use lib.ListN.{length, getD};
+ghost use Rattle.wire.specs.Entry.{Entry};
 ghost use Rattle.ballot.specs.Count.{bit, tally};
 ghost use Rattle.ballot.specs.Least.{orZero};
-ghost use Rattle.ballot.specs.Selection.{any, anyIf, answer, selection, anyPlan, takenOn};
+ghost use Rattle.ballot.specs.Selection.{anyIf, answer, selection, anyPlan, takenOn};
 ghost use Rattle.ballot.specs.Validation.{validated};
 ghost use Rattle.ballot.specs.Decision.{decision};
 ghost use Rattle.crew.specs.Thresholds.{one, two, three, classOf, E};
-ghost use Rattle.inbox.specs.Columns.{columns, polled};
+ghost use Rattle.inbox.specs.Columns.{columns, slotsIn, historiesIn, polled};
 ghost use Rattle.tally.specs.Marks.{
   Marks,
   Counts,
@@ -28,6 +32,7 @@ ghost use Rattle.tally.specs.Marks.{
   stampedWith,
   freshSlot,
   listing,
+  Rising,
   listedAbove,
   TopOf,
   leastMarked,
@@ -36,7 +41,7 @@ ghost use Rattle.tally.specs.Marks.{
   backingAs,
   highest,
 };
-ghost use Rattle.tally.specs.Rules.{countable, byVotes, choiceAs, choiceOf, selected, validIn, decidedIn};
+ghost use Rattle.tally.specs.Rules.{countable, choiceAs, choiceOf, selected, validIn, decidedIn};
 
 // One past every vote.
 const TOP: u32 = 65536;
@@ -84,34 +89,15 @@ fn count_marks(marks: &[bool; 32], n: usize) -> u16
     count
 }
 
-// Whether the slot lists the plan at a phase.
-fn lists(histories: &[u16; 2048], q: usize, phase: u8, plan: u16) -> bool
-    requires { ⌜ q < 32 ⌝ }
-    ensures { λ r. ⌜ r ≡ (ltb phase 64 &&
-        (leb 1 plan && eqb (getD (now (histories .entry)) (64 * q + phase) 0) plan)) ⌝ }
-{
-    if phase < Node::SPENT {
-        (1 <= plan) & (histories[Node::PHASES * q + phase as usize] == plan)
-    } else {
-        false
-    }
-}
-
 // How many slots list the plan at a phase.
-fn count_listing(
-    present: &[bool; 32],
-    histories: &[u16; 2048],
-    n: usize,
-    plan: u16,
-    phase: u8,
-) -> u16
+fn count_listing(present: &[bool; 32], inbox: &[u8], n: usize, plan: u16, phase: u8) -> u16
     requires { ⌜ n ≤ 32 ⌝ }
-    ensures { λ r. ⌜ (r ≡ tally (listing (now (present .entry)) (now (histories .entry)) plan phase) n) × (r ≤ n) ⌝ }
+    ensures { λ r. ⌜ (r ≡ tally (listing (now (present .entry)) (now (inbox .entry)) plan phase) n) × (r ≤ n) ⌝ }
 {
     let mut count: u16 = 0;
     let mut q = 0;
     while q < n {
-        count = count + one_if(present[q] & lists(histories, q, phase, plan));
+        count = count + one_if(present[q] & inbox::lists(inbox, q, plan, phase));
         q = q + 1;
     }
     count
@@ -149,17 +135,17 @@ fn count_next(
 
 // How many marked slots support what each slot says.
 fn count_each(
+    counts: &mut [u16; 32],
     marks: &[bool; 32],
     votes: &[u16; 32],
     stamps: &[u8; 32],
     n: usize,
     stamped: bool,
-) -> [u16; 32]
-    requires { ⌜ n ≤ 32 ⌝ }
-    ensures { λ r. ⌜ Counts r n
+)
+    requires { ⌜ (n ≤ 32) × (length (now counts) ≡ 32) ⌝ }
+    ensures { λ _. ⌜ Counts (now (counts .exit)) n
         (supporters (now (marks .entry)) (now (votes .entry)) (now (stamps .entry)) n stamped) ⌝ }
 {
-    let mut counts = [0u16; 32];
     let below = below_of(stamped, stamps[0]);
     counts[0] = count_supporting(marks, votes, stamps, n, votes[0], below);
     let mut q = 1;
@@ -167,25 +153,30 @@ fn count_each(
         counts[q] = count_next(marks, votes, stamps, n, stamped, q, counts[q - 1]);
         q = q + 1;
     }
-    counts
 }
 
 // Marks each slot that is present and has a count above the threshold.
-fn mark_over(present: &[bool; 32], counts: &[u16; 32], n: usize, threshold: u16) -> [bool; 32]
-    requires { ⌜ n ≤ 32 ⌝ }
-    ensures { λ r. ⌜ Marks r n (over (now (present .entry)) (λ q. getD (now (counts .entry)) q 0) threshold) ⌝ }
+fn mark_over(
+    out: &mut [bool; 32],
+    present: &[bool; 32],
+    counts: &[u16; 32],
+    n: usize,
+    threshold: u16,
+)
+    requires { ⌜ (n ≤ 32) × (length (now out) ≡ 32) ⌝ }
+    ensures { λ _. ⌜ Marks (now (out .exit)) n
+        (over (now (present .entry)) (λ q. getD (now (counts .entry)) q 0) threshold) ⌝ }
 {
-    let mut out = [false; 32];
     let mut q = 0;
     while q < n {
         out[q] = present[q] & (threshold < counts[q]);
         q = q + 1;
     }
-    out
 }
 
 // Marks each slot whose vote, or vote and stamp, more than `threshold` of the marked slots support.
 fn mark_above(
+    out: &mut [bool; 32],
     present: &[bool; 32],
     marks: &[bool; 32],
     votes: &[u16; 32],
@@ -193,13 +184,12 @@ fn mark_above(
     n: usize,
     threshold: u16,
     stamped: bool,
-) -> [bool; 32]
-    requires { ⌜ n ≤ 32 ⌝ }
-    ensures { λ r. ⌜ Marks r n
+)
+    requires { ⌜ (n ≤ 32) × (length (now out) ≡ 32) ⌝ }
+    ensures { λ _. ⌜ Marks (now (out .exit)) n
         (above (now (present .entry)) (now (marks .entry)) (now (votes .entry)) (now (stamps .entry)) n threshold
         stamped) ⌝ }
 {
-    let mut out = [false; 32];
     let below = below_of(stamped, stamps[0]);
     let mut count = count_supporting(marks, votes, stamps, n, votes[0], below);
     out[0] = present[0] & (threshold < count);
@@ -209,28 +199,25 @@ fn mark_above(
         out[q] = present[q] & (threshold < count);
         q = q + 1;
     }
-    out
 }
 
 // Marks each slot with this stamp.
-fn mark_stamped(present: &[bool; 32], stamps: &[u8; 32], n: usize, stamp: u8) -> [bool; 32]
-    requires { ⌜ n ≤ 32 ⌝ }
-    ensures { λ r. ⌜ Marks r n (stampedWith (now (present .entry)) (now (stamps .entry)) stamp) ⌝ }
+fn mark_stamped(out: &mut [bool; 32], present: &[bool; 32], stamps: &[u8; 32], n: usize, stamp: u8)
+    requires { ⌜ (n ≤ 32) × (length (now out) ≡ 32) ⌝ }
+    ensures { λ _. ⌜ Marks (now (out .exit)) n (stampedWith (now (present .entry)) (now (stamps .entry)) stamp) ⌝ }
 {
-    let mut out = [false; 32];
     let mut q = 0;
     while q < n {
         out[q] = present[q] & (stamps[q] == stamp);
         q = q + 1;
     }
-    out
 }
 
 // Whether a slot is marked and more than `threshold` slots list its vote at its stamp.
 fn is_listed(
     mark: bool,
     present: &[bool; 32],
-    histories: &[u16; 2048],
+    inbox: &[u8],
     n: usize,
     vote: u16,
     stamp: u8,
@@ -238,10 +225,10 @@ fn is_listed(
 ) -> bool
     requires { ⌜ n ≤ 32 ⌝ }
     ensures { λ r. ⌜ r ≡ (mark && ltb threshold
-        (tally (listing (now (present .entry)) (now (histories .entry)) vote stamp) n)) ⌝ }
+        (tally (listing (now (present .entry)) (now (inbox .entry)) vote stamp) n)) ⌝ }
 {
     if mark {
-        return threshold < count_listing(present, histories, n, vote, stamp);
+        return threshold < count_listing(present, inbox, n, vote, stamp);
     }
     false
 }
@@ -252,58 +239,42 @@ fn is_next_listed(
     present: &[bool; 32],
     votes: &[u16; 32],
     stamps: &[u8; 32],
-    histories: &[u16; 2048],
+    inbox: &[u8],
     n: usize,
     threshold: u16,
     q: usize,
     before: bool,
 ) -> bool
     requires { ⌜ (n ≤ 32) × (1 ≤ q) × (q < 32)
-        × (before ≡ listedAbove (now marks) (now present) (now votes) (now stamps) (now histories) n threshold
+        × (before ≡ listedAbove (now marks) (now present) (now votes) (now stamps) (now inbox) n threshold
         (q - 1)) ⌝ }
     ensures { λ r. ⌜ r ≡ listedAbove (now (marks .entry)) (now (present .entry)) (now (votes .entry))
-        (now (stamps .entry)) (now (histories .entry)) n threshold q ⌝ }
+        (now (stamps .entry)) (now (inbox .entry)) n threshold q ⌝ }
 {
     let again = marks[q - 1] & (votes[q] == votes[q - 1]) & (stamps[q] == stamps[q - 1]);
     if again {
         return marks[q] & before;
     }
-    is_listed(
-        marks[q],
-        present,
-        histories,
-        n,
-        votes[q],
-        stamps[q],
-        threshold,
-    )
+    is_listed(marks[q], present, inbox, n, votes[q], stamps[q], threshold)
 }
 
 // Marks, of the marked slots, each whose vote more than `threshold` slots list at its stamp.
 fn mark_listed(
+    out: &mut [bool; 32],
     marks: &[bool; 32],
     present: &[bool; 32],
     votes: &[u16; 32],
     stamps: &[u8; 32],
-    histories: &[u16; 2048],
+    inbox: &[u8],
     n: usize,
     threshold: u16,
-) -> [bool; 32]
-    requires { ⌜ n ≤ 32 ⌝ }
-    ensures { λ r. ⌜ Marks r n
+)
+    requires { ⌜ (n ≤ 32) × (length (now out) ≡ 32) ⌝ }
+    ensures { λ _. ⌜ Marks (now (out .exit)) n
         (listedAbove (now (marks .entry)) (now (present .entry)) (now (votes .entry)) (now (stamps .entry))
-        (now (histories .entry)) n threshold) ⌝ }
+        (now (inbox .entry)) n threshold) ⌝ }
 {
-    let mut out = [false; 32];
-    out[0] = is_listed(
-        marks[0],
-        present,
-        histories,
-        n,
-        votes[0],
-        stamps[0],
-        threshold,
-    );
+    out[0] = is_listed(marks[0], present, inbox, n, votes[0], stamps[0], threshold);
     let mut q = 1;
     while q < n {
         out[q] = is_next_listed(
@@ -311,7 +282,7 @@ fn mark_listed(
             present,
             votes,
             stamps,
-            histories,
+            inbox,
             n,
             threshold,
             q,
@@ -319,7 +290,6 @@ fn mark_listed(
         );
         q = q + 1;
     }
-    out
 }
 
 fn wide(x: u16) -> u32
@@ -456,11 +426,14 @@ fn answer_three(backing: Backing, enough: bool) -> Choice
     }
 }
 
-// Whether the columns have a place for every node, and D is a number of nodes.
-fn is_countable(crew: Crew) -> bool
-    ensures { λ r. ⌜ r ≡ countable crew ⌝ }
+// Whether the columns have a place for every node, D is a number of nodes, and so many bytes are the crew's inbox.
+fn is_countable(crew: Crew, size: usize) -> bool
+    ensures { λ r. ⌜ r ≡ countable crew size ⌝ }
 {
-    (crew.n <= Crew::MOST_NODES) & (1 <= crew.d) & (crew.d <= crew.n)
+    (crew.n <= Crew::MOST_NODES)
+        & (1 <= crew.d)
+        & (crew.d <= crew.n)
+        & (size == SLOT * (crew.n as usize))
 }
 
 // 01's E = n − D + b.
@@ -474,14 +447,15 @@ fn bound(crew: Crew) -> u16
 // Selection in class 1.
 fn choose_one(crew: Crew, present: &[bool; 32], votes: &[u16; 32], stamps: &[u8; 32]) -> Choice
     requires { ⌜ (crew .n ≤ 32) × (crew .d ≤ crew .n) ⌝ }
-    ensures { λ r. ⌜ ((h : List ℕ) → choiceAs r ≡ selection one crew
-        (polled (columns (now (present .entry)) (now (votes .entry)) (now (stamps .entry)) h)
+    ensures { λ r. ⌜ ((h : ℕ → List Entry) → choiceAs r ≡ selection one crew
+        (polled (columns (now (present .entry)) (now (votes .entry)) (now (stamps .entry))) h
         (crew .n))) ⌝ }
 {
     let n = crew.n as usize;
     let e = bound(crew);
     let arrivals = count_marks(present, n);
-    let backed = mark_above(present, present, votes, stamps, n, e, false);
+    let mut backed = [false; SLOTS];
+    mark_above(&mut backed, present, present, votes, stamps, n, e, false);
     let backing = backing_of(&backed, votes, n);
     answer_below_three(backing, 2 * e < arrivals)
 }
@@ -489,16 +463,18 @@ fn choose_one(crew: Crew, present: &[bool; 32], votes: &[u16; 32], stamps: &[u8;
 // Selection in class 2.
 fn choose_two(crew: Crew, present: &[bool; 32], votes: &[u16; 32], stamps: &[u8; 32]) -> Choice
     requires { ⌜ (crew .n ≤ 32) × (crew .d ≤ crew .n) ⌝ }
-    ensures { λ r. ⌜ ((h : List ℕ) → choiceAs r ≡ selection two crew
-        (polled (columns (now (present .entry)) (now (votes .entry)) (now (stamps .entry)) h)
+    ensures { λ r. ⌜ ((h : ℕ → List Entry) → choiceAs r ≡ selection two crew
+        (polled (columns (now (present .entry)) (now (votes .entry)) (now (stamps .entry))) h
         (crew .n))) ⌝ }
 {
     let n = crew.n as usize;
     let b = crew.b as u16;
     let e = bound(crew);
     let arrivals = count_marks(present, n);
-    let possible = mark_above(present, present, votes, stamps, n, e, true);
-    let backed = mark_above(present, &possible, votes, stamps, n, b, false);
+    let mut possible = [false; SLOTS];
+    mark_above(&mut possible, present, present, votes, stamps, n, e, true);
+    let mut backed = [false; SLOTS];
+    mark_above(&mut backed, present, &possible, votes, stamps, n, b, false);
     let backing = backing_of(&backed, votes, n);
     answer_below_three(backing, e + b < arrivals)
 }
@@ -506,60 +482,71 @@ fn choose_two(crew: Crew, present: &[bool; 32], votes: &[u16; 32], stamps: &[u8;
 // Selection in class 3.
 fn choose_three(
     crew: Crew,
+    inbox: &[u8],
     present: &[bool; 32],
     votes: &[u16; 32],
     stamps: &[u8; 32],
-    histories: &[u16; 2048],
 ) -> Choice
-    requires { ⌜ (crew .n ≤ 32) × (crew .d ≤ crew .n) ⌝ }
+    requires { ⌜ (crew .n ≤ 32) × (crew .d ≤ crew .n) × (crew .n ≤ slotsIn (length (now inbox)))
+        × Rising (now present) (now inbox) (crew .n) ⌝ }
     ensures { λ r. ⌜ choiceAs r ≡ selection three crew
-        (polled (columns (now (present .entry)) (now (votes .entry)) (now (stamps .entry)) (now (histories .entry)))
-        (crew .n)) ⌝ }
+        (polled (columns (now (present .entry)) (now (votes .entry)) (now (stamps .entry)))
+        (historiesIn (now (inbox .entry))) (crew .n)) ⌝ }
 {
     let n = crew.n as usize;
     let b = crew.b as u16;
     let e = bound(crew);
-    let possible = mark_above(present, present, votes, stamps, n, e, true);
-    let backed = mark_listed(&possible, present, votes, stamps, histories, n, b);
+    let mut possible = [false; SLOTS];
+    mark_above(&mut possible, present, present, votes, stamps, n, e, true);
+    let mut backed = [false; SLOTS];
+    mark_listed(&mut backed, &possible, present, votes, stamps, inbox, n, b);
     let backing = backing_of(&backed, votes, n);
-    let unstamped = mark_stamped(present, stamps, n, 0);
+    let mut unstamped = [false; SLOTS];
+    mark_stamped(&mut unstamped, present, stamps, n, 0);
     answer_three(backing, e < count_marks(&unstamped, n))
 }
 
-// 01: "answers a plan, 'any' or 'none'": in classes 1 and 2 by votes and stamps alone.
-pub fn choose_by_votes(
+// Selection by the crew's class. Only class 3 looks at histories.
+fn choose_by_class(
     crew: Crew,
+    inbox: &[u8],
     present: &[bool; 32],
     votes: &[u16; 32],
     stamps: &[u8; 32],
 ) -> Choice
-    ensures { λ r. ⌜ ((h : List ℕ) → choiceAs r ≡ choiceOf (byVotes crew) crew
-        (polled (columns (now (present .entry)) (now (votes .entry)) (now (stamps .entry)) h)
-        (crew .n))) ⌝ }
+    requires { ⌜ (crew .n ≤ 32) × (crew .d ≤ crew .n) × (crew .n ≤ slotsIn (length (now inbox)))
+        × Rising (now present) (now inbox) (crew .n) ⌝ }
+    ensures { λ r. ⌜ choiceAs r ≡ selection (classOf crew) crew
+        (polled (columns (now (present .entry)) (now (votes .entry)) (now (stamps .entry)))
+        (historiesIn (now (inbox .entry))) (crew .n)) ⌝ }
 {
-    if is_countable(crew) {
-        if crew.class == 1 {
-            return choose_one(crew, present, votes, stamps);
-        }
+    if crew.class == 1 {
+        return choose_one(crew, present, votes, stamps);
+    }
+    if crew.class == 2 {
         return choose_two(crew, present, votes, stamps);
     }
-    Choice::Nothing
+    choose_three(crew, inbox, present, votes, stamps)
 }
 
-// The same in class 3, where histories play a part.
-pub fn choose_by_lists(
-    crew: Crew,
-    present: &[bool; 32],
-    votes: &[u16; 32],
-    stamps: &[u8; 32],
-    histories: &[u16; 2048],
-) -> Choice
-    ensures { λ r. ⌜ choiceAs r ≡ choiceOf three crew
-        (polled (columns (now (present .entry)) (now (votes .entry)) (now (stamps .entry)) (now (histories .entry)))
-        (crew .n)) ⌝ }
+// 01: "answers a plan, 'any' or 'none'"
+pub fn choose(crew: Crew, run: u32, phase: u8, inbox: &[u8]) -> Choice
+    ensures { λ r. ⌜ choiceAs r ≡ choiceOf crew run phase (now (inbox .entry)) ⌝ }
 {
-    if is_countable(crew) {
-        return choose_three(crew, present, votes, stamps, histories);
+    if is_countable(crew, inbox.len()) {
+        let mut present = [false; SLOTS];
+        let mut votes = [0u16; SLOTS];
+        let mut stamps = [0u8; SLOTS];
+        inbox::read_slots(
+            inbox,
+            run,
+            phase,
+            Node::SELECTION,
+            &mut present,
+            &mut votes,
+            &mut stamps,
+        );
+        return choose_by_class(crew, inbox, &present, &votes, &stamps);
     }
     Choice::Nothing
 }
@@ -567,17 +554,19 @@ pub fn choose_by_lists(
 // 01: "For 'any' the node takes the vote of most slots, the least plan on a tie"
 fn any_plan(crew: Crew, present: &[bool; 32], votes: &[u16; 32], stamps: &[u8; 32]) -> u16
     requires { ⌜ crew .n ≤ 32 ⌝ }
-    ensures { λ r. ⌜ ((h : List ℕ) → r ≡ anyPlan crew
-        (polled (columns (now (present .entry)) (now (votes .entry)) (now (stamps .entry)) h)
+    ensures { λ r. ⌜ ((h : ℕ → List Entry) → r ≡ anyPlan crew
+        (polled (columns (now (present .entry)) (now (votes .entry)) (now (stamps .entry))) h
         (crew .n))) ⌝ }
 {
     let n = crew.n as usize;
-    let counts = count_each(present, votes, stamps, n, false);
+    let mut counts = [0u16; SLOTS];
+    count_each(&mut counts, present, votes, stamps, n, false);
     let most = highest_count(present, &counts, n);
     if most == 0 {
         return 0;
     }
-    let leaders = mark_over(present, &counts, n, most - 1);
+    let mut leaders = [false; SLOTS];
+    mark_over(&mut leaders, present, &counts, n, most - 1);
     least_marked(&leaders, votes, n)
 }
 
@@ -589,9 +578,9 @@ fn take_on(
     votes: &[u16; 32],
     stamps: &[u8; 32],
 ) -> u16
-    requires { ⌜ (choiceAs choice ≡ any → crew .n ≤ 32) ⌝ }
-    ensures { λ r. ⌜ ((h : List ℕ) → r ≡ takenOn crew
-        (polled (columns (now (present .entry)) (now (votes .entry)) (now (stamps .entry)) h)
+    requires { ⌜ crew .n ≤ 32 ⌝ }
+    ensures { λ r. ⌜ ((h : ℕ → List Entry) → r ≡ takenOn crew
+        (polled (columns (now (present .entry)) (now (votes .entry)) (now (stamps .entry))) h
         (crew .n)) (choiceAs choice)) ⌝ }
 {
     match choice {
@@ -601,71 +590,76 @@ fn take_on(
     }
 }
 
-// What a node of class 1 or 2 takes.
-pub fn select_by_votes(
-    crew: Crew,
-    present: &[bool; 32],
-    votes: &[u16; 32],
-    stamps: &[u8; 32],
-) -> u16
-    ensures { λ r. ⌜ ((h : List ℕ) → r ≡ selected (byVotes crew) crew
-        (polled (columns (now (present .entry)) (now (votes .entry)) (now (stamps .entry)) h)
-        (crew .n))) ⌝ }
+// 01: "Select is the plan, or 0 for 'none'"
+pub fn select(crew: Crew, run: u32, phase: u8, inbox: &[u8]) -> u16
+    ensures { λ r. ⌜ r ≡ selected crew run phase (now (inbox .entry)) ⌝ }
 {
-    let choice = choose_by_votes(crew, present, votes, stamps);
-    take_on(crew, choice, present, votes, stamps)
-}
-
-// What a node of class 3 takes.
-pub fn select_by_lists(
-    crew: Crew,
-    present: &[bool; 32],
-    votes: &[u16; 32],
-    stamps: &[u8; 32],
-    histories: &[u16; 2048],
-) -> u16
-    ensures { λ r. ⌜ r ≡ selected three crew
-        (polled (columns (now (present .entry)) (now (votes .entry)) (now (stamps .entry)) (now (histories .entry)))
-        (crew .n)) ⌝ }
-{
-    let choice = choose_by_lists(crew, present, votes, stamps, histories);
-    take_on(crew, choice, present, votes, stamps)
+    if is_countable(crew, inbox.len()) {
+        let mut present = [false; SLOTS];
+        let mut votes = [0u16; SLOTS];
+        let mut stamps = [0u8; SLOTS];
+        inbox::read_slots(
+            inbox,
+            run,
+            phase,
+            Node::SELECTION,
+            &mut present,
+            &mut votes,
+            &mut stamps,
+        );
+        let choice = choose_by_class(crew, inbox, &present, &votes, &stamps);
+        return take_on(crew, choice, &present, &votes, &stamps);
+    }
+    Node::NO_PLAN
 }
 
 // The plan that more than half of n + b slots hold, 0 where none does.
 fn least_valid(crew: Crew, present: &[bool; 32], votes: &[u16; 32], stamps: &[u8; 32]) -> u16
     requires { ⌜ crew .n ≤ 32 ⌝ }
-    ensures { λ r. ⌜ ((h : List ℕ) → r ≡ validated crew
-        (polled (columns (now (present .entry)) (now (votes .entry)) (now (stamps .entry)) h)
+    ensures { λ r. ⌜ ((h : ℕ → List Entry) → r ≡ validated crew
+        (polled (columns (now (present .entry)) (now (votes .entry)) (now (stamps .entry))) h
         (crew .n))) ⌝ }
 {
     let n = crew.n as usize;
     let half = (crew.n as u16 + crew.b as u16) / 2;
-    let valid = mark_above(present, present, votes, stamps, n, half, false);
+    let mut valid = [false; SLOTS];
+    mark_above(&mut valid, present, present, votes, stamps, n, half, false);
     least_marked(&valid, votes, n)
 }
 
 // 01: "If a plan stands in c slots with 2c > n + b": that plan, 0 where there is none.
-pub fn validate(crew: Crew, present: &[bool; 32], votes: &[u16; 32], stamps: &[u8; 32]) -> u16
-    ensures { λ r. ⌜ ((h : List ℕ) → r ≡ validIn crew
-        (polled (columns (now (present .entry)) (now (votes .entry)) (now (stamps .entry)) h)
-        (crew .n))) ⌝ }
+pub fn validate(crew: Crew, run: u32, phase: u8, inbox: &[u8]) -> u16
+    ensures { λ r. ⌜ r ≡ validIn crew run phase (now (inbox .entry)) ⌝ }
 {
-    if is_countable(crew) {
-        return least_valid(crew, present, votes, stamps);
+    if is_countable(crew, inbox.len()) {
+        let mut present = [false; SLOTS];
+        let mut votes = [0u16; SLOTS];
+        let mut stamps = [0u8; SLOTS];
+        inbox::read_slots(
+            inbox,
+            run,
+            phase,
+            Node::VALIDATION,
+            &mut present,
+            &mut votes,
+            &mut stamps,
+        );
+        return least_valid(crew, &present, &votes, &stamps);
     }
     Node::NO_PLAN
 }
 
 // The slots whose votes decide. 01: "in classes 2 and 3 only slots whose stamp is the phase"
-fn mark_fresh(crew: Crew, phase: u8, present: &[bool; 32], stamps: &[u8; 32]) -> [bool; 32]
-    requires { ⌜ crew .n ≤ 32 ⌝ }
-    ensures { λ r. ⌜ Marks r (crew .n) (freshSlot (classOf crew) (now (present .entry)) (now (stamps .entry)) phase) ⌝ }
+fn mark_fresh(out: &mut [bool; 32], crew: Crew, phase: u8, present: &[bool; 32], stamps: &[u8; 32])
+    requires { ⌜ (crew .n ≤ 32) × (length (now out) ≡ 32) ⌝ }
+    ensures { λ _. ⌜ Marks (now (out .exit)) (crew .n)
+        (freshSlot (classOf crew) (now (present .entry)) (now (stamps .entry)) phase) ⌝ }
 {
     if crew.class == 1 {
-        return *present;
+        *out = *present;
+        return;
     }
-    mark_stamped(present, stamps, crew.n as usize, phase)
+    mark_stamped(out, present, stamps, crew.n as usize, phase);
 }
 
 // The least plan that at least D slots hold, 0 where none does.
@@ -677,30 +671,45 @@ fn least_deciding(
     stamps: &[u8; 32],
 ) -> u16
     requires { ⌜ (crew .n ≤ 32) × (1 ≤ crew .d) ⌝ }
-    ensures { λ r. ⌜ ((h : List ℕ) → r ≡ decision (classOf crew) crew phase
-        (polled (columns (now (present .entry)) (now (votes .entry)) (now (stamps .entry)) h)
+    ensures { λ r. ⌜ ((h : ℕ → List Entry) → r ≡ decision (classOf crew) crew phase
+        (polled (columns (now (present .entry)) (now (votes .entry)) (now (stamps .entry))) h
         (crew .n))) ⌝ }
 {
     let n = crew.n as usize;
-    let fresh = mark_fresh(crew, phase, present, stamps);
-    let deciding = mark_above(present, &fresh, votes, stamps, n, crew.d as u16 - 1, false);
+    let mut fresh = [false; SLOTS];
+    mark_fresh(&mut fresh, crew, phase, present, stamps);
+    let mut deciding = [false; SLOTS];
+    mark_above(
+        &mut deciding,
+        present,
+        &fresh,
+        votes,
+        stamps,
+        n,
+        crew.d as u16 - 1,
+        false,
+    );
     least_marked(&deciding, votes, n)
 }
 
 // 01: "plans in at least D slots": the least, 0 where there is none.
-pub fn decide(
-    crew: Crew,
-    phase: u8,
-    present: &[bool; 32],
-    votes: &[u16; 32],
-    stamps: &[u8; 32],
-) -> u16
-    ensures { λ r. ⌜ ((h : List ℕ) → r ≡ decidedIn crew phase
-        (polled (columns (now (present .entry)) (now (votes .entry)) (now (stamps .entry)) h)
-        (crew .n))) ⌝ }
+pub fn decide(crew: Crew, run: u32, phase: u8, inbox: &[u8]) -> u16
+    ensures { λ r. ⌜ r ≡ decidedIn crew run phase (now (inbox .entry)) ⌝ }
 {
-    if is_countable(crew) {
-        return least_deciding(crew, phase, present, votes, stamps);
+    if is_countable(crew, inbox.len()) {
+        let mut present = [false; SLOTS];
+        let mut votes = [0u16; SLOTS];
+        let mut stamps = [0u8; SLOTS];
+        inbox::read_slots(
+            inbox,
+            run,
+            phase,
+            Node::DECISION,
+            &mut present,
+            &mut votes,
+            &mut stamps,
+        );
+        return least_deciding(crew, phase, &present, &votes, &stamps);
     }
     Node::NO_PLAN
 }

@@ -8,6 +8,7 @@ use Prim.Native.Nat.{ℕ}
 use native.Mathlib.Omega.{arith}
 use lib.Dec.{T, leb, ltb, eqb, leb→le, le→leb, ltb→lt, lt→ltb, nleb→lt, nltb→le, eqb→eq, eqb-refl, not-T, T-not}
 use lib.Arith.{lt→nleb, le→nltb}
+use borrow.Author.Tests.{eqb-true, eqb-false}
 
 pub eq→eqb : (a b : ℕ) → a ≡ b → T (eqb a b)
 eq→eqb a b e = rw e (eqb-refl b)
@@ -48,3 +49,11 @@ and-false false = refl
 pub and-true : (a : Bool) → (a && true) ≡ a
 and-true true = refl
 and-true false = refl
+
+-- two numbers are equal or not
+pub by-equality : {A : Type 0} (m n : ℕ) → (m ≡ n → A) → (m ≢ n → A) → A
+by-equality {A} m n same differ = go (eqb m n) refl
+  where
+    go : (b : Bool) → eqb m n ≡ b → A
+    go true e = same (eqb-true m n e)
+    go false e = differ (eqb-false m n e)

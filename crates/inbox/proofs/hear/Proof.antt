@@ -2,7 +2,7 @@
 use mathlib.Core.Path.{sym, _∙_, ap}
 use borrow.Author.Needs.{needs}
 use denote.Ref.{now}
-use Rattle.message.specs.Reading.{answered, entriesIn}
+use Rattle.message.specs.Reading.{answered}
 use Rattle.inbox.proofs.hear.Statement.{statement}
 use Rattle.inbox.proofs.hear.Tie as tie
 
@@ -23,7 +23,6 @@ enum-known-reading-2 : tie.Need-enum-known-reading-2
 enum-known-reading-2 c = search needs
 
 returns-2 : tie.Need-returns-2
-unfolding entriesIn
 returns-2 c =
     let b4 = c .before .before .before .before in
     let s = now (b4 .before .before .args .slot) in
@@ -34,7 +33,6 @@ enum-known-reading-3 : tie.Need-enum-known-reading-3
 enum-known-reading-3 c = search needs
 
 returns-3 : tie.Need-returns-3
-unfolding entriesIn
 returns-3 c =
     let b4 = c .before .before .before .before in
     let s = now (b4 .before .before .args .slot) in

@@ -16,14 +16,14 @@ use Rattle.inbox.proofs.read_slots.Statement.{statement}
 use Rattle.inbox.proofs.read_slots.Tie as tie
 
 abbrev Inv-loop : tie.InvT-loop
-Inv-loop inbox run phase round present₀ votes₀ stamps₀ histories₀ n q₀ present votes stamps histories q =
+Inv-loop inbox run phase round present₀ votes₀ stamps₀ n q₀ present votes stamps q =
     (q ≤ n)
-    × (columns present votes stamps histories
-    ≡ filled (columns present₀ votes₀ stamps₀ histories₀)
+    × (columns present votes stamps
+    ≡ filled (columns present₀ votes₀ stamps₀)
     (λ k. counted run phase round (readOf (slotAt inbox k))) q)
 
 abbrev μ-loop : tie.MeasureT-loop
-μ-loop inbox run phase round present₀ votes₀ stamps₀ histories₀ n q₀ present votes stamps histories q = n - q
+μ-loop inbox run phase round present₀ votes₀ stamps₀ n q₀ present votes stamps q = n - q
 
 slots-in-requires : tie.Need-slots-in-requires Inv-loop μ-loop
 slots-in-requires c κs = search needs
@@ -58,11 +58,11 @@ loop-less c = search needs
 
 loop-again : tie.Need-loop-again Inv-loop μ-loop
 loop-again c =
-    let at = c .before .before .before .before .before .before .before in
+    let at = c .before .before .before .before .before .before in
     let a = at .before .before .before .args in
     let l = at .loop in
     let inbox = now (a .inbox) in
-    let first = columns (now (a .present)) (now (a .votes)) (now (a .stamps)) (now (a .histories)) in
+    let first = columns (now (a .present)) (now (a .votes)) (now (a .stamps)) in
     let slots : ℕ → Option Ballot = λ k. counted (a .run) (a .phase) (a .round) (readOf (slotAt inbox k)) in
     let at-q = 202 * l .q in
     let slot =

@@ -1,70 +1,60 @@
 -- `are_entries` meets its contract. The invariant: where the least phase that the next entry may have is no later than
 -- the message's, the entries from i on answer what all entries answer; where it is later, that is false.
-use mathlib.Core.Bool.{_&&_}
-use mathlib.Core.Path.{_≡_, refl}
-use Prim.Native.Nat.{_≤_, _*_, _+_, _-_}
-use native.Mathlib.Nat.{sub-zero}
+use mathlib.Core.Path.{_≡_}
+use mathlib.Core.Logic.{inl, inr}
+use Prim.Native.Nat.{_≤_, _+_, _-_}
 use native.Mathlib.Omega.{arith}
-use lib.Dec.{leb}
-use lib.ListN.{drop}
 use borrow.Author.Needs.{needs}
-use borrow.Author.Tests.{le-leb}
 use denote.Ref.{now}
-use Rattle.message.proofs.EntryLaws.{entries-more, entries-fall, entries-empty, entries-done}
-use Rattle.message.specs.Bounds.{entriesOk}
-use Rattle.message.specs.Reading.{entriesIn}
+use Rattle.message.proofs.EntryLaws.{Left, all-left, entry-passes, entry-breaks, none-left}
 use Rattle.message.proofs.are_entries.Statement.{statement}
 use Rattle.message.proofs.are_entries.Tie as tie
 
 abbrev Inv-loop : tie.InvT-loop
-Inv-loop s count phase least₀ i₀ least i =
-    (i ≤ count)
-    × ((leb least phase && entriesOk least phase (entriesIn (count - i) (drop (13 + 3 * i) s)))
-    ≡ entriesOk 0 phase (entriesIn count (drop 13 s)))
+Inv-loop s count phase least₀ i₀ least i = (i ≤ count) × Left s count phase i least
 
 abbrev μ-loop : tie.MeasureT-loop
 μ-loop s count phase least₀ i₀ least i = count - i
 
 loop-holds : tie.Need-loop-holds Inv-loop μ-loop
-loop-holds c = (search needs, simp (sub-zero, le-leb 0 (c .before .args .phase) (omega arith)))
+loop-holds c =
+    let args = c .before .args in
+    (search needs, all-left (now (args .s)) (args .count) (args .phase))
 
-mul-place : tie.Need-mul-place Inv-loop μ-loop
-mul-place c = search needs
+add-loop : tie.Need-add-loop Inv-loop μ-loop
+add-loop c = search needs
 
-add-place : tie.Need-add-place Inv-loop μ-loop
-add-place c = search needs
-
-shared-slice-read-wide : tie.Need-shared-slice-read-wide Inv-loop μ-loop
-shared-slice-read-wide c = search needs
-
-wide-requires : tie.Need-wide-requires Inv-loop μ-loop
-wide-requires c κs = search needs
+least-after-requires : tie.Need-least-after-requires Inv-loop μ-loop
+least-after-requires c κs = search needs
 
 returns : tie.Need-returns Inv-loop μ-loop
 returns c =
-    let b4 = c .before .before .before .before in
-    entries-fall (b4 .before .before .args .count) (b4 .loop .i) (b4 .loop .least)
-    (b4 .before .before .args .phase) _ _ (now (b4 .before .before .args .s)) _
-    (c .before .wide .ensures .0) refl (c .before .before .before .loop-test .taken) (b4 .loop .inv .1)
-    (c .if1 .taken)
+    let at = c .before .before .before in
+    entry-breaks (at .loop .inv .1) _ (c .before .least-after .ensures) (omega arith) (c .if1 .taken)
 
-add-u16-at : tie.Need-add-u16-at Inv-loop μ-loop
-add-u16-at c = search needs
+add-least-after : tie.Need-add-least-after Inv-loop μ-loop
+add-least-after c = search needs
 
-u16-at-requires : tie.Need-u16-at-requires Inv-loop μ-loop
-u16-at-requires c κs = search needs
+least-after-requires-2 : tie.Need-least-after-requires-2 Inv-loop μ-loop
+least-after-requires-2 c κs = search needs
+
+-- the first entry of a turn has passed
+abbrev Between : tie.Else1 Inv-loop μ-loop → Type 0
+Between c =
+    let at = c .before .before .before in
+    let args = at .before .before .args in
+    Left (now (args .s)) (args .count) (args .phase) (at .loop .i + 1) (c .before .least-after .result)
+
+between : (c : tie.Else1 Inv-loop μ-loop) → Between c
+between c =
+    let at = c .before .before .before in
+    entry-passes (at .loop .inv .1) _ (c .before .least-after .ensures) (omega arith) (c .if1 .left)
 
 returns-2 : tie.Need-returns-2 Inv-loop μ-loop
 returns-2 c =
-    let b4 = c .before .before .before .before in
-    let b8 = b4 .before .before .before .before in
-    entries-empty (b8 .args .count) (b4 .before .before .loop .i) (b4 .before .before .loop .least)
-    (b8 .args .phase) _ _ (now (b8 .args .s)) _ (c .before .before .before .wide .ensures .0)
-    (c .before .u16-at .ensures) (b4 .before .loop-test .taken) (b4 .before .before .loop .inv .1)
-    (c .if2 .taken)
-
-add-least : tie.Need-add-least Inv-loop μ-loop
-add-least c = search needs
+    let first = c .before .before in
+    let more = first .before .before .loop-test .taken in
+    entry-breaks (between first) _ (c .before .least-after2 .ensures) more (c .if2 .taken)
 
 add-i : tie.Need-add-i Inv-loop μ-loop
 add-i c = search needs
@@ -74,18 +64,29 @@ loop-less c = search needs
 
 loop-again : tie.Need-loop-again Inv-loop μ-loop
 loop-again c =
-    let b4 = c .before .before .before .before in
-    let b8 = b4 .before .before .before .before in (
-      search needs,
-      entries-more (b8 .args .count) (b4 .before .before .loop .i) (b4 .before .before .loop .least)
-          (b8 .args .phase) _ _ (now (b8 .args .s)) _ (c .before .before .before .wide .ensures .0)
-          (c .before .u16-at .ensures) (b4 .before .loop-test .taken) (b4 .before .before .loop .inv .1)
-          (omega arith) (omega (arith, c .if2 .left)),
-    )
+    let first = c .before .before in
+    let more = first .before .before .loop-test .taken in
+    let i = first .before .before .before .loop .i in
+    let two : i + 2 ≡ i + 1 + 1 = omega arith in
+    (search needs, rw two (entry-passes (between first) _ (c .before .least-after2 .ensures) more (c .if2 .left)))
+
+least-after-requires-3 : tie.Need-least-after-requires-3 Inv-loop μ-loop
+least-after-requires-3 c κs = search needs
 
 returns-3 : tie.Need-returns-3 Inv-loop μ-loop
-returns-3 c = entries-done (c .before .before .before .args .count) (c .before .loop .i) (c .before .loop .least)
-    (c .before .before .before .args .phase) _ _ (c .loop-test .left) (c .before .loop .inv .1)
+returns-3 c =
+    let at = c .before .before .before .before in
+    entry-breaks (at .loop .inv .1) _ (c .before .least-after3 .ensures) (c .before .before .if3 .taken) (c .if4 .taken)
+
+returns-4 : tie.Need-returns-4 Inv-loop μ-loop
+returns-4 c =
+    let left = c .before .before .loop .inv .1 in
+    elim (c .if3 .came) [
+      | inl odd ↦
+          rw (odd .3)
+          (none-left (entry-passes left _ (odd .1 .ensures) (odd .0 .taken) (odd .2 .left)) (omega arith))
+      | inr even ↦ rw (even .1) (none-left left (even .0 .left))
+    ]
 
 pub are-entries-spec : {M : Type 1} → statement M
 are-entries-spec =
@@ -94,16 +95,15 @@ are-entries-spec =
     Inv-loop
     μ-loop
     loop-holds
-    mul-place
-    add-place
-    shared-slice-read-wide
-    wide-requires
+    add-loop
+    least-after-requires
     returns
-    add-u16-at
-    u16-at-requires
+    add-least-after
+    least-after-requires-2
     returns-2
-    add-least
     add-i
     loop-less
     loop-again
-    returns-3)
+    least-after-requires-3
+    returns-3
+    returns-4)

@@ -1,10 +1,16 @@
 -- `ask` meets its contract.
 use mathlib.Core.Path.{_∙_, ap, refl}
 use lib.Dec.{eqb}
+use lib.ListN.{length}
 use borrow.Author.Needs.{needs}
-use borrow.Author.Tests.{eq-eqb, ne-eqb, lt-ltb, le-ltb}
+use borrow.Author.Tests.{eqb-true, eq-eqb, ne-eqb, lt-ltb, le-ltb}
+use denote.Ref.{now}
+use Rattle.ballot.specs.Selection.{selection}
+use Rattle.crew.specs.Thresholds.{classOf}
 use Rattle.node.specs.Soundness.{sound}
+use Rattle.rounds.proofs.Sizes.{sound-countable, heard-ballots}
 use Rattle.rounds.specs.Asking.{askOf}
+use Rattle.tally.proofs.Countable.{choice-rule}
 use Rattle.wire.proofs.Tests.{both-true}
 use Rattle.wire.specs.Outcome.{accepted}
 use Rattle.rounds.proofs.ask.Statement.{statement}
@@ -20,12 +26,7 @@ mul-if3 : tie.Need-mul-if3
 mul-if3 c = search needs
 
 choose-requires : tie.Need-choose-requires
-choose-requires c κs =
-    let b4 = c .before .before .before .before in
-    let b8 = b4 .before .before .before .before in
-    let d = b8 .args .node in
-    let tests = rw (b4 .before .before .is-sound .ensures) at (b4 .if1 .taken) in
-    (both-true (sound d) (eqb (d .round) 1) tests .0, c .if3 .taken)
+choose-requires c κs = search needs
 
 to-asking-requires : tie.Need-to-asking-requires
 to-asking-requires c κs = search needs
@@ -35,9 +36,19 @@ unfolding askOf
 returns c =
     let b4 = c .before .before .before .before in
     let b8 = b4 .before .before .before .before in
+    let d = b8 .before .before .args .node in
+    let bytes = now (b8 .before .before .args .inbox) in
     let tests = rw (b8 .is-sound .ensures) at (b4 .before .before .if1 .taken) in
-    simp (tests, lt-ltb _ _ (b4 .if2 .taken), eq-eqb _ _ (c .before .before .if3 .taken))
-    (c .to-asking .ensures ∙ ap accepted (c .before .choose .ensures), refl)
+    let both = both-true (sound d) (eqb (d .round) 1) tests in
+    let whole = c .before .before .if3 .taken in
+    simp (tests, lt-ltb _ _ (b4 .if2 .taken), eq-eqb _ _ whole) (
+      c .to-asking .ensures
+          ∙ ap accepted
+          (c .before .choose .ensures
+          ∙ choice-rule (d .crew) (d .run) (d .phase) bytes (sound-countable d (length bytes) (both .0) whole)
+          ∙ ap (selection (classOf (d .crew)) (d .crew)) (heard-ballots d bytes 1 (eqb-true _ _ (both .1)))),
+      refl,
+    )
 
 refuse-ask-requires : tie.Need-refuse-ask-requires
 refuse-ask-requires c κs = search needs

@@ -1,8 +1,11 @@
 -- `take` meets its contract.
-use mathlib.Core.Path.{sym, _∙_, refl}
+use mathlib.Core.Path.{sym, ap, _∙_, refl}
 use borrow.Author.Needs.{needs}
 use borrow.Author.Tests.{eq-eqb, ne-eqb, lt-ltb, le-ltb}
+use denote.Ref.{now}
 use Rattle.rounds.specs.Taking.{takeOf}
+use Rattle.rounds.specs.Steps.{afterPlan}
+use Rattle.rounds.proofs.Sizes.{after-plan-round}
 use Rattle.rounds.proofs.take.Statement.{statement}
 use Rattle.rounds.proofs.take.Tie as tie
 
@@ -15,20 +18,26 @@ cast-n c = search needs
 mul-if3 : tie.Need-mul-if3
 mul-if3 c = search needs
 
-after-round-requires : tie.Need-after-round-requires
-after-round-requires c κs =
-    let b4 = c .before .before .before .before in
-    (c .before .before .if2 .taken, sym (b4 .before .is-sound .ensures) ∙ b4 .if1 .taken, c .if3 .taken)
+plan-of-requires : tie.Need-plan-of-requires
+plan-of-requires c κs = search needs
+
+after-plan-requires : tie.Need-after-plan-requires
+after-plan-requires c κs = search needs
 
 returns : tie.Need-returns
 unfolding takeOf
 returns c =
     let b4 = c .before .before .before .before in
-    simp (
-      sym (b4 .before .before .is-sound .ensures) ∙ b4 .before .if1 .taken,
-      lt-ltb _ _ (c .before .before .before .if2 .taken),
-      eq-eqb _ _ (c .before .if3 .taken),
-    ) (refl, c .after-round .ensures)
+    let b7 = b4 .before .before .before in
+    let a = b7 .before .before .args in
+    let ok = sym (b7 .is-sound .ensures) ∙ b4 .before .before .if1 .taken in
+    let whole = c .before .before .if3 .taken in
+    simp (ok, lt-ltb _ _ (b4 .if2 .taken), eq-eqb _ _ whole) (
+      refl,
+      c .after-plan .ensures
+          ∙ ap (afterPlan (a .node)) (c .before .plan-of .ensures)
+          ∙ after-plan-round (a .node) (now (a .inbox)) ok whole,
+    )
 
 refuse-take-requires : tie.Need-refuse-take-requires
 refuse-take-requires c κs = search needs
@@ -77,7 +86,8 @@ take-spec =
     is-sound-requires
     cast-n
     mul-if3
-    after-round-requires
+    plan-of-requires
+    after-plan-requires
     returns
     refuse-take-requires
     returns-2

@@ -28,13 +28,13 @@ returns : tie.Need-returns
 unfolding anyPlan
 returns c =
     λ h.
-    let b4 = c .before .before .before .before in
-    let a = b4 .before .args in
-    let read = columns (now (a .present)) (now (a .votes)) (now (a .stamps)) h in
-    let highest : c .before .highest-count .result ≡ most (a .crew) read (a .crew .n) =
+    let b3 = c .before .before .before in
+    let a = b3 .before .before .before .args in
+    let read = columns (now (a .present)) (now (a .votes)) (now (a .stamps)) in
+    let highest : c .before .highest-count .result ≡ most (a .crew) read h (a .crew .n) =
     c .before .highest-count .ensures ∙ highest-same (marked (now (a .present))) _ _ (a .crew .n)
-    (c .before .before .before .count-each .ensures) in
-    sym (no-votes (a .crew) read (a .crew .n) (sym highest ∙ c .if1 .taken))
+    (b3 .count-each .ensures) in
+    sym (no-votes (a .crew) read h (a .crew .n) (sym highest ∙ c .if1 .taken))
 
 sub-mark-over : tie.Need-sub-mark-over
 sub-mark-over c = search needs
@@ -49,24 +49,24 @@ returns-2 : tie.Need-returns-2
 unfolding anyPlan mostVoted
 returns-2 c =
     λ h.
-    let b4 = c .before .before .before .before in
-    let b8 = b4 .before .before .before .before in
-    let a = b8 .before .args in
+    let b2 = c .before .before in
+    let b5 = b2 .before .before .before in
+    let b8 = b5 .before .before .before in
+    let a = b8 .before .before .before .args in
     let crew = a .crew in
-    let read = columns (now (a .present)) (now (a .votes)) (now (a .stamps)) h in
-    let best = b4 .before .highest-count .result in
-    let highest : best ≡ most crew read (crew .n) =
-    b4 .before .highest-count .ensures ∙ highest-same (marked (now (a .present))) _ _ (crew .n)
-    (b4 .before .before .before .count-each .ensures) in
-    let voted : 1 ≤ most crew read (crew .n) = omega (arith, b4 .if1 .left, highest) in
+    let read = columns (now (a .present)) (now (a .votes)) (now (a .stamps)) in
+    let best = b5 .before .highest-count .result in
+    let highest : best ≡ most crew read h (crew .n) =
+    b5 .before .highest-count .ensures ∙ highest-same (marked (now (a .present))) _ _ (crew .n)
+    (b8 .count-each .ensures) in
+    let voted : 1 ≤ most crew read h (crew .n) = omega (arith, b5 .if1 .left, highest) in
     c .least-marked .ensures
-    ∙ sym (least-of crew read (crew .n) (leading (polled read (crew .n))) (c .before .before .mark-over .result)
-    (λ q less. c .before .before .mark-over .ensures q less
-    ∙ ap (λ count. marked (now (a .present)) q && ltb (best - 1) count)
-    (b4 .before .before .before .count-each .ensures q less)
-    ∙ ap (λ top. marked (now (a .present)) q && ltb (top - 1) (votesFor crew read (crew .n) (getD (now
+    ∙ sym (least-of crew read h (crew .n) (leading (polled read h (crew .n))) (b2 .mark-over .last .0)
+    (λ q less. b2 .mark-over .ensures q less
+    ∙ ap (λ count. marked (now (a .present)) q && ltb (best - 1) count) (b8 .count-each .ensures q less)
+    ∙ ap (λ top. marked (now (a .present)) q && ltb (top - 1) (votesFor crew read h (crew .n) (getD (now
     (a .votes)) q 0))) highest
-    ∙ sym (leading-slot crew read (crew .n) voted q)))
+    ∙ sym (leading-slot crew read h (crew .n) voted q)))
 
 pub any-plan-spec : {M : Type 1} → statement M
 any-plan-spec =

@@ -1,11 +1,13 @@
 -- `choose_one` meets its contract.
-use mathlib.Core.Path.{sym, _∙_}
+use mathlib.Core.Bool.{false}
+use mathlib.Core.Path.{sym, ap, _∙_}
 use borrow.Author.Needs.{needs}
 use denote.Ref.{now}
 use Rattle.crew.specs.Thresholds.{one}
 use Rattle.tally.proofs.Choosing.{selection-marked, enough-one}
 use Rattle.tally.proofs.Ruling.{backed-one-slot}
 use Rattle.inbox.specs.Columns.{columns}
+use Rattle.tally.specs.Marks.{above}
 use Rattle.tally.proofs.choose_one.Statement.{statement}
 use Rattle.tally.proofs.choose_one.Tie as tie
 
@@ -33,15 +35,19 @@ answer-below-three-requires c κs = search needs
 returns : tie.Need-returns
 returns c =
     λ h.
-    let b4 = c .before .before .before .before in
-    let a = b4 .before .before .before .args in
+    let b3 = c .before .before .before in
+    let b6 = b3 .before .before .before in
+    let a = b6 .before .before .args in
     let crew = a .crew in
-    let read = columns (now (a .present)) (now (a .votes)) (now (a .stamps)) h in
-    let marks = rw (b4 .before .bound .ensures .0) at (c .before .before .before .mark-above .ensures) in
-    let slots = rw (← b4 .before .bound .ensures .0)
-    at (enough-one crew read (crew .n) (b4 .count-marks .result) (b4 .count-marks .ensures .0)) in
-    selection-marked crew read (crew .n) one (c .before .before .before .mark-above .result) _ _ _
-    (λ q less. marks q less ∙ sym (backed-one-slot crew read (crew .n) q))
+    let read = columns (now (a .present)) (now (a .votes)) (now (a .stamps)) in
+    let count = b3 .before .before .count-marks in
+    let slots = rw (← b6 .bound .ensures .0)
+    at (enough-one crew read h (crew .n) (count .result) (count .ensures .0)) in
+    selection-marked crew read h (crew .n) one (b3 .mark-above .last .0) _ _ _
+    (λ q less. b3 .mark-above .ensures q less
+    ∙ ap (λ e. above (read .present) (read .present) (read .votes) (read .stamps) (crew .n) e false q)
+    (b6 .bound .ensures .0)
+    ∙ sym (backed-one-slot crew read h (crew .n) q))
     (c .answer-below-three .ensures .0) (c .before .backing-of .ensures) slots
 
 pub choose-one-spec : {M : Type 1} → statement M

@@ -4,8 +4,9 @@ use borrow.Author.Needs.{needs}
 use denote.Ref.{now}
 use Rattle.crew.specs.Thresholds.{three}
 use Rattle.tally.proofs.Choosing.{selection-marked, enough-three}
+use Rattle.tally.proofs.Listing.{listing-rows}
 use Rattle.tally.proofs.Ruling.{possible-slot, backed-three-slot}
-use Rattle.inbox.specs.Columns.{columns}
+use Rattle.inbox.specs.Columns.{columns, historiesIn}
 use Rattle.tally.proofs.choose_three.Statement.{statement}
 use Rattle.tally.proofs.choose_three.Tie as tie
 
@@ -38,24 +39,27 @@ answer-three-requires c κs = search needs
 
 returns : tie.Need-returns
 returns c =
-    let b4 = c .before .before .before .before in
-    let b4 = b4 in
-    let b8 = b4 .before .before .before .before in
-    let b12 = b8 .before .before .before .before in
-    let a = b12 .args in
+    let b3 = c .before .before .before in
+    let b7 = b3 .before .before .before .before in
+    let b10 = b7 .before .before .before in
+    let b12 = b10 .before .before in
+    let start = b12 .before .before .before .before in
+    let a = start .args in
     let crew = a .crew in
-    let read = columns (now (a .present)) (now (a .votes)) (now (a .stamps)) (now (a .histories)) in
-    let above = rw (b8 .before .bound .ensures .0) at (b8 .mark-above .ensures) in
+    let bytes = now (a .inbox) in
+    let read = columns (now (a .present)) (now (a .votes)) (now (a .stamps)) in
+    let h = historiesIn bytes in
+    let above = rw (b12 .bound .ensures .0) at (b10 .mark-above .ensures) in
     let slots =
-    rw (← b8 .before .bound .ensures .0) at
-    (enough-three crew read (crew .n) (c .before .count-marks .result)
-    (c .before .before .before .mark-stamped .result) (c .before .count-marks .ensures .0)
-    (c .before .before .before .mark-stamped .ensures)) in
-    selection-marked crew read (crew .n) three (b4 .before .before .mark-listed .result) _ _ _
-    (λ q less. b4 .before .before .mark-listed .ensures q less
-    ∙ sym (backed-three-slot crew read (crew .n) (b8 .mark-above .result)
-    (λ k inside. above k inside ∙ sym (possible-slot crew read (crew .n) k)) q less))
-    (c .answer-three .ensures) (b4 .backing-of .ensures) slots
+    rw (← b12 .bound .ensures .0) at
+    (enough-three crew read h (crew .n) (c .before .count-marks .result) (b3 .mark-stamped .last .0)
+    (c .before .count-marks .ensures .0) (b3 .mark-stamped .ensures)) in
+    selection-marked crew read h (crew .n) three (b7 .mark-listed .last .0) _ _ _
+    (λ q less. b7 .mark-listed .ensures q less
+    ∙ sym (backed-three-slot crew read h (crew .n) (b10 .mark-above .last .0)
+    (λ k inside. above k inside ∙ sym (possible-slot crew read h (crew .n) k)) bytes
+    (listing-rows read bytes (crew .n) (start .pre .2) (start .pre .3)) q less))
+    (c .answer-three .ensures) (b3 .before .before .backing-of .ensures) slots
 
 pub choose-three-spec : {M : Type 1} → statement M
 choose-three-spec =

@@ -39,19 +39,20 @@ answer-below-three-requires c κs = search needs
 returns : tie.Need-returns
 returns c =
     λ h.
-    let b4 = c .before .before .before .before in
-    let b8 = b4 .before .before .before .before in
-    let a = b8 .before .before .args in
+    let b3 = c .before .before .before in
+    let b6 = b3 .before .before .before in
+    let b9 = b6 .before .before .before in
+    let a = b9 .before .before .before .args in
     let crew = a .crew in
-    let read = columns (now (a .present)) (now (a .votes)) (now (a .stamps)) h in
-    let above = rw (b4 .before .before .before .bound .ensures .0) at (b4 .before .mark-above .ensures) in
-    let slots = rw (← b4 .before .before .before .bound .ensures .0)
-    at (enough-two crew read (crew .n) (b4 .before .before .count-marks .result)
-    (b4 .before .before .count-marks .ensures .0)) in
-    selection-marked crew read (crew .n) two (c .before .before .before .mark-above2 .result) _ _ _
-    (λ q less. c .before .before .before .mark-above2 .ensures q less
-    ∙ sym (backed-two-slot crew read (crew .n) (b4 .before .mark-above .result)
-    (λ k inside. above k inside ∙ sym (possible-slot crew read (crew .n) k)) q))
+    let read = columns (now (a .present)) (now (a .votes)) (now (a .stamps)) in
+    let above = rw (b9 .bound .ensures .0) at (b6 .mark-above .ensures) in
+    let count = b6 .before .before .count-marks in
+    let slots = rw (← b9 .bound .ensures .0)
+    at (enough-two crew read h (crew .n) (count .result) (count .ensures .0)) in
+    selection-marked crew read h (crew .n) two (b3 .mark-above2 .last .0) _ _ _
+    (λ q less. b3 .mark-above2 .ensures q less
+    ∙ sym (backed-two-slot crew read h (crew .n) (b6 .mark-above .last .0)
+    (λ k inside. above k inside ∙ sym (possible-slot crew read h (crew .n) k)) q))
     (c .answer-below-three .ensures .1) (c .before .backing-of .ensures) slots
 
 pub choose-two-spec : {M : Type 1} → statement M

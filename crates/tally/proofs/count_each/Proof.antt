@@ -1,8 +1,8 @@
 -- `count_each` meets its contract. The invariant: the first q slots are counted, slot 0 at least.
-use mathlib.Core.Path.{_≡_, refl, ap, _∙_}
+use mathlib.Core.Path.{_≡_, ap, _∙_}
 use Prim.Native.Nat.{_≤_, _-_}
 use native.Mathlib.Omega.{arith}
-use lib.ListN.{length, length-set, getD, replicate}
+use lib.ListN.{length, length-set, getD}
 use borrow.Author.Needs.{needs}
 use denote.Ref.{now}
 use Rattle.ballot.specs.Count.{tally}
@@ -12,11 +12,11 @@ use Rattle.tally.proofs.count_each.Statement.{statement}
 use Rattle.tally.proofs.count_each.Tie as tie
 
 abbrev Inv-loop : tie.InvT-loop
-Inv-loop marks votes stamps n stamped counts₀ below q₀ counts q = (1 ≤ q) × (q ≤ 32) ×
+Inv-loop counts₀ marks votes stamps n stamped below q₀ counts q = (1 ≤ q) × (q ≤ 32) ×
     (length counts ≡ 32) × Counts counts q (supporters marks votes stamps n stamped)
 
 abbrev μ-loop : tie.MeasureT-loop
-μ-loop marks votes stamps n stamped counts₀ below q₀ counts q = n - q
+μ-loop counts₀ marks votes stamps n stamped below q₀ counts q = n - q
 
 element-copy-out-below-of : tie.Need-element-copy-out-below-of Inv-loop μ-loop
 element-copy-out-below-of c = search needs
@@ -30,13 +30,14 @@ element-copy-out-count-supporting c = search needs
 count-supporting-requires : tie.Need-count-supporting-requires Inv-loop μ-loop
 count-supporting-requires c κs = search needs
 
-array-write-counts : tie.Need-array-write-counts Inv-loop μ-loop
-array-write-counts c = search needs
+element-write-counts : tie.Need-element-write-counts Inv-loop μ-loop
+element-write-counts c = search needs
 
 loop-holds : tie.Need-loop-holds Inv-loop μ-loop
 loop-holds c =
     let b4 = c .before .before .before .before in
     let a = b4 .args in
+    let long = b4 .pre .1 in
     let number = supporters (now (a .marks)) (now (a .votes)) (now (a .stamps)) (a .n) (a .stamped) in
     let first = c .count-supporting .ensures .0
     ∙ ap (λ below. tally (supporting (now (a .marks)) (now (a .votes)) (now (a .stamps)) (getD (now
@@ -44,9 +45,8 @@ loop-holds c =
     (c .before .before .below-of .ensures) in (
       omega arith,
       omega arith,
-      refl,
-      counts-next (replicate 32 0) 0 number _ (omega arith) (λ k less. absurd
-          (omega arith)) first,
+      length-set (now (a .counts)) 0 _ ∙ long,
+      counts-next (now (a .counts)) 0 number _ (omega (arith, long)) (λ k less. absurd (omega arith)) first,
     )
 
 sub-count-next : tie.Need-sub-count-next Inv-loop μ-loop
@@ -55,23 +55,22 @@ sub-count-next c = search needs
 mul-count-next : tie.Need-mul-count-next Inv-loop μ-loop
 mul-count-next c = search needs
 
-array-read-count-next : tie.Need-array-read-count-next Inv-loop μ-loop
-array-read-count-next c = search needs
+element-copy-out-count-next : tie.Need-element-copy-out-count-next Inv-loop μ-loop
+element-copy-out-count-next c = search needs
 
 count-next-requires : tie.Need-count-next-requires Inv-loop μ-loop
 count-next-requires c κs = (
   omega arith,
   omega arith,
   omega arith,
-  c .before .loop .inv .3
-      (c .before .loop .q - 1) (omega arith),
+  c .before .before .loop .inv .3 (c .before .before .loop .q - 1) (omega arith),
 )
 
 mul-counts : tie.Need-mul-counts Inv-loop μ-loop
 mul-counts c = search needs
 
-array-write-counts-2 : tie.Need-array-write-counts-2 Inv-loop μ-loop
-array-write-counts-2 c = search needs
+element-write-counts-2 : tie.Need-element-write-counts-2 Inv-loop μ-loop
+element-write-counts-2 c = search needs
 
 add-q : tie.Need-add-q Inv-loop μ-loop
 add-q c = search needs
@@ -82,14 +81,14 @@ loop-less c = search needs
 loop-again : tie.Need-loop-again Inv-loop μ-loop
 loop-again c =
     let b4 = c .before .before .before .before in
-    let a = b4 .before .before .before .args in
-    let l = c .before .before .loop in
+    let a = b4 .before .before .before .before .args in
+    let l = c .before .before .before .loop in
     let number = supporters (now (a .marks)) (now (a .votes)) (now (a .stamps)) (a .n) (a .stamped) in (
       omega arith,
       omega arith,
       length-set (l .counts) (l .q) _ ∙ l .inv .2,
-      counts-next (l .counts) (l .q) number _ (omega (arith, l .inv .2, c .before .loop-test .taken)) (l .inv .3)
-          (c .count-next .ensures),
+      counts-next (l .counts) (l .q) number _ (omega (arith, l .inv .2, c .before .before .loop-test .taken))
+          (l .inv .3) (c .count-next .ensures),
     )
 
 returns : tie.Need-returns Inv-loop μ-loop
@@ -105,14 +104,14 @@ count-each-spec =
     below-of-requires
     element-copy-out-count-supporting
     count-supporting-requires
-    array-write-counts
+    element-write-counts
     loop-holds
     sub-count-next
     mul-count-next
-    array-read-count-next
+    element-copy-out-count-next
     count-next-requires
     mul-counts
-    array-write-counts-2
+    element-write-counts-2
     add-q
     loop-less
     loop-again

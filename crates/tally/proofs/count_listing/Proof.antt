@@ -11,11 +11,11 @@ use Rattle.tally.proofs.count_listing.Statement.{statement}
 use Rattle.tally.proofs.count_listing.Tie as tie
 
 abbrev Inv-loop : tie.InvT-loop
-Inv-loop present histories n plan phase count₀ q₀ count q = (q ≤ n)
-    × (count ≡ tally (listing present histories plan phase) q) × (count ≤ q)
+Inv-loop present inbox n plan phase count₀ q₀ count q = (q ≤ n)
+    × (count ≡ tally (listing present inbox plan phase) q) × (count ≤ q)
 
 abbrev μ-loop : tie.MeasureT-loop
-μ-loop present histories n plan phase count₀ q₀ count q = n - q
+μ-loop present inbox n plan phase count₀ q₀ count q = n - q
 
 loop-holds : tie.Need-loop-holds Inv-loop μ-loop
 unfolding tally
@@ -40,14 +40,14 @@ loop-less : tie.Need-loop-less Inv-loop μ-loop
 loop-less c = search needs
 
 loop-again : tie.Need-loop-again Inv-loop μ-loop
-loop-again c = let a = c .before .before .before .before .before .args in
-    let test = listing (now (a .present)) (now (a .histories)) (a .plan) (a .phase) in
+loop-again c = let a = c .before .before .before .before .before .before .args in
+    let test = listing (now (a .present)) (now (a .inbox)) (a .plan) (a .phase) in
     let counted = rw (c .before .lists .ensures) at (c .one-if .ensures .0) in
     omega (arith, tally-next test (c .before .before .before .before .loop .q), counted, c .one-if .ensures .1)
 
 returns : tie.Need-returns Inv-loop μ-loop
 returns c =
-    let done : c .before .loop .q ≡ c .before .before .args .n = omega (
+    let done : c .before .loop .q ≡ c .before .before .before .args .n = omega (
       arith,
       c .before .loop .inv .0,
       c .loop-test .left,

@@ -49,8 +49,8 @@ element-copy-out-result c = search needs
 returns : tie.Need-returns
 returns c =
     let b4 = c .before .before .before .before in
-    let a = b4 .before .before .before .args in
-    let listers : ℕ → ℕ → ℕ = λ v t. tally (listing (now (a .present)) (now (a .histories)) v t) (a .n) in
+    let a = b4 .before .before .before .before .args in
+    let listers : ℕ → ℕ → ℕ = λ v t. tally (listing (now (a .present)) (now (a .inbox)) v t) (a .n) in
     let vote : ℕ → ℕ = λ k. getD (now (a .votes)) k 0 in
     let stamp : ℕ → ℕ = λ k. getD (now (a .stamps)) k 0 in
     let q = a .q in
@@ -58,7 +58,7 @@ returns c =
     (q - 1))) (c .before .if1 .taken) in
     let firsts = both-true (marked (now (a .marks)) (q - 1)) (eqb (vote q) (vote (q - 1))) (parts .0) in
     ap (λ b. marked (now (a .marks)) q && b)
-    (b4 .before .before .before .pre .3
+    (b4 .before .before .before .before .pre .3
     ∙ ap (λ m. m && ltb (a .threshold) (listers (vote (q - 1)) (stamp (q - 1)))) (firsts .0)
     ∙ ap₂ (λ v t. ltb (a .threshold) (listers v t)) (sym (eqb-true (vote q) (vote (q - 1)) (firsts .1)))
     (sym (eqb-true (stamp q) (stamp (q - 1)) (parts .1))))

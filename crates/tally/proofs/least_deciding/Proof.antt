@@ -31,20 +31,19 @@ returns : tie.Need-returns
 unfolding decision
 returns c =
     λ h.
-    let b4 = c .before .before .before .before in
-    let b4 = b4 in
-    let a = b4 .before .before .before .args in
+    let b2 = c .before .before in
+    let b6 = b2 .before .before .before .before in
+    let start = b6 .before .before .before in
+    let a = start .args in
     let crew = a .crew in
     let class = classOf crew in
-    let read = columns (now (a .present)) (now (a .votes)) (now (a .stamps)) h in
+    let read = columns (now (a .present)) (now (a .votes)) (now (a .stamps)) in
     c .least-marked .ensures
-    ∙ sym (least-of crew read (crew .n) (decides class crew (a .phase) (polled read (crew .n)))
-    (c .before .before .mark-above .result)
-    (λ q less. c .before .before .mark-above .ensures q less
-    ∙ sym (decides-slot crew read (crew .n) class (a .phase) (b4 .before .mark-fresh .result)
-    (b4 .before .before .before .pre .1)
-    (λ k inside. b4 .before .mark-fresh .ensures k inside ∙ sym (fresh-slot crew read (crew .n) class (a .phase) k))
-    q)))
+    ∙ sym (least-of crew read h (crew .n) (decides class crew (a .phase) (polled read h (crew .n)))
+    (b2 .mark-above .last .0)
+    (λ q less. b2 .mark-above .ensures q less
+    ∙ sym (decides-slot crew read h (crew .n) class (a .phase) (b6 .mark-fresh .last .0) (start .pre .1)
+    (λ k inside. b6 .mark-fresh .ensures k inside ∙ sym (fresh-slot crew read h (crew .n) class (a .phase) k)) q)))
 
 pub least-deciding-spec : {M : Type 1} → statement M
 least-deciding-spec =

@@ -30,12 +30,13 @@ returns : tie.Need-returns
 unfolding validated
 returns c =
     λ h.
-    let a = c .before .before .before .before .before .before .args in
+    let b2 = c .before .before in
+    let a = b2 .before .before .before .before .before .args in
     let crew = a .crew in
-    let read = columns (now (a .present)) (now (a .votes)) (now (a .stamps)) h in
+    let read = columns (now (a .present)) (now (a .votes)) (now (a .stamps)) in
     c .least-marked .ensures
-    ∙ sym (least-of crew read (crew .n) (valid crew (polled read (crew .n))) (c .before .before .mark-above .result)
-    (λ q less. c .before .before .mark-above .ensures q less ∙ sym (valid-slot crew read (crew .n) q)))
+    ∙ sym (least-of crew read h (crew .n) (valid crew (polled read h (crew .n))) (b2 .mark-above .last .0)
+    (λ q less. b2 .mark-above .ensures q less ∙ sym (valid-slot crew read h (crew .n) q)))
 
 pub least-valid-spec : {M : Type 1} → statement M
 least-valid-spec =

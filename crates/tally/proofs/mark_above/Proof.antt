@@ -1,11 +1,11 @@
 -- `mark_above` meets its contract. The invariant: the first q slots are marked as they should be, slot 0 at least, and
 -- the count is that of the last of them.
-use mathlib.Core.Bool.{false, _&&_}
-use mathlib.Core.Path.{_≡_, refl, sym, ap, _∙_}
+use mathlib.Core.Bool.{_&&_}
+use mathlib.Core.Path.{_≡_, sym, ap, _∙_}
 use Prim.Native.Nat.{_+_, _≤_, _-_}
 use native.Mathlib.Omega.{arith}
 use lib.Dec.{ltb}
-use lib.ListN.{length, length-set, getD, replicate}
+use lib.ListN.{length, length-set, getD}
 use borrow.Author.Needs.{needs}
 use denote.Ref.{now}
 use Rattle.ballot.specs.Count.{tally}
@@ -15,7 +15,7 @@ use Rattle.tally.proofs.mark_above.Statement.{statement}
 use Rattle.tally.proofs.mark_above.Tie as tie
 
 abbrev Inv-loop : tie.InvT-loop
-Inv-loop present marks votes stamps n threshold stamped out₀ below count₀ q₀ out count q =
+Inv-loop out₀ present marks votes stamps n threshold stamped below count₀ q₀ out count q =
     (1 ≤ q)
     × (q ≤ 32)
     × (length out ≡ 32)
@@ -23,7 +23,7 @@ Inv-loop present marks votes stamps n threshold stamped out₀ below count₀ q�
     × Marks out q (above present marks votes stamps n threshold stamped)
 
 abbrev μ-loop : tie.MeasureT-loop
-μ-loop present marks votes stamps n threshold stamped out₀ below count₀ q₀ out count q = n - q
+μ-loop out₀ present marks votes stamps n threshold stamped below count₀ q₀ out count q = n - q
 
 element-copy-out-below-of : tie.Need-element-copy-out-below-of Inv-loop μ-loop
 element-copy-out-below-of c = search needs
@@ -40,13 +40,14 @@ count-supporting-requires c κs = search needs
 element-copy-out-out : tie.Need-element-copy-out-out Inv-loop μ-loop
 element-copy-out-out c = search needs
 
-array-write-out : tie.Need-array-write-out Inv-loop μ-loop
-array-write-out c = search needs
+element-write-out : tie.Need-element-write-out Inv-loop μ-loop
+element-write-out c = search needs
 
 loop-holds : tie.Need-loop-holds Inv-loop μ-loop
 loop-holds c =
     let b4 = c .before .before .before .before in
     let a = b4 .before .args in
+    let pre = b4 .before .pre .1 in
     let test = above (now (a .present)) (now (a .marks)) (now (a .votes)) (now (a .stamps)) (a .n) (a .threshold)
     (a .stamped) in
     let first = c .before .count-supporting .ensures .0
@@ -55,9 +56,9 @@ loop-holds c =
     (c .before .before .before .below-of .ensures) in (
       omega arith,
       omega arith,
-      refl,
+      length-set (now (a .out)) 0 _ ∙ pre,
       first,
-      marks-next (replicate 32 false) 0 test _ (omega arith) (λ k less. absurd (omega arith))
+      marks-next (now (a .out)) 0 test _ (omega (arith, pre)) (λ k less. absurd (omega arith))
           (ap (λ count. marked (now (a .present)) 0 && ltb (a .threshold) count) first),
     )
 
@@ -67,8 +68,8 @@ count-next-requires c κs = (omega arith, omega arith, omega arith, c .before .l
 element-copy-out-out-2 : tie.Need-element-copy-out-out-2 Inv-loop μ-loop
 element-copy-out-out-2 c = search needs
 
-array-write-out-2 : tie.Need-array-write-out-2 Inv-loop μ-loop
-array-write-out-2 c = search needs
+element-write-out-2 : tie.Need-element-write-out-2 Inv-loop μ-loop
+element-write-out-2 c = search needs
 
 add-q : tie.Need-add-q Inv-loop μ-loop
 add-q c = search needs
@@ -109,11 +110,11 @@ mark-above-spec =
     element-copy-out-count-supporting
     count-supporting-requires
     element-copy-out-out
-    array-write-out
+    element-write-out
     loop-holds
     count-next-requires
     element-copy-out-out-2
-    array-write-out-2
+    element-write-out-2
     add-q
     loop-less
     loop-again

@@ -19,10 +19,9 @@ mark-stamped-requires c κs = search needs
 
 returns-2 : tie.Need-returns-2
 returns-2 c =
-    let b4 = c .before .before .before .before in
-    let b4 = b4 in
-    let a = b4 .args in
-    λ q less. rw (ne-eqb _ _ (c .before .before .if1 .left))
+    let b3 = c .before .before .before in
+    let a = b3 .before .before .args in
+    λ q less. rw (ne-eqb _ _ (b3 .if1 .left))
     (c .mark-stamped .ensures q less
     ∙ fresh-later (eqb (a .crew .class) 2) (now (a .present)) (now (a .stamps)) (a .phase) q)
 

@@ -1,9 +1,8 @@
 -- `mark_listed` meets its contract. The invariant: the first q slots are marked as they should be, slot 0 at least.
-use mathlib.Core.Bool.{false}
-use mathlib.Core.Path.{_≡_, refl, _∙_}
+use mathlib.Core.Path.{_≡_, _∙_}
 use Prim.Native.Nat.{_≤_, _-_}
 use native.Mathlib.Omega.{arith}
-use lib.ListN.{length, length-set, replicate}
+use lib.ListN.{length, length-set}
 use borrow.Author.Needs.{needs}
 use denote.Ref.{now}
 use Rattle.tally.proofs.Marking.{marks-next}
@@ -12,11 +11,11 @@ use Rattle.tally.proofs.mark_listed.Statement.{statement}
 use Rattle.tally.proofs.mark_listed.Tie as tie
 
 abbrev Inv-loop : tie.InvT-loop
-Inv-loop marks present votes stamps histories n threshold out₀ q₀ out q = (1 ≤ q) × (q ≤ 32) ×
-    (length out ≡ 32) × Marks out q (listedAbove marks present votes stamps histories n threshold)
+Inv-loop out₀ marks present votes stamps inbox n threshold q₀ out q = (1 ≤ q) × (q ≤ 32) ×
+    (length out ≡ 32) × Marks out q (listedAbove marks present votes stamps inbox n threshold)
 
 abbrev μ-loop : tie.MeasureT-loop
-μ-loop marks present votes stamps histories n threshold out₀ q₀ out q = n - q
+μ-loop out₀ marks present votes stamps inbox n threshold q₀ out q = n - q
 
 element-copy-out-is-listed : tie.Need-element-copy-out-is-listed Inv-loop μ-loop
 element-copy-out-is-listed c = search needs
@@ -30,39 +29,39 @@ element-copy-out-is-listed-3 c = search needs
 is-listed-requires : tie.Need-is-listed-requires Inv-loop μ-loop
 is-listed-requires c κs = search needs
 
-array-write-out : tie.Need-array-write-out Inv-loop μ-loop
-array-write-out c = search needs
+element-write-out : tie.Need-element-write-out Inv-loop μ-loop
+element-write-out c = search needs
 
 loop-holds : tie.Need-loop-holds Inv-loop μ-loop
 loop-holds c =
     let b4 = c .before .before .before .before in
-    let a = b4 .args in
+    let a = b4 .before .args in
+    let long = b4 .before .pre .1 in
     let test = listedAbove (now (a .marks)) (now (a .present)) (now (a .votes)) (now (a .stamps)) (now
-    (a .histories)) (a .n) (a .threshold) in (
+    (a .inbox)) (a .n) (a .threshold) in (
       omega arith,
       omega arith,
-      refl,
-      marks-next (replicate 32 false) 0 test _ (omega arith) (λ k less. absurd
-          (omega arith)) (c .is-listed .ensures),
+      length-set (now (a .out)) 0 _ ∙ long,
+      marks-next (now (a .out)) 0 test _ (omega (arith, long)) (λ k less. absurd (omega arith))
+          (c .is-listed .ensures),
     )
 
 sub-is-next-listed : tie.Need-sub-is-next-listed Inv-loop μ-loop
 sub-is-next-listed c = search needs
 
-array-read-is-next-listed : tie.Need-array-read-is-next-listed Inv-loop μ-loop
-array-read-is-next-listed c = search needs
+element-copy-out-is-next-listed : tie.Need-element-copy-out-is-next-listed Inv-loop μ-loop
+element-copy-out-is-next-listed c = search needs
 
 is-next-listed-requires : tie.Need-is-next-listed-requires Inv-loop μ-loop
 is-next-listed-requires c κs = (
   omega arith,
   omega arith,
   omega arith,
-  c .before .loop .inv .3
-      (c .before .loop .q - 1) (omega arith),
+  c .before .before .loop .inv .3 (c .before .before .loop .q - 1) (omega arith),
 )
 
-array-write-out-2 : tie.Need-array-write-out-2 Inv-loop μ-loop
-array-write-out-2 c = search needs
+element-write-out-2 : tie.Need-element-write-out-2 Inv-loop μ-loop
+element-write-out-2 c = search needs
 
 add-q : tie.Need-add-q Inv-loop μ-loop
 add-q c = search needs
@@ -73,14 +72,14 @@ loop-less c = search needs
 loop-again : tie.Need-loop-again Inv-loop μ-loop
 loop-again c =
     let b4 = c .before .before .before .before in
-    let a = b4 .before .before .before .args in
-    let l = c .before .before .loop in
+    let a = b4 .before .before .before .before .before .args in
+    let l = c .before .before .before .loop in
     let test = listedAbove (now (a .marks)) (now (a .present)) (now (a .votes)) (now (a .stamps)) (now
-    (a .histories)) (a .n) (a .threshold) in (
+    (a .inbox)) (a .n) (a .threshold) in (
       omega arith,
       omega arith,
       length-set (l .out) (l .q) _ ∙ l .inv .2,
-      marks-next (l .out) (l .q) test _ (omega (arith, l .inv .2, c .before .loop-test .taken)) (l .inv .3)
+      marks-next (l .out) (l .q) test _ (omega (arith, l .inv .2, c .before .before .loop-test .taken)) (l .inv .3)
           (c .is-next-listed .ensures),
     )
 
@@ -97,12 +96,12 @@ mark-listed-spec =
     element-copy-out-is-listed-2
     element-copy-out-is-listed-3
     is-listed-requires
-    array-write-out
+    element-write-out
     loop-holds
     sub-is-next-listed
-    array-read-is-next-listed
+    element-copy-out-is-next-listed
     is-next-listed-requires
-    array-write-out-2
+    element-write-out-2
     add-q
     loop-less
     loop-again

@@ -11,14 +11,14 @@ use Rattle.tally.proofs.mark_over.Statement.{statement}
 use Rattle.tally.proofs.mark_over.Tie as tie
 
 abbrev Inv-loop : tie.InvT-loop
-Inv-loop present counts n threshold out₀ q₀ out q = (q ≤ n) × (length out ≡ 32) × Marks out q (over present
+Inv-loop out₀ present counts n threshold q₀ out q = (q ≤ n) × (length out ≡ 32) × Marks out q (over present
     (λ k. getD counts k 0) threshold)
 
 abbrev μ-loop : tie.MeasureT-loop
-μ-loop present counts n threshold out₀ q₀ out q = n - q
+μ-loop out₀ present counts n threshold q₀ out q = n - q
 
 loop-holds : tie.Need-loop-holds Inv-loop μ-loop
-loop-holds c = (omega arith, refl, λ k less. absurd (omega arith))
+loop-holds c = (omega arith, c .pre .1, λ k less. absurd (omega arith))
 
 element-copy-out-out : tie.Need-element-copy-out-out Inv-loop μ-loop
 element-copy-out-out c = search needs
@@ -29,8 +29,8 @@ mul-out c = search needs
 element-copy-out-out-2 : tie.Need-element-copy-out-out-2 Inv-loop μ-loop
 element-copy-out-out-2 c = search needs
 
-array-write-out : tie.Need-array-write-out Inv-loop μ-loop
-array-write-out c = search needs
+element-write-out : tie.Need-element-write-out Inv-loop μ-loop
+element-write-out c = search needs
 
 add-q : tie.Need-add-q Inv-loop μ-loop
 add-q c = search needs
@@ -63,7 +63,7 @@ mark-over-spec =
     element-copy-out-out
     mul-out
     element-copy-out-out-2
-    array-write-out
+    element-write-out
     add-q
     loop-less
     loop-again

@@ -11,16 +11,16 @@ use Rattle.tally.proofs.mark_stamped.Statement.{statement}
 use Rattle.tally.proofs.mark_stamped.Tie as tie
 
 abbrev Inv-loop : tie.InvT-loop
-Inv-loop present stamps n stamp out₀ q₀ out q =
+Inv-loop out₀ present stamps n stamp q₀ out q =
     (q ≤ n)
     × (length out ≡ 32)
     × Marks out q (stampedWith present stamps stamp)
 
 abbrev μ-loop : tie.MeasureT-loop
-μ-loop present stamps n stamp out₀ q₀ out q = n - q
+μ-loop out₀ present stamps n stamp q₀ out q = n - q
 
 loop-holds : tie.Need-loop-holds Inv-loop μ-loop
-loop-holds c = (omega arith, refl, λ k less. absurd (omega arith))
+loop-holds c = (omega arith, c .pre .1, λ k less. absurd (omega arith))
 
 element-copy-out-out : tie.Need-element-copy-out-out Inv-loop μ-loop
 element-copy-out-out c = search needs
@@ -28,8 +28,8 @@ element-copy-out-out c = search needs
 element-copy-out-out-2 : tie.Need-element-copy-out-out-2 Inv-loop μ-loop
 element-copy-out-out-2 c = search needs
 
-array-write-out : tie.Need-array-write-out Inv-loop μ-loop
-array-write-out c = search needs
+element-write-out : tie.Need-element-write-out Inv-loop μ-loop
+element-write-out c = search needs
 
 add-q : tie.Need-add-q Inv-loop μ-loop
 add-q c = search needs
@@ -64,7 +64,7 @@ mark-stamped-spec =
     loop-holds
     element-copy-out-out
     element-copy-out-out-2
-    array-write-out
+    element-write-out
     add-q
     loop-less
     loop-again

@@ -1,7 +1,5 @@
 -- `take_on` meets its contract.
-use mathlib.Core.Path.{ap}
 use borrow.Author.Needs.{needs}
-use Rattle.tally.specs.Rules.{choiceAs}
 use Rattle.tally.proofs.take_on.Statement.{statement}
 use Rattle.tally.proofs.take_on.Tie as tie
 
@@ -12,7 +10,7 @@ enum-told : tie.Need-enum-told
 enum-told c = search needs
 
 any-plan-requires : tie.Need-any-plan-requires
-any-plan-requires c κs = c .before .before .pre (ap choiceAs (c .enum-told .given .1))
+any-plan-requires c κs = search needs
 
 enum-told-2 : tie.Need-enum-told-2
 enum-told-2 c = search needs

@@ -1,0 +1,61 @@
+-- `lists` meets its contract.
+use mathlib.Core.Path.{ap, _∙_}
+use Prim.Native.Nat.{_*_}
+use native.Mathlib.Nat.{add-sub-cancel-left}
+use lib.ListN.{take, drop}
+use borrow.Author.Needs.{needs}
+use borrow.Author.Tests.{lt-ltb, le-ltb}
+use denote.Ref.{now}
+use Rattle.inbox.specs.Lookup.{entriesUntil, found}
+use Rattle.inbox.proofs.lists.Statement.{statement}
+use Rattle.inbox.proofs.lists.Tie as tie
+
+slots-in-requires : tie.Need-slots-in-requires
+slots-in-requires c κs = search needs
+
+mul-start : tie.Need-mul-start
+mul-start c = search needs
+
+add-end : tie.Need-add-end
+add-end c = search needs
+
+sub-slot-lists : tie.Need-sub-slot-lists
+sub-slot-lists c = search needs
+
+part-slot-lists-start : tie.Need-part-slot-lists-start
+part-slot-lists-start c = search needs
+
+part-slot-lists-end : tie.Need-part-slot-lists-end
+part-slot-lists-end c = search needs
+
+slot-lists-requires : tie.Need-slot-lists-requires
+slot-lists-requires c κs = search needs
+
+returns : tie.Need-returns
+returns c =
+    let b3 = c .before .before .before in
+    let a = b3 .before .before .args in
+    let from = 202 * a .q in
+    let inside = rw (b3 .slots-in .ensures .0) at (c .before .before .if1 .taken) in
+    let slot = ap (λ size. let part = take size (drop from (now (a .inbox))) in
+    found part (a .plan) (a .phase) (entriesUntil part (a .phase))) (add-sub-cancel-left from 202) in
+    rw (lt-ltb _ _ inside) (c .slot-lists .ensures ∙ slot)
+
+returns-2 : tie.Need-returns-2
+returns-2 c =
+    let outside = rw (c .before .slots-in .ensures .0) at (c .if1 .left) in
+    rw (le-ltb _ _ outside)
+
+pub lists-spec : {M : Type 1} → statement M
+lists-spec =
+    tie.close
+    (tie.spec
+    slots-in-requires
+    mul-start
+    add-end
+    sub-slot-lists
+    part-slot-lists-start
+    part-slot-lists-end
+    slot-lists-requires
+    returns
+    returns-2)

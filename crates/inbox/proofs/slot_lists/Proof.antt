@@ -1,0 +1,96 @@
+-- `slot_lists` meets its contract. The invariant: the first i entries tell what all that can be of the phase tell.
+use mathlib.Core.Path.{_≡_, refl, sym, _∙_}
+use Prim.Native.Nat.{_≤_}
+use native.Mathlib.Omega.{arith}
+use borrow.Author.Needs.{needs}
+use denote.Ref.{now}
+use Rattle.inbox.proofs.Finding.{found-here, found-before}
+use Rattle.inbox.specs.Lookup.{entriesUntil, found}
+use Rattle.inbox.proofs.slot_lists.Statement.{statement}
+use Rattle.inbox.proofs.slot_lists.Tie as tie
+
+abbrev Inv-loop : tie.InvT-loop
+Inv-loop slot plan phase i₀ i =
+    (i ≤ 63) × (found slot plan phase i ≡ found slot plan phase (entriesUntil slot phase))
+
+abbrev μ-loop : tie.MeasureT-loop
+μ-loop slot plan phase i₀ i = i
+
+entries-until-requires : tie.Need-entries-until-requires Inv-loop μ-loop
+entries-until-requires c κs = search needs
+
+loop-holds : tie.Need-loop-holds Inv-loop μ-loop
+loop-holds c = (c .entries-until .ensures .1, rw (c .entries-until .ensures .0) refl)
+
+sub-place : tie.Need-sub-place Inv-loop μ-loop
+sub-place c = search needs
+
+mul-place : tie.Need-mul-place Inv-loop μ-loop
+mul-place c = search needs
+
+add-place : tie.Need-add-place Inv-loop μ-loop
+add-place c = search needs
+
+shared-slice-read-if1 : tie.Need-shared-slice-read-if1 Inv-loop μ-loop
+shared-slice-read-if1 c = search needs
+
+shared-slice-read-result : tie.Need-shared-slice-read-result Inv-loop μ-loop
+shared-slice-read-result c = search needs
+
+add-u16-at : tie.Need-add-u16-at Inv-loop μ-loop
+add-u16-at c = search needs
+
+u16-at-requires : tie.Need-u16-at-requires Inv-loop μ-loop
+u16-at-requires c κs = search needs
+
+returns : tie.Need-returns Inv-loop μ-loop
+returns c =
+    let b4 = c .before .before .before .before in
+    let a = b4 .before .before .before .before .args in
+    let l = b4 .before .loop in
+    rw (c .u16-at .ensures)
+    (sym (found-here (now (a .slot)) (a .plan) (a .phase) (l .i) (b4 .loop-test .taken) (c .before .before .if1 .taken))
+    ∙ l .inv .1)
+
+sub-i : tie.Need-sub-i Inv-loop μ-loop
+sub-i c = search needs
+
+loop-less : tie.Need-loop-less Inv-loop μ-loop
+loop-less c = search needs
+
+loop-again : tie.Need-loop-again Inv-loop μ-loop
+loop-again c =
+    let b2 = c .before .before in
+    let a = b2 .before .before .before .before .args in
+    let l = b2 .before .loop in (
+      omega arith,
+      sym (found-before (now (a .slot)) (a .plan) (a .phase) (l .i) (b2 .loop-test .taken) (c .if1 .left))
+          ∙ l .inv .1,
+    )
+
+returns-2 : tie.Need-returns-2 Inv-loop μ-loop
+unfolding found
+returns-2 c =
+    let none : c .before .loop .i ≡ 0 = omega (arith, c .loop-test .left) in
+    rw none at (c .before .loop .inv .1)
+
+pub slot-lists-spec : {M : Type 1} → statement M
+slot-lists-spec =
+    tie.close
+    (tie.spec
+    Inv-loop
+    μ-loop
+    entries-until-requires
+    loop-holds
+    sub-place
+    mul-place
+    add-place
+    shared-slice-read-if1
+    shared-slice-read-result
+    add-u16-at
+    u16-at-requires
+    returns
+    sub-i
+    loop-less
+    loop-again
+    returns-2)

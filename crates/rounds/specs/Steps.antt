@@ -1,0 +1,24 @@
+-- Taking a round in two steps: the plan that it comes to, and the record after it.
+-- Promises of private functions: no public contract cites this file.
+use Prim.Native.Nat.{ℕ}
+use mathlib.Core.Bool.{cond}
+use mathlib.Core.List.{List}
+use lib.Dec.{eqb}
+use Rattle.crew.specs.declared.Crew.{Crew}
+use Rattle.node.specs.declared.Node.{Node}
+use Rattle.tally.specs.Rules.{selected, validIn, decidedIn}
+use Rattle.rounds.specs.Taking.{afterSelection, afterValidation, afterDecision}
+
+-- the plan that is selected, valid or decided, by the round; 0 where there is none
+abbrev pub planOf : Crew → ℕ → ℕ → ℕ → List ℕ → ℕ
+planOf crew run phase round bytes =
+    cond (eqb round 1) (selected crew run phase bytes)
+    (cond (eqb round 2) (validIn crew run phase bytes)
+    (decidedIn crew run phase bytes))
+
+-- the record after its coming round, which came to this plan
+abbrev pub afterPlan : Node → ℕ → Node
+afterPlan d v =
+    cond (eqb (d .round) 1) (afterSelection d v)
+    (cond (eqb (d .round) 2) (afterValidation d v)
+    (afterDecision d v))

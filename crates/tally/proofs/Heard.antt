@@ -1,0 +1,42 @@
+-- The columns that an inbox was read into, for the rules: their ballots are those that the node hears.
+-- Assumes nothing.
+use mathlib.Core.Path.{_≡_}
+use mathlib.Core.List.{List}
+use mathlib.Core.Option.{Option}
+use Prim.Native.Nat.{ℕ, _≤_}
+use native.Mathlib.Omega.{arith}
+use lib.ListN.{length}
+use Rattle.crew.specs.declared.Crew.{Crew}
+use Rattle.message.specs.Reading.{readOf}
+use Rattle.ballot.specs.Ballot.{Ballot}
+use Rattle.inbox.specs.Inbox.{slotAt, counted}
+use Rattle.inbox.specs.Columns.{Columns, empty, slotsIn, filled, entriesOf, historiesIn, polled}
+use Rattle.inbox.proofs.Inboxes.{polled-slots, own-histories, selections-list, selections-rise}
+use Rattle.tally.specs.Marks.{Rising}
+use Rattle.tally.specs.Rules.{heard}
+use Rattle.tally.proofs.Countable.{Countable}
+
+-- every node's slot is in the inbox
+pub slots-inside : (crew : Crew) (size : ℕ) → Countable crew size → crew .n ≤ slotsIn size
+slots-inside crew size facts = omega (arith, facts .places, facts .whole)
+
+module _ (crew : Crew) (run phase : ℕ) (bytes : List ℕ) (read : Columns) (facts : Countable crew (length bytes)) where
+  abbrev slots : ℕ → ℕ → Option Ballot
+  slots round q = counted run phase round (readOf (slotAt bytes q))
+
+  abbrev ReadTo : ℕ → Type 0
+  ReadTo round = read ≡ filled empty (slots round) (slotsIn (length bytes))
+
+  -- with what each slot that counts lists
+  pub polled-heard : (round : ℕ) → ReadTo round
+      → polled read (λ q. entriesOf (slots round q)) (crew .n) ≡ heard crew run phase round bytes
+  polled-heard round is =
+      polled-slots (slots round) bytes (crew .n) read (facts .places) (facts .whole) is _ (own-histories (slots round))
+
+  -- in a selection with the entries where they stand
+  pub polled-selections : ReadTo 1 → polled read (historiesIn bytes) (crew .n) ≡ heard crew run phase 1 bytes
+  polled-selections is =
+      polled-slots (slots 1) bytes (crew .n) read (facts .places) (facts .whole) is _ (selections-list run phase bytes)
+
+  pub rising-selections : ReadTo 1 → Rising (read .present) bytes (crew .n)
+  rising-selections is = selections-rise run phase bytes (crew .n) read (facts .places) (facts .whole) is
