@@ -23,7 +23,7 @@ use Rattle.node.proofs.Facts.{Typed}
 use Rattle.inbox.specs.Inbox.{counted, ballotAt}
 use Rattle.agreement.specs.Statement.{Listing, honest, calls, recordAt}
 use Rattle.agreement.specs.Statement.{inboxAt, Premises}
-use Rattle.agreement.proofs.Plans.{slot-plan}
+use Rattle.inbox.proofs.Plans.{slot-plan}
 use Rattle.agreement.proofs.Written.{coming-heard}
 use Rattle.agreement.proofs.Simulation.{slotIn, said, runOf, Took, follows, took, wrote-coming}
 

@@ -1,4 +1,3 @@
-pub mod Plans
 pub mod Answers
 pub mod Soundness
 pub mod Order

@@ -33,7 +33,7 @@ use Rattle.inbox.specs.Inbox.{ballots}
 use Rattle.rounds.specs.Taking.{afterSelection, afterValidation, afterDecision, afterRound, takeOf}
 use Rattle.rounds.specs.Asking.{askOf}
 use Rattle.agreement.specs.Statement.{write, ask, take-round, afterCall}
-use Rattle.agreement.proofs.Plans.{voted-fits}
+use Rattle.inbox.proofs.Plans.{voted-fits}
 use Rattle.agreement.proofs.Answers.{take-accepted}
 
 -- What the three rules do to the fields of a sound record.

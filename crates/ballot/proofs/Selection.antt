@@ -159,13 +159,13 @@ backed-answers crew ballots h =
 -- The plan taken.
 
 -- a plan that is answered is some ballot's vote
-abbrev VotedChoice : List Ballot → Choice → Type 0
+abbrev pub VotedChoice : List Ballot → Choice → Type 0
 VotedChoice ballots (plan v) = 0 < countIf (votes v) ballots
 VotedChoice ballots any = Unit {0}
 VotedChoice ballots nothing = Unit {0}
 
 module _ (class : Class) (crew : Crew) (ballots : List Ballot) where
-  selection-voted : VotedChoice ballots (selection class crew ballots)
+  pub selection-voted : VotedChoice ballots (selection class crew ballots)
   unfolding selection
   selection-voted = go class (backing test ballots) (enough class crew ballots) (backing-is test ballots)
     where

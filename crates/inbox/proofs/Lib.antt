@@ -5,3 +5,4 @@ pub mod Meaning
 pub mod Inboxes
 pub mod Finding
 pub mod Listed
+pub mod Plans

@@ -97,4 +97,14 @@ voted-fits d inbox bytes v (inr voted) = elim (decLt v (256 ^ 2)) [
   | no large ↦
       let voters = count-le (votes v) tooLarge (ballots d inbox) λ m t. omega (tests, eqb→eq (m .vote) v t) in
       absurd (omega (arith, voters, inbox-fits d inbox bytes))
+]
+
+-- what is voted is a plan
+pub voted-plan : (d : Node) (inbox : List ℕ) (v : ℕ) → 0 < countIf (votes v) (ballots d inbox) → 1 ≤ v
+voted-plan d inbox v voted = elim (decLt 0 v) [
+  | yes plan ↦ plan
+  | no zero ↦
+      let none = no-slot-counts (d .crew) (ballotAt d inbox) (votes v) λ q l m e t.
+      omega (tests, slot-plan d inbox q m e, eqb→eq (m .vote) v t) in
+      absurd (omega (arith, none))
 ]
