@@ -4,7 +4,7 @@ use mathlib.Core.Path.{_≡_, sym, ap, _∙_}
 use mathlib.Core.Bool.{true, false}
 use mathlib.Core.List.{List}
 use mathlib.Core.Option.{Option, some}
-use Prim.Native.Nat.{ℕ, _*_, _/_, _≤_, _<_}
+use Prim.Native.Nat.{ℕ, _+_, _*_, _/_, _≤_, _<_}
 use native.Mathlib.Omega.{arith}
 use lib.ListN.{length, getD}
 use Rattle.message.specs.Bounds.{entriesOk}
@@ -24,7 +24,7 @@ use Rattle.inbox.specs.Columns.{
   slotOf,
   polled,
 }
-use Rattle.inbox.proofs.Heard.{heard-shown}
+use Rattle.inbox.proofs.Selections.{selection-shown}
 use Rattle.inbox.proofs.Meaning.{Histories, columns-mean, gather-same}
 
 -- an inbox of n slots has n slots to read
@@ -59,15 +59,15 @@ module _ (run phase : ℕ) (bytes : List ℕ) where
 
   -- what they list stands in them
   pub selections-list : Histories (historiesIn bytes) selections
-  selections-list q m e = heard-shown run phase (slotAt bytes q) m e .same
+  selections-list q m e = selection-shown run phase (slotAt bytes q) m e .same
 
-  -- of a slot that is present, the entries are few and rise
+  -- in a slot that is present the entries have room, and their phases rise
   pub selections-rise : (n : ℕ) (read : Columns) → n ≤ 32 → length bytes ≡ 202 * n
       → read ≡ filled empty selections (slotsIn (length bytes)) → (q : ℕ) → q < n
       → getD (read .present) q false ≡ true
-      → (getD (slotAt bytes q) 12 0 ≤ 63) × (entriesOk 0 64 (historiesIn bytes q) ≡ true)
+      → (13 + 3 * getD (slotAt bytes q) 12 0 ≤ length (slotAt bytes q)) × (entriesOk 0 64 (historiesIn bytes q) ≡ true)
   selections-rise n read room long is q less present =
       let said : some (rowOf read (historiesIn bytes) q) ≡ selections q =
       rw present at (slots-mean selections bytes n read room long is (historiesIn bytes) selections-list q less) in
-      let shown = heard-shown run phase (slotAt bytes q) _ (sym said) in
-      (shown .few, shown .rises)
+      let shown = selection-shown run phase (slotAt bytes q) _ (sym said) in
+      (shown .fits, shown .rises)

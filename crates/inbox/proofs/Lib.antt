@@ -1,8 +1,8 @@
 pub mod Rising
-pub mod Heard
+pub mod Counted
+pub mod Selections
 pub mod Filling
 pub mod Meaning
 pub mod Inboxes
-pub mod Finding
-pub mod Listed
+pub mod Lookups
 pub mod Plans

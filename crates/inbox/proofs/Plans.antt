@@ -1,7 +1,7 @@
 -- The votes of counting messages are plans: not 0, and of two bytes where the inbox holds bytes. So is the plan
 -- that a rule answers, where it answers one. Assumes nothing.
-use mathlib.Core.Path.{_≡_, refl, subst}
-use mathlib.Core.Bool.{Bool, true, false, cond, _&&_}
+use mathlib.Core.Path.{_≡_, subst}
+use mathlib.Core.Bool.{Bool, true, _&&_}
 use mathlib.Core.List.{List}
 use mathlib.Core.Logic.{inl, inr}
 use mathlib.Core.Option.{none, some}
@@ -12,36 +12,20 @@ use lib.ListN.{length, getD, take, drop, length-take, List·getD-eq-default}
 use lib.Seq.{getD-take, getD-drop}
 use lib.Dec.{leb, ltb, eqb→eq}
 use borrow.Author.Tests.{leb-true}
-use Rattle.wire.specs.Outcome.{Outcome, accepted, refused}
 use Rattle.wire.specs.Bytes.{AreBytes}
 use Rattle.wire.proofs.Tests.{tests, both-true}
-use Rattle.message.specs.Fields.{Body, selection, validation, decision, Message}
+use Rattle.message.specs.Fields.{Body, selection, validation, decision}
 use Rattle.message.specs.Bounds.{phaseOk, planOk, entriesOk, bodyOk, BodyFits}
-use Rattle.message.specs.Reading.{readOf}
 use Rattle.message.proofs.ReadLaws.{read-passes}
 use Rattle.codec.proofs.Read.{encode-of-read}
 use Rattle.ballot.specs.Count.{countIf}
 use Rattle.ballot.specs.Ballot.{Ballot, votes}
 use Rattle.ballot.proofs.Counting.{count-le}
 use Rattle.ballot.proofs.Least.{Voted}
-use Rattle.ballot.proofs.Slots.{same-ballot, not-none, no-slot-counts}
+use Rattle.ballot.proofs.Slots.{no-slot-counts}
 use Rattle.node.specs.declared.Node.{Node}
-use Rattle.inbox.specs.Inbox.{slotAt, ballotOf, isOf, counted, ballotAt, ballots}
-
--- a slot that counts is read to a message, and says what that message puts forward
-pub slot-read : (d : Node) (inbox : List ℕ) (q : ℕ) (m : Ballot) → ballotAt d inbox q ≡ some m
-    → (k : Message) × (readOf (slotAt inbox q) ≡ accepted k) × (ballotOf (k .body) ≡ m)
-unfolding ballotAt
-slot-read d inbox q m e = go (readOf (slotAt inbox q)) refl e
-  where
-    coming : (k : Message) (b : Bool) → cond b (some (ballotOf (k .body))) none ≡ some m → ballotOf (k .body) ≡ m
-    coming k true e = same-ballot e
-    coming k false e = absurd (not-none e)
-
-    go : (o : Outcome Message) → readOf (slotAt inbox q) ≡ o → counted (d .run) (d .phase) (d .round) o ≡ some m
-        → (k : Message) × (readOf (slotAt inbox q) ≡ accepted k) × (ballotOf (k .body) ≡ m)
-    go (accepted k) i e = (k, i, coming k (isOf (d .run) (d .phase) (d .round) k) e)
-    go (refused number) i e = absurd (not-none e)
+use Rattle.inbox.proofs.Counted.{counted-message}
+use Rattle.inbox.specs.Inbox.{slotAt, ballotOf, counted, ballotAt, ballots}
 
 -- what a message within the bounds votes for is a plan
 body-plan : (phase : ℕ) (body : Body) → bodyOk phase body ≡ true → 1 ≤ ballotOf body .vote
@@ -58,11 +42,12 @@ body-fits (validation plan) fits = fits
 body-fits (decision vote stamp) fits = fits
 
 pub slot-plan : (d : Node) (inbox : List ℕ) (q : ℕ) (m : Ballot) → ballotAt d inbox q ≡ some m → 1 ≤ m .vote
+unfolding ballotAt
 slot-plan d inbox q m e =
-    let r = slot-read d inbox q m e in
-    let k = r .0 in
-    let bounds = read-passes (slotAt inbox q) k (r .1) .in-bounds in
-    subst (λ (x : Ballot). 1 ≤ x .vote) (r .2)
+    let c = counted-message (d .run) (d .phase) (d .round) (slotAt inbox q) m e in
+    let k = c .message in
+    let bounds = read-passes (slotAt inbox q) k (c .read) .in-bounds in
+    subst (λ (x : Ballot). 1 ≤ x .vote) (c .says)
     (body-plan (k .phase) (k .body) (both-true (phaseOk (k .phase)) (bodyOk (k .phase) (k .body)) bounds .1))
 
 -- a part of a list of bytes holds bytes
@@ -76,10 +61,11 @@ part-bytes s from size bytes place = elim (decLt place size) [
 
 slot-fits : (d : Node) (inbox : List ℕ) → AreBytes inbox → (q : ℕ) (m : Ballot) → ballotAt d inbox q ≡ some m
     → m .vote < 256 ^ 2
+unfolding ballotAt
 slot-fits d inbox bytes q m e =
-    let r = slot-read d inbox q m e in
-    let fits = encode-of-read (slotAt inbox q) (r .0) (part-bytes inbox (202 * q) 202 bytes) (r .1) .2 in
-    subst (λ (x : Ballot). x .vote < 256 ^ 2) (r .2) (body-fits (r .0 .body) (fits .1))
+    let c = counted-message (d .run) (d .phase) (d .round) (slotAt inbox q) m e in
+    let fits = encode-of-read (slotAt inbox q) (c .message) (part-bytes inbox (202 * q) 202 bytes) (c .read) .2 in
+    subst (λ (x : Ballot). x .vote < 256 ^ 2) (c .says) (body-fits (c .message .body) (fits .1))
 
 -- the ballots whose vote does not fit two bytes
 abbrev tooLarge : Ballot → Bool

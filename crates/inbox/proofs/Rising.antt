@@ -12,16 +12,16 @@ use Rattle.wire.proofs.Tests.{both-true}
 use Rattle.message.specs.Bounds.{planOk, entriesOk}
 
 -- what an entry that keeps its bounds says, with those after it
-pub record Rising (least phase : ℕ) (e : Entry) (es : List Entry) : Type 0 where
+pub record FirstKept (least phase : ℕ) (e : Entry) (es : List Entry) : Type 0 where
   pub from : least ≤ e .phase
   pub below : e .phase < phase
   pub full : leb 1 (e .plan) ≡ true
   pub rest : entriesOk (e .phase + 1) phase es ≡ true
 
-pub rising : (least phase : ℕ) (e : Entry) (es : List Entry) → entriesOk least phase (e ∷ es) ≡ true
-    → Rising least phase e es
+pub first-kept : (least phase : ℕ) (e : Entry) (es : List Entry) → entriesOk least phase (e ∷ es) ≡ true
+    → FirstKept least phase e es
 unfolding entriesOk
-rising least phase e es ok =
+first-kept least phase e es ok =
     let first = leb least (e .phase) && ltb (e .phase) phase in
     let parts = both-true (first && planOk (e .plan)) (entriesOk (e .phase + 1) phase es) ok in
     let entry = both-true first (planOk (e .plan)) (parts .0) in
@@ -39,6 +39,6 @@ pub ok-later : (least phase later : ℕ) (es : List Entry) → phase ≤ later �
 unfolding entriesOk
 ok-later least phase later [] h ok = refl
 ok-later least phase later (e ∷ es) h ok =
-    let r = rising least phase e es ok in
+    let r = first-kept least phase e es ok in
     let below : e .phase < later = omega (arith, r .below) in
     simp (le-leb _ _ (r .from), lt-ltb _ _ below, r .full, ok-later (e .phase + 1) phase later es h (r .rest))

@@ -3,12 +3,14 @@
 -- them there, and the one rule that looks at histories looks up single entries.
 -- What the crates below rounds promise each other: no public contract of rounds cites this file.
 use Prim.Native.Nat.{ℕ, zero, suc, _/_, min}
-use mathlib.Core.Bool.{Bool, true, false, cond}
+use mathlib.Core.Bool.{Bool, true, false, cond, _&&_}
 use mathlib.Core.List.{List, []}
 use mathlib.Core.Option.{Option, none, some}
-use lib.ListN.{getD, set, replicate, drop}
+use lib.Dec.{ltb}
+use lib.ListN.{length, getD, set, replicate, drop}
 use Rattle.wire.specs.Entry.{Entry}
 use Rattle.message.specs.Reading.{entriesIn}
+use Rattle.message.specs.Lookup.{listsIn}
 use Rattle.ballot.specs.Count.{gather}
 use Rattle.ballot.specs.Ballot.{Ballot}
 use Rattle.inbox.specs.Inbox.{slotAt}
@@ -75,3 +77,7 @@ polled read histories n = gather (slotOf read histories) n
 abbrev pub saidAs : Said → List Entry → Option Ballot
 saidAs (Says vote stamp) entries = some (record { vote = vote; stamp = stamp; entries = entries })
 saidAs Nothing entries = none
+
+-- slot q, where the inbox has it, lists the plan at the phase
+abbrev pub listsAt : List ℕ → ℕ → ℕ → ℕ → Bool
+listsAt bytes q plan phase = ltb q (slotsIn (length bytes)) && listsIn (slotAt bytes q) plan phase

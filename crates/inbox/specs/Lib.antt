@@ -1,3 +1,2 @@
 pub mod Inbox
 pub mod Columns
-pub mod Lookup

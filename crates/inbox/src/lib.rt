@@ -1,16 +1,15 @@
-// From an inbox's bytes to columns: the slots are read once, and what those that count say is put into columns.
+// From an inbox's bytes to columns: the slots are read once, and what those that count say is put into columns, but for
+// the entries, which are looked up in the slots.
 // What a slot says stands in specs/Inbox.antt, the columns in specs/Columns.antt. Crate tally runs the rules over them.
 use message::Reading;
 use node::Node;
 ghost use mathlib.Core.Path.{_≡_};
 ghost use mathlib.Core.Bool.{true};
-ghost use Prim.Native.Nat.{_+_, _*_, _<_, _≤_, min};
+ghost use Prim.Native.Nat.{_*_, _<_, _≤_};
 ghost use lib.ListN.{length, set};
-ghost use Rattle.wire.specs.Bytes.{numberAt};
 ghost use Rattle.message.specs.Reading.{readOf};
 ghost use Rattle.inbox.specs.Inbox.{slotAt, counted};
-ghost use Rattle.inbox.specs.Columns.{columns, entriesOf, put, slotsIn, filled, saidAs};
-ghost use Rattle.inbox.specs.Lookup.{entriesUntil, found, listsAt};
+ghost use Rattle.inbox.specs.Columns.{columns, entriesOf, put, slotsIn, filled, listsAt, saidAs};
 
 // 01: "An inbox is n slots of 202 bytes": a selection with all 63 entries fits.
 pub const SLOT: usize = 202;
@@ -123,7 +122,7 @@ fn slots_in(length: usize) -> usize
     if whole < SLOTS { whole } else { SLOTS }
 }
 
-// Reads the slots of an inbox, once, into the columns.
+// Reads the slots of an inbox, once, into the columns. The places of a slot that does not count keep what they had.
 pub fn read_slots(
     inbox: &[u8],
     run: u32,
@@ -157,65 +156,14 @@ pub fn read_slots(
     }
 }
 
-fn lower(a: usize, b: usize) -> usize
-    ensures { λ r. ⌜ r ≡ min a b ⌝ }
-{
-    if a < b { a } else { b }
-}
-
-fn wide(x: u8) -> u16
-    ensures { λ r. ⌜ (r ≡ x) × (r < 256) ⌝ }
-{
-    x as u16
-}
-
-// The little-endian number of two bytes from a place on.
-fn u16_at(s: &[u8], place: usize) -> u16
-    requires { ⌜ place + 1 < length (now s) ⌝ }
-    ensures { λ r. ⌜ r ≡ numberAt 2 (now (s .entry)) place ⌝ }
-{
-    wide(s[place]) + 256 * wide(s[place + 1])
-}
-
-// How many of a selection's entries can be of a phase or an earlier one: phases rise from 0, so that entry i is of
-// phase i or a later one.
-fn entries_until(slot: &[u8], phase: u8) -> usize
-    requires { ⌜ length (now slot) ≡ 202 ⌝ }
-    ensures { λ r. ⌜ (r ≡ entriesUntil (now (slot .entry)) phase) × (r ≤ 63) ⌝ }
-{
-    let listed = lower(
-        wide(slot[message::COUNT_AT]) as usize,
-        Node::LAST_PHASE as usize,
-    );
-    lower(listed, phase as usize + 1)
-}
-
-// Whether the selection in a slot lists the plan at a phase. The entries are looked at where they stand, from the last
-// that can be of the phase back to the first that is not later.
-fn slot_lists(slot: &[u8], plan: u16, phase: u8) -> bool
-    requires { ⌜ length (now slot) ≡ 202 ⌝ }
-    ensures { λ r. ⌜ r ≡ found (now (slot .entry)) plan phase (entriesUntil (now (slot .entry)) phase) ⌝ }
-{
-    let mut i = entries_until(slot, phase);
-    while 0 < i {
-        let place = message::ENTRIES_AT + message::ENTRY_SIZE * (i - 1);
-        if slot[place] <= phase {
-            return (slot[place] == phase) & (u16_at(slot, place + 1) == plan);
-        }
-        i = i - 1;
-    }
-    false
-}
-
-// Whether the selection in slot q lists the plan at a phase. It goes by the phases' rising, which reading has tested of
-// every slot that counts; of another slot it answers what `listsAt` says.
+// Whether the selection in slot q lists the plan at a phase, for slots that count in a selection: see `message::lists`.
 pub fn lists(inbox: &[u8], q: usize, plan: u16, phase: u8) -> bool
     ensures { λ r. ⌜ r ≡ listsAt (now (inbox .entry)) q plan phase ⌝ }
 {
     if q < slots_in(inbox.len()) {
         let start = SLOT * q;
         let end = start + SLOT;
-        return slot_lists(&inbox[start..end], plan, phase);
+        return message::lists(&inbox[start..end], plan, phase);
     }
     false
 }

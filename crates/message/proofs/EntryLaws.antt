@@ -2,14 +2,14 @@
 -- Assumes nothing.
 use mathlib.Core.Path.{_≡_, refl, ap, sym, _∙_}
 use mathlib.Core.Bool.{Bool, true, false, cond, _&&_}
-use mathlib.Core.List.{List, [], _∷_}
+use mathlib.Core.List.{List, _∷_}
 use mathlib.Core.Logic.{_≢_}
 use Prim.Native.Nat.{ℕ, zero, suc, _+_, _*_, _-_, _<_, _≤_}
 use native.Mathlib.Nat.{add-zero, add-assoc, sub-zero}
 use native.Mathlib.Omega.{arith}
 use native.Mathlib.Decide.{decLt}
 use lib.Dec.{leb, ltb}
-use lib.ListN.{length, getD, take, drop}
+use lib.ListN.{length, getD, drop}
 use lib.Seq.{getD-drop, drop-drop}
 use borrow.Author.Tests.{le-leb, lt-leb, lt-ltb, le-ltb}
 use Rattle.wire.specs.Entry.{Entry}
@@ -29,20 +29,6 @@ pub entries-next : (k place : ℕ) (s : List ℕ)
     ≡ record { phase = getD s place 0; plan = numberAt 2 s (place + 1) } ∷ entriesIn k (drop (place + 3) s)
 unfolding entriesIn
 entries-next k place s = simp (getD-drop, drop-drop, add-zero, add-assoc)
-
--- entries stand in their own three bytes each
-pub entries-take : (k n : ℕ) (s : List ℕ) → 3 * k ≤ n → 3 * k ≤ length s → entriesIn k (take n s) ≡ entriesIn k s
-unfolding entriesIn
-entries-take zero n s room long = refl
-entries-take (suc k) zero s room long = absurd (omega arith)
-entries-take (suc k) (suc zero) s room long = absurd (omega arith)
-entries-take (suc k) (suc (suc zero)) s room long = absurd (omega arith)
-entries-take (suc k) (suc (suc (suc n))) [] room long = absurd (omega arith)
-entries-take (suc k) (suc (suc (suc n))) (a ∷ []) room long = absurd (omega arith)
-entries-take (suc k) (suc (suc (suc n))) (a ∷ b ∷ []) room long = absurd (omega arith)
-entries-take (suc k) (suc (suc (suc n))) (a ∷ b ∷ c ∷ s) room long =
-    ap (λ es. record { phase = a; plan = numberAt 2 (a ∷ b ∷ c ∷ s) 1 } ∷ es)
-    (entries-take k n s (omega arith) (omega arith))
 
 -- the bounds that an entry keeps by itself
 abbrev keeps : ℕ → Entry → Bool

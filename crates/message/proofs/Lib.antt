@@ -1,3 +1,4 @@
 pub mod EncodeLaws
 pub mod EntryLaws
 pub mod ReadLaws
+pub mod LookupTurns

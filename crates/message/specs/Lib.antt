@@ -2,3 +2,4 @@ pub mod Fields
 pub mod Bounds
 pub mod Encoding
 pub mod Reading
+pub mod Lookup

@@ -2,7 +2,7 @@
 // What a slice is read to stands in specs/Reading.antt, a message's bytes in specs/Encoding.antt, its bounds in
 // specs/Bounds.antt. Crate writer writes messages; that reading and writing undo each other is proved in crate codec.
 ghost use mathlib.Core.Path.{_≡_};
-ghost use Prim.Native.Nat.{_+_, _*_, _<_, _≤_};
+ghost use Prim.Native.Nat.{_+_, _*_, _<_, _≤_, min};
 ghost use lib.ListN.{length, getD, drop};
 ghost use Rattle.wire.specs.Outcome.{require};
 ghost use Rattle.wire.specs.Bytes.{numberAt};
@@ -26,6 +26,7 @@ ghost use Rattle.message.specs.Reading.{
   entryAs,
   answered as readAs,
 };
+ghost use Rattle.message.specs.Lookup.{entriesUntil, listsIn};
 
 // The layout. 01: "Header of 9 bytes: length (2, counting every byte of the message), kind (2), run (4), phase (1)."
 const HEADER: usize = 9;
@@ -376,4 +377,49 @@ pub fn entry_at(part: &[u8], i: usize) -> Entry
     } else {
         Entry { phase: 0, plan: 0 }
     }
+}
+
+fn lower(a: usize, b: usize) -> usize
+    ensures { λ r. ⌜ r ≡ min a b ⌝ }
+{
+    if a < b { a } else { b }
+}
+
+// How many entries can be of a phase or an earlier one: phases rise from 0, so that entry i is of phase i or a later
+// one. A slice that reading refuses may count more entries than it has room for.
+fn entries_until(s: &[u8], phase: u8) -> usize
+    requires { ⌜ 13 ≤ length (now s) ⌝ }
+    ensures { λ r. ⌜ (r ≡ entriesUntil (now (s .entry)) phase) × (13 + 3 * r ≤ length (now (s .entry))) ⌝ }
+{
+    let room = (s.len() - ENTRIES_AT) / ENTRY_SIZE;
+    let held = lower(wide(s[COUNT_AT]) as usize, room);
+    lower(held, wide(phase) as usize + 1)
+}
+
+// The entries are looked at where they stand, from the last that can be of the phase back to the first that is not
+// later.
+fn look_up(s: &[u8], plan: u16, phase: u8) -> bool
+    requires { ⌜ 13 ≤ length (now s) ⌝ }
+    ensures { λ r. ⌜ r ≡ listsIn (now (s .entry)) plan phase ⌝ }
+{
+    let mut i = entries_until(s, phase);
+    while 0 < i {
+        let place = ENTRIES_AT + ENTRY_SIZE * (i - 1);
+        if s[place] <= phase {
+            return (s[place] == phase) & (u16_at(s, place + 1) == plan);
+        }
+        i = i - 1;
+    }
+    false
+}
+
+// Whether a selection that reading accepts lists the plan at a phase. It is not read again: the look-up goes by the
+// phases' rising, which reading has tested. Of other bytes it tells what `listsIn` says, which nobody asks.
+pub fn lists(s: &[u8], plan: u16, phase: u8) -> bool
+    ensures { λ r. ⌜ r ≡ listsIn (now (s .entry)) plan phase ⌝ }
+{
+    if s.len() < ENTRIES_AT {
+        return false;
+    }
+    look_up(s, plan, phase)
 }

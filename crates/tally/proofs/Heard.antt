@@ -16,10 +16,6 @@ use Rattle.tally.specs.Marks.{Rising}
 use Rattle.tally.specs.Rules.{heard}
 use Rattle.tally.proofs.Countable.{Countable}
 
--- every node's slot is in the inbox
-pub slots-inside : (crew : Crew) (size : ℕ) → Countable crew size → crew .n ≤ slotsIn size
-slots-inside crew size facts = omega (arith, facts .places, facts .whole)
-
 module _ (crew : Crew) (run phase : ℕ) (bytes : List ℕ) (read : Columns) (facts : Countable crew (length bytes)) where
   abbrev slots : ℕ → ℕ → Option Ballot
   slots round q = counted run phase round (readOf (slotAt bytes q))
@@ -38,5 +34,13 @@ module _ (crew : Crew) (run phase : ℕ) (bytes : List ℕ) (read : Columns) (fa
   polled-selections is =
       polled-slots (slots 1) bytes (crew .n) read (facts .places) (facts .whole) is _ (selections-list run phase bytes)
 
-  pub rising-selections : ReadTo 1 → Rising (read .present) bytes (crew .n)
-  rising-selections is = selections-rise run phase bytes (crew .n) read (facts .places) (facts .whole) is
+  -- what selection asks of the columns and the inbox
+  pub ready : ReadTo 1
+      → (crew .n ≤ 32) × (crew .d ≤ crew .n) × (crew .n ≤ slotsIn (length bytes))
+      × Rising (read .present) bytes (crew .n)
+  ready is = (
+    facts .places,
+    facts .within,
+    omega (arith, facts .places, facts .whole),
+    selections-rise run phase bytes (crew .n) read (facts .places) (facts .whole) is,
+  )

@@ -9,9 +9,8 @@ use lib.ListN.{length}
 use borrow.Author.Tests.{lt-ltb}
 use Rattle.ballot.specs.Ballot.{lists}
 use Rattle.inbox.specs.Inbox.{slotAt}
-use Rattle.inbox.specs.Columns.{Columns, slotsIn, historiesIn, rowOf}
-use Rattle.inbox.specs.Lookup.{listsAt}
-use Rattle.inbox.proofs.Listed.{lookup-listed}
+use Rattle.inbox.specs.Columns.{Columns, slotsIn, historiesIn, rowOf, listsAt}
+use Rattle.inbox.proofs.Lookups.{lookup-listed}
 use Rattle.tally.specs.Marks.{marked, listing, Rising}
 
 pub listing-rows : (read : Columns) (bytes : List ℕ) (n : ℕ) → n ≤ slotsIn (length bytes)

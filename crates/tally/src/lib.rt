@@ -19,7 +19,7 @@ ghost use Rattle.ballot.specs.Selection.{anyIf, answer, selection, anyPlan, tak
 ghost use Rattle.ballot.specs.Validation.{validated};
 ghost use Rattle.ballot.specs.Decision.{decision};
 ghost use Rattle.crew.specs.Thresholds.{one, two, three, classOf, E};
-ghost use Rattle.inbox.specs.Columns.{columns, slotsIn, historiesIn, polled};
+ghost use Rattle.inbox.specs.Columns.{columns, slotsIn, historiesIn, polled, listsAt};
 ghost use Rattle.tally.specs.Marks.{
   Marks,
   Counts,
@@ -89,6 +89,17 @@ fn count_marks(marks: &[bool; 32], n: usize) -> u16
     count
 }
 
+// Whether a slot is present and lists the plan at a phase. One that is absent is not looked at: its bytes may be
+// anything.
+fn is_listing(present: bool, inbox: &[u8], q: usize, plan: u16, phase: u8) -> bool
+    ensures { λ r. ⌜ r ≡ (present && listsAt (now (inbox .entry)) q plan phase) ⌝ }
+{
+    if present {
+        return inbox::lists(inbox, q, plan, phase);
+    }
+    false
+}
+
 // How many slots list the plan at a phase.
 fn count_listing(present: &[bool; 32], inbox: &[u8], n: usize, plan: u16, phase: u8) -> u16
     requires { ⌜ n ≤ 32 ⌝ }
@@ -97,7 +108,7 @@ fn count_listing(present: &[bool; 32], inbox: &[u8], n: usize, plan: u16, phase:
     let mut count: u16 = 0;
     let mut q = 0;
     while q < n {
-        count = count + one_if(present[q] & inbox::lists(inbox, q, plan, phase));
+        count = count + one_if(is_listing(present[q], inbox, q, plan, phase));
         q = q + 1;
     }
     count
@@ -274,10 +285,11 @@ fn mark_listed(
         (listedAbove (now (marks .entry)) (now (present .entry)) (now (votes .entry)) (now (stamps .entry))
         (now (inbox .entry)) n threshold) ⌝ }
 {
-    out[0] = is_listed(marks[0], present, inbox, n, votes[0], stamps[0], threshold);
+    let mut listed = is_listed(marks[0], present, inbox, n, votes[0], stamps[0], threshold);
+    out[0] = listed;
     let mut q = 1;
     while q < n {
-        out[q] = is_next_listed(
+        listed = is_next_listed(
             marks,
             present,
             votes,
@@ -286,8 +298,9 @@ fn mark_listed(
             n,
             threshold,
             q,
-            out[q - 1],
+            listed,
         );
+        out[q] = listed;
         q = q + 1;
     }
 }

@@ -6,7 +6,7 @@ use lib.ListN.{take, drop}
 use borrow.Author.Needs.{needs}
 use borrow.Author.Tests.{lt-ltb, le-ltb}
 use denote.Ref.{now}
-use Rattle.inbox.specs.Lookup.{entriesUntil, found}
+use Rattle.message.specs.Lookup.{listsIn}
 use Rattle.inbox.proofs.lists.Statement.{statement}
 use Rattle.inbox.proofs.lists.Tie as tie
 
@@ -19,17 +19,17 @@ mul-start c = search needs
 add-end : tie.Need-add-end
 add-end c = search needs
 
-sub-slot-lists : tie.Need-sub-slot-lists
-sub-slot-lists c = search needs
+sub-lists : tie.Need-sub-lists
+sub-lists c = search needs
 
-part-slot-lists-start : tie.Need-part-slot-lists-start
-part-slot-lists-start c = search needs
+part-lists-start : tie.Need-part-lists-start
+part-lists-start c = search needs
 
-part-slot-lists-end : tie.Need-part-slot-lists-end
-part-slot-lists-end c = search needs
+part-lists-end : tie.Need-part-lists-end
+part-lists-end c = search needs
 
-slot-lists-requires : tie.Need-slot-lists-requires
-slot-lists-requires c κs = search needs
+lists-requires : tie.Need-lists-requires
+lists-requires c κs = search needs
 
 returns : tie.Need-returns
 returns c =
@@ -37,9 +37,9 @@ returns c =
     let a = b3 .before .before .args in
     let from = 202 * a .q in
     let inside = rw (b3 .slots-in .ensures .0) at (c .before .before .if1 .taken) in
-    let slot = ap (λ size. let part = take size (drop from (now (a .inbox))) in
-    found part (a .plan) (a .phase) (entriesUntil part (a .phase))) (add-sub-cancel-left from 202) in
-    rw (lt-ltb _ _ inside) (c .slot-lists .ensures ∙ slot)
+    let slot = ap (λ size. listsIn (take size (drop from (now (a .inbox)))) (a .plan) (a .phase))
+    (add-sub-cancel-left from 202) in
+    rw (lt-ltb _ _ inside) (c .lists .ensures ∙ slot)
 
 returns-2 : tie.Need-returns-2
 returns-2 c =
@@ -53,9 +53,9 @@ lists-spec =
     slots-in-requires
     mul-start
     add-end
-    sub-slot-lists
-    part-slot-lists-start
-    part-slot-lists-end
-    slot-lists-requires
+    sub-lists
+    part-lists-start
+    part-lists-end
+    lists-requires
     returns
     returns-2)

@@ -6,7 +6,7 @@ use denote.Ref.{now}
 use Rattle.ballot.specs.Selection.{selection}
 use Rattle.crew.specs.Thresholds.{classOf}
 use Rattle.tally.proofs.Countable.{countable-facts, choice-rule}
-use Rattle.tally.proofs.Heard.{polled-selections, rising-selections, slots-inside}
+use Rattle.tally.proofs.Heard.{polled-selections, ready}
 use Rattle.tally.specs.Rules.{choiceOf}
 use Rattle.tally.proofs.choose.Statement.{statement}
 use Rattle.tally.proofs.choose.Tie as tie
@@ -23,12 +23,8 @@ choose-by-class-requires c κs =
     let b8 = b3 .before .before .before .before .before in
     let a = b8 .before .before .args in
     let ok = sym (b8 .is-countable .ensures) ∙ b3 .before .before .before .before .if1 .taken in
-    let facts = countable-facts (a .crew) (length (now (a .inbox))) ok in (
-      facts .places,
-      facts .within,
-      slots-inside (a .crew) _ facts,
-      rising-selections (a .crew) (a .run) (a .phase) (now (a .inbox)) _ facts (b3 .read-slots .ensures),
-    )
+    let facts = countable-facts (a .crew) (length (now (a .inbox))) ok in
+    ready (a .crew) (a .run) (a .phase) (now (a .inbox)) _ facts (b3 .read-slots .ensures)
 
 returns : tie.Need-returns
 returns c =

@@ -21,11 +21,11 @@ loop-holds : tie.Need-loop-holds Inv-loop μ-loop
 unfolding tally
 loop-holds c = search needs
 
-element-copy-out-one-if : tie.Need-element-copy-out-one-if Inv-loop μ-loop
-element-copy-out-one-if c = search needs
+element-copy-out-is-listing : tie.Need-element-copy-out-is-listing Inv-loop μ-loop
+element-copy-out-is-listing c = search needs
 
-lists-requires : tie.Need-lists-requires Inv-loop μ-loop
-lists-requires c κs = search needs
+is-listing-requires : tie.Need-is-listing-requires Inv-loop μ-loop
+is-listing-requires c κs = search needs
 
 one-if-requires : tie.Need-one-if-requires Inv-loop μ-loop
 one-if-requires c κs = search needs
@@ -42,7 +42,7 @@ loop-less c = search needs
 loop-again : tie.Need-loop-again Inv-loop μ-loop
 loop-again c = let a = c .before .before .before .before .before .before .args in
     let test = listing (now (a .present)) (now (a .inbox)) (a .plan) (a .phase) in
-    let counted = rw (c .before .lists .ensures) at (c .one-if .ensures .0) in
+    let counted = rw (c .before .is-listing .ensures) at (c .one-if .ensures .0) in
     omega (arith, tally-next test (c .before .before .before .before .loop .q), counted, c .one-if .ensures .1)
 
 returns : tie.Need-returns Inv-loop μ-loop
@@ -61,8 +61,8 @@ count-listing-spec =
     Inv-loop
     μ-loop
     loop-holds
-    element-copy-out-one-if
-    lists-requires
+    element-copy-out-is-listing
+    is-listing-requires
     one-if-requires
     add-count
     add-q

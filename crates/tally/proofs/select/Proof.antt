@@ -7,7 +7,7 @@ use Rattle.ballot.specs.Selection.{selection, takenOn}
 use Rattle.crew.specs.Thresholds.{classOf}
 use Rattle.inbox.specs.Columns.{historiesIn}
 use Rattle.tally.proofs.Countable.{countable-facts, choice-rule}
-use Rattle.tally.proofs.Heard.{polled-selections, rising-selections, slots-inside}
+use Rattle.tally.proofs.Heard.{polled-selections, ready}
 use Rattle.tally.specs.Rules.{choiceOf}
 use Rattle.tally.proofs.select.Statement.{statement}
 use Rattle.tally.proofs.select.Tie as tie
@@ -24,12 +24,8 @@ choose-by-class-requires c κs =
     let b8 = b3 .before .before .before .before .before in
     let a = b8 .before .before .args in
     let ok = sym (b8 .is-countable .ensures) ∙ b3 .before .before .before .before .if1 .taken in
-    let facts = countable-facts (a .crew) (length (now (a .inbox))) ok in (
-      facts .places,
-      facts .within,
-      slots-inside (a .crew) _ facts,
-      rising-selections (a .crew) (a .run) (a .phase) (now (a .inbox)) _ facts (b3 .read-slots .ensures),
-    )
+    let facts = countable-facts (a .crew) (length (now (a .inbox))) ok in
+    ready (a .crew) (a .run) (a .phase) (now (a .inbox)) _ facts (b3 .read-slots .ensures)
 
 take-on-requires : tie.Need-take-on-requires
 take-on-requires c κs =

@@ -1,32 +1,33 @@
--- What is known of a slot that counts as a selection: its ballot lists the entries that stand in it, there are no more
--- than 63, and their phases rise.
+-- What is known of a slot that counts as a selection: its ballot lists the entries that stand in it, they have room in
+-- it, and their phases rise.
 -- Assumes nothing.
 use mathlib.Core.Path.{_≡_, refl, sym, ap, _∙_}
 use mathlib.Core.Bool.{Bool, true, false, cond, _&&_}
 use mathlib.Core.List.{List}
-use mathlib.Core.Option.{none, some}
-use Prim.Native.Nat.{ℕ, _≤_}
+use mathlib.Core.Option.{some}
+use Prim.Native.Nat.{ℕ, _+_, _*_, _≤_}
 use native.Mathlib.Omega.{arith}
 use lib.Dec.{leb, ltb, eqb}
 use lib.ListN.{length, getD, drop}
 use borrow.Author.Tests.{leb-true, eqb-true}
-use Rattle.wire.specs.Outcome.{Outcome, accepted, refused}
+use Rattle.wire.specs.Outcome.{accepted}
 use Rattle.wire.specs.Bytes.{numberAt}
 use Rattle.wire.proofs.Tests.{both-true}
-use Rattle.message.specs.Fields.{selection, validation, decision, Message}
+use Rattle.message.specs.Fields.{Message}
 use Rattle.message.specs.Bounds.{phaseOk, planOk, bodyOk, entriesOk}
-use Rattle.message.specs.Encoding.{kindOf}
+use Rattle.message.specs.Encoding.{kindOf, sizeOf}
 use Rattle.message.specs.Reading.{kindAt, bodyAt, selectionAt, validationAt, decisionAt, readOf}
 use Rattle.message.proofs.EntryLaws.{entries-count}
-use Rattle.message.proofs.ReadLaws.{read-passes}
+use Rattle.message.proofs.ReadLaws.{read-passes, read-fits}
 use Rattle.ballot.specs.Ballot.{Ballot}
-use Rattle.inbox.specs.Inbox.{isOf, ballotOf, counted}
+use Rattle.inbox.specs.Inbox.{ballotOf, counted}
 use Rattle.inbox.specs.Columns.{historyIn}
+use Rattle.inbox.proofs.Counted.{counted-message}
 use Rattle.inbox.proofs.Rising.{ok-later}
 
 pub record Shown (slot : List ℕ) (m : Ballot) : Type 0 where
   pub same : historyIn slot ≡ m .entries
-  pub few : getD slot 12 0 ≤ 63
+  pub fits : 13 + 3 * getD slot 12 0 ≤ length slot
   pub rises : entriesOk 0 64 (historyIn slot) ≡ true
 
 -- a body of kind 1 that stands after the header is a selection's
@@ -51,31 +52,20 @@ message-shown slot m read kind =
     let parts = both-true (phaseOk (m .phase)) (bodyOk (m .phase) (m .body)) (passes .in-bounds) in
     let last : m .phase ≤ 63 = leb-true _ _ (both-true (leb 1 (m .phase)) (leb (m .phase) 63) (parts .0) .1) in
     let bounds = ap (bodyOk (m .phase)) (sym is) ∙ parts .1 in
-    let vote = planOk (numberAt 2 slot 9) && ltb (getD slot 11 0) (m .phase) in
-    let size = leb (length (historyIn slot)) 63 in
-    let rising = both-true (vote && size) (entriesOk 0 (m .phase) (historyIn slot)) bounds in
-    let few : length (historyIn slot) ≤ 63 = leb-true _ _ (both-true vote size (rising .0) .1) in
+    let scalars = planOk (numberAt 2 slot 9) && ltb (getD slot 11 0) (m .phase) && leb (length (historyIn slot)) 63 in
+    let size : sizeOf (selectionAt slot) ≤ length slot = rw is at (read-fits slot m read) in
     record {
       same = sym (ap (λ b. ballotOf b .entries) is);
-      few = omega (arith, few, entries-count (getD slot 12 0) (drop 13 slot));
-      rises = ok-later 0 (m .phase) 64 (historyIn slot) (omega arith) (rising .1);
+      fits = omega (arith, size, entries-count (getD slot 12 0) (drop 13 slot));
+      rises = ok-later 0 (m .phase) 64 (historyIn slot) (omega arith)
+          (both-true scalars (entriesOk 0 (m .phase) (historyIn slot)) bounds .1);
     }
 
-pub heard-shown : (run phase : ℕ) (slot : List ℕ) (m : Ballot) → counted run phase 1 (readOf slot) ≡ some m
+pub selection-shown : (run phase : ℕ) (slot : List ℕ) (m : Ballot) → counted run phase 1 (readOf slot) ≡ some m
     → Shown slot m
-heard-shown run phase slot m e = by-reading (readOf slot) refl e
-  where
-    same-ballot : (a b : Ballot) → some a ≡ some b → a ≡ b
-    same-ballot a b e = cc
-
-    by-run : (k : Message) → readOf slot ≡ accepted k → (b : Bool) → isOf run phase 1 k ≡ b
-        → cond b (some (ballotOf (k .body))) none ≡ some m → Shown slot m
-    by-run k read true of e =
-        let place = both-true (eqb (k .run) run && eqb (kindOf (k .body)) 1) (eqb (k .phase) phase) of in
-        let kind = eqb-true _ _ (both-true (eqb (k .run) run) (eqb (kindOf (k .body)) 1) (place .0) .1) in
-        rw (sym (same-ballot _ _ e)) (message-shown slot k read kind)
-    by-run k read false of e = absurd (let z : _≡_ {A = ℕ} 0 1 = cc in omega arith)
-
-    by-reading : (o : Outcome Message) → readOf slot ≡ o → counted run phase 1 o ≡ some m → Shown slot m
-    by-reading (accepted k) read e = by-run k read (isOf run phase 1 k) refl e
-    by-reading (refused number) read e = absurd (let z : _≡_ {A = ℕ} 0 1 = cc in omega arith)
+selection-shown run phase slot m e =
+    let c = counted-message run phase 1 slot m e in
+    let k = c .message in
+    let place = both-true (eqb (k .run) run && eqb (kindOf (k .body)) 1) (eqb (k .phase) phase) (c .coming) in
+    let kind = eqb-true _ _ (both-true (eqb (k .run) run) (eqb (kindOf (k .body)) 1) (place .0) .1) in
+    rw (sym (c .says)) (message-shown slot k (c .read) kind)

@@ -1,20 +1,21 @@
--- `slot_lists` meets its contract. The invariant: the first i entries tell what all that can be of the phase tell.
+-- `look_up` meets its contract. The invariant: the first i entries tell what all that can be of the phase tell.
 use mathlib.Core.Path.{_≡_, refl, sym, _∙_}
-use Prim.Native.Nat.{_≤_}
+use Prim.Native.Nat.{_+_, _*_, _≤_}
+use lib.ListN.{length}
 use native.Mathlib.Omega.{arith}
 use borrow.Author.Needs.{needs}
 use denote.Ref.{now}
-use Rattle.inbox.proofs.Finding.{found-here, found-before}
-use Rattle.inbox.specs.Lookup.{entriesUntil, found}
-use Rattle.inbox.proofs.slot_lists.Statement.{statement}
-use Rattle.inbox.proofs.slot_lists.Tie as tie
+use Rattle.message.proofs.LookupTurns.{lookup-here, lookup-before}
+use Rattle.message.specs.Lookup.{entriesUntil, lookedUp}
+use Rattle.message.proofs.look_up.Statement.{statement}
+use Rattle.message.proofs.look_up.Tie as tie
 
 abbrev Inv-loop : tie.InvT-loop
-Inv-loop slot plan phase i₀ i =
-    (i ≤ 63) × (found slot plan phase i ≡ found slot plan phase (entriesUntil slot phase))
+Inv-loop s plan phase i₀ i =
+    (13 + 3 * i ≤ length s) × (lookedUp s plan phase i ≡ lookedUp s plan phase (entriesUntil s phase))
 
 abbrev μ-loop : tie.MeasureT-loop
-μ-loop slot plan phase i₀ i = i
+μ-loop s plan phase i₀ i = i
 
 entries-until-requires : tie.Need-entries-until-requires Inv-loop μ-loop
 entries-until-requires c κs = search needs
@@ -49,7 +50,7 @@ returns c =
     let a = b4 .before .before .before .before .args in
     let l = b4 .before .loop in
     rw (c .u16-at .ensures)
-    (sym (found-here (now (a .slot)) (a .plan) (a .phase) (l .i) (b4 .loop-test .taken) (c .before .before .if1 .taken))
+    (sym (lookup-here (now (a .s)) (a .plan) (a .phase) (l .i) (b4 .loop-test .taken) (c .before .before .if1 .taken))
     ∙ l .inv .1)
 
 sub-i : tie.Need-sub-i Inv-loop μ-loop
@@ -64,18 +65,18 @@ loop-again c =
     let a = b2 .before .before .before .before .args in
     let l = b2 .before .loop in (
       omega arith,
-      sym (found-before (now (a .slot)) (a .plan) (a .phase) (l .i) (b2 .loop-test .taken) (c .if1 .left))
+      sym (lookup-before (now (a .s)) (a .plan) (a .phase) (l .i) (b2 .loop-test .taken) (c .if1 .left))
           ∙ l .inv .1,
     )
 
 returns-2 : tie.Need-returns-2 Inv-loop μ-loop
-unfolding found
+unfolding lookedUp
 returns-2 c =
     let none : c .before .loop .i ≡ 0 = omega (arith, c .loop-test .left) in
     rw none at (c .before .loop .inv .1)
 
-pub slot-lists-spec : {M : Type 1} → statement M
-slot-lists-spec =
+pub look-up-spec : {M : Type 1} → statement M
+look-up-spec =
     tie.close
     (tie.spec
     Inv-loop

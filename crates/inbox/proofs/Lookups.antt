@@ -1,5 +1,5 @@
--- The entry that is looked up is the one that is listed: where the phases of a slot's entries rise, the last entry that
--- is not after a phase tells whether the plan is listed at it.
+-- Looking an entry up tells whether it is listed: where the phases of a slot's entries rise, the last entry that is not
+-- after a phase tells whether the plan is listed at it.
 -- Assumes nothing.
 use mathlib.Core.Path.{_≡_, refl, sym, ap, _∙_}
 use mathlib.Core.Bool.{Bool, true, false, cond}
@@ -8,7 +8,7 @@ use mathlib.Core.Logic.{_≢_}
 use Prim.Native.Nat.{ℕ, zero, suc, _+_, _*_, _-_, _<_, _≤_}
 use native.Mathlib.Omega.{arith}
 use lib.Dec.{leb, ltb}
-use lib.ListN.{getD, drop}
+use lib.ListN.{length, getD, drop}
 use borrow.Author.Tests.{leb-true, leb-false, ne-eqb}
 use Rattle.wire.specs.Entry.{Entry}
 use Rattle.wire.specs.Bytes.{numberAt}
@@ -18,10 +18,10 @@ use Rattle.message.proofs.EntryLaws.{entries-next}
 use Rattle.ballot.specs.Count.{bit, countIf}
 use Rattle.ballot.specs.Ballot.{isEntry}
 use Rattle.inbox.specs.Columns.{historyIn}
-use Rattle.inbox.specs.Lookup.{entriesUntil, found}
-use Rattle.inbox.proofs.Rising.{rising}
+use Rattle.message.specs.Lookup.{entriesUntil, lookedUp, listsIn}
+use Rattle.inbox.proofs.Rising.{first-kept}
 
--- entry i of those from a place on
+-- entry i of those from a place on; from place 13 on it is `listedAt`
 abbrev at : List ℕ → ℕ → ℕ → Entry
 at s place i = record { phase = getD s (place + 3 * i) 0; plan = numberAt 2 s (place + 3 * i + 1) }
 
@@ -69,10 +69,10 @@ module _ (s : List ℕ) where
       → least + i ≤ at s place i .phase
   phase-from least phase zero place i ok less = absurd (omega arith)
   phase-from least phase (suc k) place zero ok less =
-      let r = rising least phase _ _ (rw (entries-next k place s) at ok) in
+      let r = first-kept least phase _ _ (rw (entries-next k place s) at ok) in
       omega (arith, r .from, ap phase-of (at-first s place))
   phase-from least phase (suc k) place (suc i) ok less =
-      let r = rising least phase _ _ (rw (entries-next k place s) at ok) in
+      let r = first-kept least phase _ _ (rw (entries-next k place s) at ok) in
       let later = phase-from (getD s place 0 + 1) phase k (place + 3) i (r .rest) (omega arith) in
       omega (arith, r .from, later, ap phase-of (at-next s place i))
 
@@ -82,33 +82,33 @@ module _ (s : List ℕ) where
   phases-rise least phase zero place i j ok before less = absurd (omega arith)
   phases-rise least phase (suc k) place i zero ok before less = absurd (omega arith)
   phases-rise least phase (suc k) place zero (suc j) ok before less =
-      let r = rising least phase _ _ (rw (entries-next k place s) at ok) in
+      let r = first-kept least phase _ _ (rw (entries-next k place s) at ok) in
       let later = phase-from (getD s place 0 + 1) phase k (place + 3) j (r .rest) (omega arith) in
       omega (arith, later, ap phase-of (at-first s place), ap phase-of (at-next s place j))
   phases-rise least phase (suc k) place (suc i) (suc j) ok before less =
-      let r = rising least phase _ _ (rw (entries-next k place s) at ok) in
+      let r = first-kept least phase _ _ (rw (entries-next k place s) at ok) in
       let earlier = phases-rise (getD s place 0 + 1) phase k (place + 3) i j (r .rest) (omega arith) (omega arith) in
       omega (arith, earlier, ap phase-of (at-next s place i), ap phase-of (at-next s place j))
 
 module _ (slot : List ℕ) (plan phase : ℕ) where
   -- how often the first i entries list the plan at the phase
-  abbrev listed : ℕ → ℕ
-  listed i = countIf (isEntry phase plan) (entriesIn i (drop 13 slot))
+  abbrev times : ℕ → ℕ
+  times i = countIf (isEntry phase plan) (entriesIn i (drop 13 slot))
 
   -- an entry of another phase adds nothing
-  other-adds : (i : ℕ) → listedAt slot i .phase ≢ phase → listed (suc i) ≡ listed i
+  other-adds : (i : ℕ) → listedAt slot i .phase ≢ phase → times (suc i) ≡ times i
   other-adds i other =
       let none : bit (isEntry phase plan (listedAt slot i)) ≡ 0 = rw (ne-eqb _ _ other) in
       omega (arith, count-more slot (isEntry phase plan) i 13, none)
 
-  none-listed : (i : ℕ) → ((j : ℕ) → j < i → listedAt slot j .phase ≢ phase) → listed i ≡ 0
+  none-listed : (i : ℕ) → ((j : ℕ) → j < i → listedAt slot j .phase ≢ phase) → times i ≡ 0
   unfolding countIf entriesIn
   none-listed zero others = refl
   none-listed (suc i) others =
       other-adds i (others i (omega arith)) ∙ none-listed i (λ j less. others j (omega arith))
 
   others-add : (i more : ℕ) → ((j : ℕ) → i ≤ j → j < i + more → listedAt slot j .phase ≢ phase)
-      → listed (i + more) ≡ listed i
+      → times (i + more) ≡ times i
   others-add i zero others =
       let same : i + 0 ≡ i = omega arith in
       rw same
@@ -122,17 +122,17 @@ module _ (slot : List ℕ) (plan phase : ℕ) where
     count = getD slot 12 0
 
     -- the last of the first i entries that is not after the phase tells whether one of them lists the plan
-    found-listed : (i : ℕ) → i ≤ count → found slot plan phase i ≡ ltb 0 (listed i)
-    unfolding found
-    found-listed zero few = ap (ltb 0) (sym (none-listed 0 (λ j less. absurd (omega arith))))
-    found-listed (suc i) few = go (found-listed i (omega arith)) (leb (listedAt slot i .phase) phase) refl
+    lookup-first : (i : ℕ) → i ≤ count → lookedUp slot plan phase i ≡ ltb 0 (times i)
+    unfolding lookedUp
+    lookup-first zero few = ap (ltb 0) (sym (none-listed 0 (λ j less. absurd (omega arith))))
+    lookup-first (suc i) few = go (lookup-first i (omega arith)) (leb (listedAt slot i .phase) phase) refl
       where
         positive : (b : Bool) → b ≡ ltb 0 (bit b)
         positive true = refl
         positive false = refl
 
-        go : found slot plan phase i ≡ ltb 0 (listed i) → (b : Bool) → leb (listedAt slot i .phase) phase ≡ b
-            → cond b (isEntry phase plan (listedAt slot i)) (found slot plan phase i) ≡ ltb 0 (listed (suc i))
+        go : lookedUp slot plan phase i ≡ ltb 0 (times i) → (b : Bool) → leb (listedAt slot i .phase) phase ≡ b
+            → cond b (isEntry phase plan (listedAt slot i)) (lookedUp slot plan phase i) ≡ ltb 0 (times (suc i))
         go earlier true here =
             let at-most : listedAt slot i .phase ≤ phase = leb-true _ _ here in
             let before = none-listed i (λ j less same. omega (
@@ -141,7 +141,7 @@ module _ (slot : List ℕ) (plan phase : ℕ) where
               same,
               phases-rise slot 0 64 count 13 j i ok less (omega arith),
             )) in
-            let sum : bit (isEntry phase plan (listedAt slot i)) ≡ listed (suc i) =
+            let sum : bit (isEntry phase plan (listedAt slot i)) ≡ times (suc i) =
             omega (arith, count-more slot (isEntry phase plan) i 13, before) in
             positive (isEntry phase plan (listedAt slot i)) ∙ ap (ltb 0) sum
         go earlier false after =
@@ -149,16 +149,16 @@ module _ (slot : List ℕ) (plan phase : ℕ) where
             earlier ∙ ap (ltb 0) (sym (other-adds i (λ same. omega (arith, above, same))))
 
     -- and no entry after those that can be of the phase does
-    pub lookup-listed : count ≤ 63
-        → found slot plan phase (entriesUntil slot phase) ≡ ltb 0 (countIf (isEntry phase plan) (historyIn slot))
-    lookup-listed few =
+    pub lookup-listed : 13 + 3 * count ≤ length slot
+        → listsIn slot plan phase ≡ ltb 0 (countIf (isEntry phase plan) (historyIn slot))
+    lookup-listed fits =
         let k = entriesUntil slot phase in
         let more : ℕ = count - k in
         let all : k + more ≡ count = omega arith in
-        found-listed k (omega arith)
+        lookup-first k (omega arith)
         ∙ ap (ltb 0) (sym (others-add k more (λ j from less same. omega (
           arith,
           same,
           phase-from slot 0 64 count 13 j ok (omega arith),
         )))
-        ∙ ap listed all)
+        ∙ ap times all)
