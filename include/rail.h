@@ -33,7 +33,7 @@ extern "C" {
 #define RAIL_UNSOUND 7         /* record not sound; also asking outside round 1 */
 #define RAIL_SPENT 8           /* all 63 phases are over */
 #define RAIL_SHORT 9           /* buffer shorter than the message */
-#define RAIL_CUT 10            /* the slice ends before the message, or before its header */
+#define RAIL_CUT 10            /* the slice ends before the message or its header, or the length is under 9 */
 #define RAIL_KIND 11           /* kind not 1 to 3 */
 #define RAIL_LENGTH 12         /* length not that of the kind */
 #define RAIL_BOUND 13          /* a field out of its bounds */

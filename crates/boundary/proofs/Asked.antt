@@ -1,5 +1,5 @@
--- What a caller makes of an answer to asking: 0 is 'none', 65,536 is 'any', every other value a plan. No plan is 0 or
--- above 65,535, so that is the choice which the engine answers.
+-- What a caller makes of an answer to asking: 0 is 'none', 65,536 is 'any', every other value a plan. Where the inbox
+-- holds bytes no plan is 0 or above 65,535, so that is the choice which the engine answers.
 -- Assumes nothing.
 use mathlib.Core.Path.{_≡_, refl, subst}
 use mathlib.Core.Bool.{cond, _&&_}
@@ -24,6 +24,7 @@ use Rattle.rounds.specs.Asking.{askOf}
 use Rattle.image.specs.Layout.{recordIn, imageFits}
 use Rattle.boundary.specs.Answers.{choiceNumber, askFrom}
 
+-- the choice that a caller reads from a value
 abbrev pub choiceAt : ℕ → Choice
 choiceAt value = cond (eqb value 0) nothing (cond (eqb value 65536) any (plan value))
 
@@ -37,6 +38,7 @@ voted-told d inbox bytes (plan v) voted =
 voted-told d inbox bytes any voted = refl
 voted-told d inbox bytes nothing voted = refl
 
+-- it is the one that asking answers
 pub ask-told : (image inbox : List ℕ) → AreBytes inbox → (c : Choice) → askFrom image inbox ≡ accepted c
     → choiceAt (choiceNumber c) ≡ c
 unfolding askOf

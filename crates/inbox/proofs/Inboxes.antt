@@ -4,10 +4,9 @@ use mathlib.Core.Path.{_≡_, sym, ap, _∙_}
 use mathlib.Core.Bool.{true, false}
 use mathlib.Core.List.{List}
 use mathlib.Core.Option.{Option, some}
-use Prim.Native.Nat.{ℕ, _+_, _*_, _/_, _≤_, _<_}
+use Prim.Native.Nat.{ℕ, _*_, _/_, _≤_, _<_}
 use native.Mathlib.Omega.{arith}
 use lib.ListN.{length, getD}
-use Rattle.message.specs.Bounds.{entriesOk}
 use Rattle.message.specs.Reading.{readOf}
 use Rattle.wire.specs.Entry.{Entry}
 use Rattle.ballot.specs.Count.{gather}
@@ -19,6 +18,7 @@ use Rattle.inbox.specs.Columns.{
   slotsIn,
   filled,
   entriesOf,
+  Listable,
   historiesIn,
   rowOf,
   slotOf,
@@ -61,13 +61,12 @@ module _ (run phase : ℕ) (bytes : List ℕ) where
   pub selections-list : Histories (historiesIn bytes) selections
   selections-list q m e = selection-shown run phase (slotAt bytes q) m e .same
 
-  -- in a slot that is present the entries have room, and their phases rise
-  pub selections-rise : (n : ℕ) (read : Columns) → n ≤ 32 → length bytes ≡ 202 * n
+  -- a slot that is present can be looked up in
+  pub selections-listable : (n : ℕ) (read : Columns) → n ≤ 32 → length bytes ≡ 202 * n
       → read ≡ filled empty selections (slotsIn (length bytes)) → (q : ℕ) → q < n
       → getD (read .present) q false ≡ true
-      → (13 + 3 * getD (slotAt bytes q) 12 0 ≤ length (slotAt bytes q)) × (entriesOk 0 64 (historiesIn bytes q) ≡ true)
-  selections-rise n read room long is q less present =
+      → Listable (slotAt bytes q)
+  selections-listable n read room long is q less present =
       let said : some (rowOf read (historiesIn bytes) q) ≡ selections q =
       rw present at (slots-mean selections bytes n read room long is (historiesIn bytes) selections-list q less) in
-      let shown = selection-shown run phase (slotAt bytes q) _ (sym said) in
-      (shown .fits, shown .rises)
+      selection-shown run phase (slotAt bytes q) _ (sym said) .listable

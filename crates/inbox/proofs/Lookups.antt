@@ -25,7 +25,7 @@ use Rattle.inbox.proofs.Rising.{first-kept}
 abbrev at : List ℕ → ℕ → ℕ → Entry
 at s place i = record { phase = getD s (place + 3 * i) 0; plan = numberAt 2 s (place + 3 * i + 1) }
 
--- it is the entry before it of those from the next place on
+-- entry i from the next place on is entry i + 1 from this one
 at-next : (s : List ℕ) (place i : ℕ) → at s (place + 3) i ≡ at s place (suc i)
 at-next s place i =
     let same : place + 3 + 3 * i ≡ place + 3 * suc i = omega arith in

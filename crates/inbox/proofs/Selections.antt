@@ -5,7 +5,7 @@ use mathlib.Core.Path.{_≡_, refl, sym, ap, _∙_}
 use mathlib.Core.Bool.{Bool, true, false, cond, _&&_}
 use mathlib.Core.List.{List}
 use mathlib.Core.Option.{some}
-use Prim.Native.Nat.{ℕ, _+_, _*_, _≤_}
+use Prim.Native.Nat.{ℕ, _≤_}
 use native.Mathlib.Omega.{arith}
 use lib.Dec.{leb, ltb, eqb}
 use lib.ListN.{length, getD, drop}
@@ -21,14 +21,13 @@ use Rattle.message.proofs.EntryLaws.{entries-count}
 use Rattle.message.proofs.ReadLaws.{read-passes, read-fits}
 use Rattle.ballot.specs.Ballot.{Ballot}
 use Rattle.inbox.specs.Inbox.{ballotOf, counted}
-use Rattle.inbox.specs.Columns.{historyIn}
+use Rattle.inbox.specs.Columns.{historyIn, Listable}
 use Rattle.inbox.proofs.Counted.{counted-message}
 use Rattle.inbox.proofs.Rising.{ok-later}
 
 pub record Shown (slot : List ℕ) (m : Ballot) : Type 0 where
   pub same : historyIn slot ≡ m .entries
-  pub fits : 13 + 3 * getD slot 12 0 ≤ length slot
-  pub rises : entriesOk 0 64 (historyIn slot) ≡ true
+  pub listable : Listable slot
 
 -- a body of kind 1 that stands after the header is a selection's
 selection-body : (slot : List ℕ) → kindOf (bodyAt slot) ≡ 1 → bodyAt slot ≡ selectionAt slot
@@ -56,9 +55,11 @@ message-shown slot m read kind =
     let size : sizeOf (selectionAt slot) ≤ length slot = rw is at (read-fits slot m read) in
     record {
       same = sym (ap (λ b. ballotOf b .entries) is);
-      fits = omega (arith, size, entries-count (getD slot 12 0) (drop 13 slot));
-      rises = ok-later 0 (m .phase) 64 (historyIn slot) (omega arith)
-          (both-true scalars (entriesOk 0 (m .phase) (historyIn slot)) bounds .1);
+      listable = (
+        omega (arith, size, entries-count (getD slot 12 0) (drop 13 slot)),
+        ok-later 0 (m .phase) 64 (historyIn slot) (omega arith)
+            (both-true scalars (entriesOk 0 (m .phase) (historyIn slot)) bounds .1),
+      );
     }
 
 pub selection-shown : (run phase : ℕ) (slot : List ℕ) (m : Ballot) → counted run phase 1 (readOf slot) ≡ some m

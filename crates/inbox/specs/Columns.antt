@@ -2,13 +2,15 @@
 -- A column of presence, one of votes and one of stamps. The entries of a history stay in the slot: reading has tested
 -- them there, and the one rule that looks at histories looks up single entries.
 -- What the crates below rounds promise each other: no public contract of rounds cites this file.
-use Prim.Native.Nat.{ℕ, zero, suc, _/_, min}
+use Prim.Native.Nat.{ℕ, zero, suc, _+_, _*_, _/_, _≤_, min}
+use mathlib.Core.Path.{_≡_}
 use mathlib.Core.Bool.{Bool, true, false, cond, _&&_}
 use mathlib.Core.List.{List, []}
 use mathlib.Core.Option.{Option, none, some}
 use lib.Dec.{ltb}
 use lib.ListN.{length, getD, set, replicate, drop}
 use Rattle.wire.specs.Entry.{Entry}
+use Rattle.message.specs.Bounds.{entriesOk}
 use Rattle.message.specs.Reading.{entriesIn}
 use Rattle.message.specs.Lookup.{listsIn}
 use Rattle.ballot.specs.Count.{gather}
@@ -52,6 +54,10 @@ entriesOf (some m) = m .entries
 -- the entries of a selection, as they stand in its slot
 abbrev pub historyIn : List ℕ → List Entry
 historyIn slot = entriesIn (getD slot 12 0) (drop 13 slot)
+
+-- a slot that a history can be looked up in: its entries have room in it, and their phases rise
+abbrev pub Listable : List ℕ → Type 0
+Listable slot = (13 + 3 * getD slot 12 0 ≤ length slot) × (entriesOk 0 64 (historyIn slot) ≡ true)
 
 -- the histories of an inbox of selections, by slot
 abbrev pub historiesIn : List ℕ → ℕ → List Entry

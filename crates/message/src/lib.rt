@@ -1,6 +1,7 @@
 // Messages: their layout and bounds, and reading any bytes. It knows nothing of crews.
 // What a slice is read to stands in specs/Reading.antt, a message's bytes in specs/Encoding.antt, its bounds in
-// specs/Bounds.antt. Crate writer writes messages; that reading and writing undo each other is proved in crate codec.
+// specs/Bounds.antt, looking an entry up in specs/Lookup.antt. Crate writer writes messages; that reading and writing
+// undo each other is proved in crate codec.
 ghost use mathlib.Core.Path.{_≡_};
 ghost use Prim.Native.Nat.{_+_, _*_, _<_, _≤_, min};
 ghost use lib.ListN.{length, getD, drop};

@@ -3,7 +3,7 @@
 use mathlib.Core.Path.{_≡_, refl, sym, ap, ap₂, _∙_}
 use mathlib.Core.Bool.{Bool, true, false, cond}
 use mathlib.Core.List.{List}
-use Prim.Native.Nat.{ℕ}
+use Prim.Native.Nat.{ℕ, _<_}
 use lib.Dec.{ltb}
 use Rattle.crew.specs.declared.Crew.{Crew}
 use Rattle.crew.specs.Thresholds.{Class, one, two, three, anyAbove}
@@ -17,20 +17,29 @@ use Rattle.tally.proofs.Polling.{voteAt, onSlot, backing-polled, backin
 use Rattle.tally.proofs.Ruling.{counting, unstamped}
 
 module _ (crew : Crew) (read : Columns) (h : ℕ → List Entry) (n : ℕ) where
+  -- by a test that singles the backed slots out, and by marks that do
+  pub selection-tested : (class : Class) (test : ℕ → Bool) (votes : Backing) (slots : Bool) (choice : Choice)
+      → ((q : ℕ) → q < n → test q ≡ onSlot read h (backed class crew (polled read h n)) q)
+      → choice ≡ answer class votes slots
+      → votes ≡ backingMarked test (voteAt read h) n
+      → slots ≡ enough class crew (polled read h n)
+      → choice ≡ selection class crew (polled read h n)
+  unfolding selection
+  selection-tested class test votes slots choice are is is-votes is-enough =
+      let backs = backed class crew (polled read h n) in
+      is
+      ∙ ap₂ (answer class)
+      (is-votes
+      ∙ backing-same test (onSlot read h backs) (voteAt read h) n are
+      ∙ sym (backing-polled read h n backs)) is-enough
+
   pub selection-marked : (class : Class) (marks : List Bool) (votes : Backing) (slots : Bool) (choice : Choice)
       → Marks marks n (onSlot read h (backed class crew (polled read h n)))
       → choice ≡ answer class votes slots
       → votes ≡ backingMarked (marked marks) (voteAt read h) n
       → slots ≡ enough class crew (polled read h n)
       → choice ≡ selection class crew (polled read h n)
-  unfolding selection
-  selection-marked class marks votes slots choice are is is-votes is-enough =
-      let test = backed class crew (polled read h n) in
-      is
-      ∙ ap₂ (answer class)
-      (is-votes
-      ∙ backing-same (marked marks) (onSlot read h test) (voteAt read h) n are
-      ∙ sym (backing-polled read h n test)) is-enough
+  selection-marked class marks = selection-tested class (marked marks)
 
   pub enough-one : (count : ℕ) → count ≡ tally (marked (read .present)) n
       → ltb (anyAbove one crew) count ≡ enough one crew (polled read h n)

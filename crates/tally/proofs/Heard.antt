@@ -1,20 +1,22 @@
 -- The columns that an inbox was read into, for the rules: their ballots are those that the node hears.
 -- Assumes nothing.
-use mathlib.Core.Path.{_≡_}
+use mathlib.Core.Path.{_≡_, sym, ap, _∙_}
 use mathlib.Core.List.{List}
 use mathlib.Core.Option.{Option}
 use Prim.Native.Nat.{ℕ, _≤_}
 use native.Mathlib.Omega.{arith}
 use lib.ListN.{length}
 use Rattle.crew.specs.declared.Crew.{Crew}
+use Rattle.crew.specs.Thresholds.{classOf}
 use Rattle.message.specs.Reading.{readOf}
 use Rattle.ballot.specs.Ballot.{Ballot}
+use Rattle.ballot.specs.Selection.{Choice, selection}
 use Rattle.inbox.specs.Inbox.{slotAt, counted}
 use Rattle.inbox.specs.Columns.{Columns, empty, slotsIn, filled, entriesOf, historiesIn, polled}
-use Rattle.inbox.proofs.Inboxes.{polled-slots, own-histories, selections-list, selections-rise}
-use Rattle.tally.specs.Marks.{Rising}
-use Rattle.tally.specs.Rules.{heard}
-use Rattle.tally.proofs.Countable.{Countable}
+use Rattle.inbox.proofs.Inboxes.{polled-slots, own-histories, selections-list, selections-listable}
+use Rattle.tally.specs.Marks.{AllListable}
+use Rattle.tally.specs.Rules.{heard, choiceOf}
+use Rattle.tally.proofs.Countable.{Countable, facts-countable, choice-rule}
 
 module _ (crew : Crew) (run phase : ℕ) (bytes : List ℕ) (read : Columns) (facts : Countable crew (length bytes)) where
   abbrev slots : ℕ → ℕ → Option Ballot
@@ -37,10 +39,19 @@ module _ (crew : Crew) (run phase : ℕ) (bytes : List ℕ) (read : Columns) (fa
   -- what selection asks of the columns and the inbox
   pub ready : ReadTo 1
       → (crew .n ≤ 32) × (crew .d ≤ crew .n) × (crew .n ≤ slotsIn (length bytes))
-      × Rising (read .present) bytes (crew .n)
+      × AllListable (read .present) bytes (crew .n)
   ready is = (
     facts .places,
     facts .within,
     omega (arith, facts .places, facts .whole),
-    selections-rise run phase bytes (crew .n) read (facts .places) (facts .whole) is,
+    selections-listable run phase bytes (crew .n) read (facts .places) (facts .whole) is,
   )
+
+  -- what class by class is chosen from these columns is the choice
+  pub chosen : ReadTo 1 → (choice : Choice)
+      → choice ≡ selection (classOf crew) crew (polled read (historiesIn bytes) (crew .n))
+      → choice ≡ choiceOf crew run phase bytes
+  chosen is choice e =
+      e
+      ∙ ap (selection (classOf crew) crew) (polled-selections is)
+      ∙ sym (choice-rule crew run phase bytes (facts-countable crew (length bytes) facts))

@@ -11,10 +11,10 @@ use Rattle.ballot.specs.Ballot.{lists}
 use Rattle.inbox.specs.Inbox.{slotAt}
 use Rattle.inbox.specs.Columns.{Columns, slotsIn, historiesIn, rowOf, listsAt}
 use Rattle.inbox.proofs.Lookups.{lookup-listed}
-use Rattle.tally.specs.Marks.{marked, listing, Rising}
+use Rattle.tally.specs.Marks.{marked, listing, AllListable}
 
 pub listing-rows : (read : Columns) (bytes : List ℕ) (n : ℕ) → n ≤ slotsIn (length bytes)
-    → Rising (read .present) bytes n → (v t q : ℕ) → q < n
+    → AllListable (read .present) bytes n → (v t q : ℕ) → q < n
     → (marked (read .present) q && lists v t (rowOf read (historiesIn bytes) q)) ≡ listing (read .present) bytes v t q
 unfolding lists
 listing-rows read bytes n room rises v t q less = by-presence (marked (read .present) q) refl

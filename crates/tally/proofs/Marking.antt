@@ -1,6 +1,6 @@
 -- What the loops that mark slots, and those that look for the least vote and the highest count, go by.
 -- Assumes nothing.
-use mathlib.Core.Path.{_≡_, refl, ap₂, _∙_}
+use mathlib.Core.Path.{_≡_, refl, ap, ap₂, _∙_}
 use mathlib.Core.Bool.{Bool, true, false, cond, _&&_}
 use mathlib.Core.List.{List}
 use mathlib.Core.Option.{Option, none, some}
@@ -13,7 +13,7 @@ use lib.Seq.{getD-set-same, getD-set-other}
 use borrow.Author.Tests.{ltb-true, ltb-false}
 use Rattle.wire.proofs.Tests.{by-equality}
 use Rattle.ballot.specs.Least.{lower, orZero}
-use Rattle.tally.specs.Marks.{Marks, Counts, orTop, leastMarked, highest}
+use Rattle.tally.specs.Marks.{Marks, Counts, marked, over, orTop, leastMarked, highest}
 
 -- one slot more of a column is as it should be
 column-next : {A : Type 0} (column : List A) (q : ℕ) (is : ℕ → A) (here other : A) → q < length column
@@ -32,6 +32,21 @@ marks-next marks q test mark = column-next marks q test mark false
 pub counts-next : (counts : List ℕ) (q : ℕ) (number : ℕ → ℕ) (count : ℕ) → q < length counts
     → Counts counts q number → count ≡ number q → Counts (set counts q count) (q + 1) number
 counts-next counts q number count = column-next counts q number count 0
+
+-- a slot that is present was counted last, so that its mark goes by its own count
+pub over-next : (present : List Bool) (number : ℕ → ℕ) (threshold q last count : ℕ)
+    → count ≡ number (cond (marked present q) q last)
+    → (marked present q && ltb threshold count) ≡ over present number threshold q
+over-next present number threshold q last count = go (marked present q)
+  where
+    go : (here : Bool) → count ≡ number (cond here q last)
+        → (here && ltb threshold count) ≡ (here && ltb threshold (number q))
+    go true is = ap (ltb threshold) is
+    go false is = refl
+
+pub either-below : (here : Bool) (a b bound : ℕ) → a < bound → b < bound → cond here a b < bound
+either-below true a b bound first second = first
+either-below false a b bound first second = second
 
 -- no marked slot, or its vote, as the loop's number says
 pub top-none : (o : Option ℕ) → 65536 ≤ orTop o → ((v : ℕ) → o ≡ some v → v < 65536) → 0 ≡ orZero o

@@ -1,20 +1,19 @@
 -- Counts over the columns: marks single out slots, and the rules count marked slots. The functions that run over the
 -- columns promise these numbers; proofs/ joins them to the rules of crate ballot.
 -- Promises of private functions: no public contract cites this file.
-use Prim.Native.Nat.{ℕ, zero, suc, _+_, _*_, _<_, _≤_, max}
+use Prim.Native.Nat.{ℕ, zero, suc, _<_, max}
 use mathlib.Core.Path.{_≡_}
 use mathlib.Core.Bool.{Bool, true, false, not, cond, _&&_, _||_}
 use mathlib.Core.List.{List}
 use mathlib.Core.Option.{Option, none, some}
-use lib.ListN.{length, getD}
+use lib.ListN.{getD}
 use lib.Dec.{ltb, eqb}
-use Rattle.message.specs.Bounds.{entriesOk}
 use Rattle.crew.specs.Thresholds.{Class, one, two, three}
 use Rattle.ballot.specs.Count.{tally}
 use Rattle.ballot.specs.Least.{lower}
 use Rattle.ballot.specs.Selection.{Backing, nobody, sole, several}
 use Rattle.inbox.specs.Inbox.{slotAt}
-use Rattle.inbox.specs.Columns.{historiesIn, listsAt}
+use Rattle.inbox.specs.Columns.{Listable, listsAt}
 use Rattle.tally.specs.declared.Backing.{Backing as DeclaredBacking}
 use Rattle.tally.specs.declared.Backing.the-variants.{Nobody, Sole, Several}
 
@@ -65,11 +64,9 @@ freshSlot three present stamps phase q = stampedWith present stamps phase q
 abbrev pub listing : List Bool → List ℕ → ℕ → ℕ → ℕ → Bool
 listing present bytes v phase q = marked present q && listsAt bytes q v phase
 
--- the slots that are present are selections: their entries have room in the slot, and the phases rise
-abbrev pub Rising : List Bool → List ℕ → ℕ → Type 0
-Rising present bytes n =
-    (q : ℕ) → q < n → marked present q ≡ true
-    → (13 + 3 * getD (slotAt bytes q) 12 0 ≤ length (slotAt bytes q)) × (entriesOk 0 64 (historiesIn bytes q) ≡ true)
+-- histories can be looked up in the slots that are present
+abbrev pub AllListable : List Bool → List ℕ → ℕ → Type 0
+AllListable present bytes n = (q : ℕ) → q < n → marked present q ≡ true → Listable (slotAt bytes q)
 
 -- a marked slot whose vote more than `threshold` slots list at its stamp
 abbrev pub listedAbove : List Bool → List Bool → List ℕ → List ℕ → List ℕ → ℕ → ℕ → ℕ → Bool
@@ -100,6 +97,17 @@ besidesMarked test vote n (some v) = cond (eqb (tally (besideIt test vote v) n) 
 
 abbrev pub backingMarked : (ℕ → Bool) → (ℕ → ℕ) → ℕ → Backing
 backingMarked test vote n = besidesMarked test vote n (leastMarked test vote n)
+
+-- one vote more; and whether it adds nothing
+abbrev pub joined : Backing → ℕ → Backing
+joined nobody v = sole v
+joined (sole u) v = cond (eqb u v) (sole u) several
+joined several v = several
+
+abbrev pub settled : Backing → ℕ → Bool
+settled nobody v = false
+settled (sole u) v = eqb u v
+settled several v = true
 
 -- the highest of the numbers of the marked slots below n, 0 where there is none
 unfoldable pub highest : (ℕ → Bool) → (ℕ → ℕ) → ℕ → ℕ

@@ -32,13 +32,15 @@ ghost use Rattle.tally.specs.Marks.{
   stampedWith,
   freshSlot,
   listing,
-  Rising,
+  AllListable,
   listedAbove,
   TopOf,
   leastMarked,
   besideIt,
   backingMarked,
   backingAs,
+  joined,
+  settled,
   highest,
 };
 ghost use Rattle.tally.specs.Rules.{countable, choiceAs, choiceOf, selected, validIn, decidedIn};
@@ -121,7 +123,8 @@ fn below_of(stamped: bool, stamp: u8) -> u8
     if stamped { stamp } else { 0 }
 }
 
-// How many marked slots support what slot q says. Where the slot before says the same, its count holds again.
+// How many marked slots support what slot q says. Where a slot that was counted before says the same, its count holds
+// again.
 fn count_next(
     marks: &[bool; 32],
     votes: &[u16; 32],
@@ -129,22 +132,54 @@ fn count_next(
     n: usize,
     stamped: bool,
     q: usize,
+    last: usize,
     before: u16,
 ) -> u16
-    requires { ⌜ (n ≤ 32) × (1 ≤ q) × (q < 32)
-        × (before ≡ supporters (now marks) (now votes) (now stamps) n stamped (q - 1)) ⌝ }
+    requires { ⌜ (n ≤ 32) × (q < 32) × (last < 32)
+        × (before ≡ supporters (now marks) (now votes) (now stamps) n stamped last) ⌝ }
     ensures { λ r. ⌜ r ≡ supporters (now (marks .entry)) (now (votes .entry)) (now (stamps .entry)) n stamped q ⌝ }
 {
     let below = below_of(stamped, stamps[q]);
-    let last = below_of(stamped, stamps[q - 1]);
-    let again = (votes[q] == votes[q - 1]) & (below == last);
+    let counted = below_of(stamped, stamps[last]);
+    let again = (votes[q] == votes[last]) & (below == counted);
     if again {
         return before;
     }
     count_supporting(marks, votes, stamps, n, votes[q], below)
 }
 
-// How many marked slots support what each slot says.
+// The slot that was counted last: slot q, or the one before it where slot q is absent.
+fn last_counted(present: bool, q: usize, last: usize) -> usize
+    ensures { λ r. ⌜ r ≡ cond present q last ⌝ }
+{
+    if present { q } else { last }
+}
+
+// Counts for slot q where it is present. An absent slot, of which nothing is asked, is passed over.
+fn count_present(
+    present: bool,
+    marks: &[bool; 32],
+    votes: &[u16; 32],
+    stamps: &[u8; 32],
+    n: usize,
+    stamped: bool,
+    q: usize,
+    last: usize,
+    before: u16,
+) -> u16
+    requires { ⌜ (n ≤ 32) × (q < 32) × (last < 32)
+        × (before ≡ supporters (now marks) (now votes) (now stamps) n stamped last) ⌝ }
+    ensures { λ r. ⌜ r ≡ supporters (now (marks .entry)) (now (votes .entry)) (now (stamps .entry)) n stamped
+        (cond present q last) ⌝ }
+{
+    if present {
+        return count_next(marks, votes, stamps, n, stamped, q, last, before);
+    }
+    before
+}
+
+// How many marked slots support what each slot says. Counts and marks are put into an array that the caller lends: an
+// answered one would be copied.
 fn count_each(
     counts: &mut [u16; 32],
     marks: &[bool; 32],
@@ -158,10 +193,12 @@ fn count_each(
         (supporters (now (marks .entry)) (now (votes .entry)) (now (stamps .entry)) n stamped) ⌝ }
 {
     let below = below_of(stamped, stamps[0]);
-    counts[0] = count_supporting(marks, votes, stamps, n, votes[0], below);
+    let mut count = count_supporting(marks, votes, stamps, n, votes[0], below);
+    counts[0] = count;
     let mut q = 1;
     while q < n {
-        counts[q] = count_next(marks, votes, stamps, n, stamped, q, counts[q - 1]);
+        count = count_next(marks, votes, stamps, n, stamped, q, q - 1, count);
+        counts[q] = count;
         q = q + 1;
     }
 }
@@ -204,9 +241,11 @@ fn mark_above(
     let below = below_of(stamped, stamps[0]);
     let mut count = count_supporting(marks, votes, stamps, n, votes[0], below);
     out[0] = present[0] & (threshold < count);
+    let mut last = 0;
     let mut q = 1;
     while q < n {
-        count = count_next(marks, votes, stamps, n, stamped, q, count);
+        count = count_present(present[q], marks, votes, stamps, n, stamped, q, last, count);
+        last = last_counted(present[q], q, last);
         out[q] = present[q] & (threshold < count);
         q = q + 1;
     }
@@ -242,67 +281,6 @@ fn is_listed(
         return threshold < count_listing(present, inbox, n, vote, stamp);
     }
     false
-}
-
-// The same of slot q. Where the slot before is marked and says the same, its answer holds again.
-fn is_next_listed(
-    marks: &[bool; 32],
-    present: &[bool; 32],
-    votes: &[u16; 32],
-    stamps: &[u8; 32],
-    inbox: &[u8],
-    n: usize,
-    threshold: u16,
-    q: usize,
-    before: bool,
-) -> bool
-    requires { ⌜ (n ≤ 32) × (1 ≤ q) × (q < 32)
-        × (before ≡ listedAbove (now marks) (now present) (now votes) (now stamps) (now inbox) n threshold
-        (q - 1)) ⌝ }
-    ensures { λ r. ⌜ r ≡ listedAbove (now (marks .entry)) (now (present .entry)) (now (votes .entry))
-        (now (stamps .entry)) (now (inbox .entry)) n threshold q ⌝ }
-{
-    let again = marks[q - 1] & (votes[q] == votes[q - 1]) & (stamps[q] == stamps[q - 1]);
-    if again {
-        return marks[q] & before;
-    }
-    is_listed(marks[q], present, inbox, n, votes[q], stamps[q], threshold)
-}
-
-// Marks, of the marked slots, each whose vote more than `threshold` slots list at its stamp.
-fn mark_listed(
-    out: &mut [bool; 32],
-    marks: &[bool; 32],
-    present: &[bool; 32],
-    votes: &[u16; 32],
-    stamps: &[u8; 32],
-    inbox: &[u8],
-    n: usize,
-    threshold: u16,
-)
-    requires { ⌜ (n ≤ 32) × (length (now out) ≡ 32) ⌝ }
-    ensures { λ _. ⌜ Marks (now (out .exit)) n
-        (listedAbove (now (marks .entry)) (now (present .entry)) (now (votes .entry)) (now (stamps .entry))
-        (now (inbox .entry)) n threshold) ⌝ }
-{
-    let mut listed = is_listed(marks[0], present, inbox, n, votes[0], stamps[0], threshold);
-    out[0] = listed;
-    let mut q = 1;
-    while q < n {
-        listed = is_next_listed(
-            marks,
-            present,
-            votes,
-            stamps,
-            inbox,
-            n,
-            threshold,
-            q,
-            listed,
-        );
-        out[q] = listed;
-        q = q + 1;
-    }
 }
 
 fn wide(x: u16) -> u32
@@ -410,6 +388,93 @@ fn backing_of(marks: &[bool; 32], votes: &[u16; 32], n: usize) -> Backing
     Backing::Nobody
 }
 
+// One vote more among those that are backed.
+fn with_vote(backing: Backing, vote: u16) -> Backing
+    ensures { λ r. ⌜ backingAs r ≡ joined (backingAs backing) vote ⌝ }
+{
+    match backing {
+        Backing::Nobody => Backing::Sole(vote),
+        Backing::Sole(plan) => {
+            if plan == vote {
+                return Backing::Sole(plan);
+            }
+            Backing::Several
+        }
+        Backing::Several => Backing::Several,
+    }
+}
+
+// Whether a vote adds nothing to those that are backed: it is the only one, or there are several anyway.
+fn is_settled(backing: Backing, vote: u16) -> bool
+    ensures { λ r. ⌜ r ≡ settled (backingAs backing) vote ⌝ }
+{
+    match backing {
+        Backing::Nobody => false,
+        Backing::Sole(plan) => plan == vote,
+        Backing::Several => true,
+    }
+}
+
+// With a slot's vote, where the slot is marked and more than `threshold` slots list its vote at its stamp. A vote that
+// adds nothing is not looked up.
+fn with_listed(
+    backing: Backing,
+    mark: bool,
+    present: &[bool; 32],
+    inbox: &[u8],
+    n: usize,
+    vote: u16,
+    stamp: u8,
+    threshold: u16,
+) -> Backing
+    requires { ⌜ n ≤ 32 ⌝ }
+    ensures { λ r. ⌜ backingAs r ≡ cond (mark && ltb threshold
+        (tally (listing (now (present .entry)) (now (inbox .entry)) vote stamp) n))
+        (joined (backingAs backing) vote) (backingAs backing) ⌝ }
+{
+    if is_settled(backing, vote) {
+        return backing;
+    }
+    if is_listed(mark, present, inbox, n, vote, stamp, threshold) {
+        return with_vote(backing, vote);
+    }
+    backing
+}
+
+// Which votes the marked slots have whose vote more than `threshold` slots list at its stamp.
+fn backing_listed(
+    marks: &[bool; 32],
+    present: &[bool; 32],
+    votes: &[u16; 32],
+    stamps: &[u8; 32],
+    inbox: &[u8],
+    n: usize,
+    threshold: u16,
+) -> Backing
+    requires { ⌜ n ≤ 32 ⌝ }
+    ensures { λ r. ⌜ backingAs r ≡ backingMarked
+        (listedAbove (now (marks .entry)) (now (present .entry)) (now (votes .entry)) (now (stamps .entry))
+        (now (inbox .entry)) n threshold)
+        (λ q. getD (now (votes .entry)) q 0) n ⌝ }
+{
+    let mut backing = Backing::Nobody;
+    let mut q = 0;
+    while q < n {
+        backing = with_listed(
+            backing,
+            marks[q],
+            present,
+            inbox,
+            n,
+            votes[q],
+            stamps[q],
+            threshold,
+        );
+        q = q + 1;
+    }
+    backing
+}
+
 fn any_if(enough: bool) -> Choice
     ensures { λ r. ⌜ choiceAs r ≡ anyIf enough ⌝ }
 {
@@ -501,7 +566,7 @@ fn choose_three(
     stamps: &[u8; 32],
 ) -> Choice
     requires { ⌜ (crew .n ≤ 32) × (crew .d ≤ crew .n) × (crew .n ≤ slotsIn (length (now inbox)))
-        × Rising (now present) (now inbox) (crew .n) ⌝ }
+        × AllListable (now present) (now inbox) (crew .n) ⌝ }
     ensures { λ r. ⌜ choiceAs r ≡ selection three crew
         (polled (columns (now (present .entry)) (now (votes .entry)) (now (stamps .entry)))
         (historiesIn (now (inbox .entry))) (crew .n)) ⌝ }
@@ -511,9 +576,7 @@ fn choose_three(
     let e = bound(crew);
     let mut possible = [false; SLOTS];
     mark_above(&mut possible, present, present, votes, stamps, n, e, true);
-    let mut backed = [false; SLOTS];
-    mark_listed(&mut backed, &possible, present, votes, stamps, inbox, n, b);
-    let backing = backing_of(&backed, votes, n);
+    let backing = backing_listed(&possible, present, votes, stamps, inbox, n, b);
     let mut unstamped = [false; SLOTS];
     mark_stamped(&mut unstamped, present, stamps, n, 0);
     answer_three(backing, e < count_marks(&unstamped, n))
@@ -528,7 +591,7 @@ fn choose_by_class(
     stamps: &[u8; 32],
 ) -> Choice
     requires { ⌜ (crew .n ≤ 32) × (crew .d ≤ crew .n) × (crew .n ≤ slotsIn (length (now inbox)))
-        × Rising (now present) (now inbox) (crew .n) ⌝ }
+        × AllListable (now present) (now inbox) (crew .n) ⌝ }
     ensures { λ r. ⌜ choiceAs r ≡ selection (classOf crew) crew
         (polled (columns (now (present .entry)) (now (votes .entry)) (now (stamps .entry)))
         (historiesIn (now (inbox .entry))) (crew .n)) ⌝ }

@@ -1,12 +1,10 @@
 -- `choose` meets its contract.
-use mathlib.Core.Path.{sym, ap, _∙_}
+use mathlib.Core.Path.{sym, _∙_}
 use lib.ListN.{length}
 use borrow.Author.Needs.{needs}
 use denote.Ref.{now}
-use Rattle.ballot.specs.Selection.{selection}
-use Rattle.crew.specs.Thresholds.{classOf}
-use Rattle.tally.proofs.Countable.{countable-facts, choice-rule}
-use Rattle.tally.proofs.Heard.{polled-selections, ready}
+use Rattle.tally.proofs.Countable.{countable-facts}
+use Rattle.tally.proofs.Heard.{ready, chosen}
 use Rattle.tally.specs.Rules.{choiceOf}
 use Rattle.tally.proofs.choose.Statement.{statement}
 use Rattle.tally.proofs.choose.Tie as tie
@@ -34,10 +32,7 @@ returns c =
     let bytes = now (a .inbox) in
     let ok = sym (b9 .is-countable .ensures) ∙ b4 .before .before .before .before .if1 .taken in
     let facts = countable-facts (a .crew) (length bytes) ok in
-    let same = polled-selections (a .crew) (a .run) (a .phase) bytes _ facts (b4 .read-slots .ensures) in
-    c .choose-by-class .ensures
-    ∙ ap (selection (classOf (a .crew)) (a .crew)) same
-    ∙ sym (choice-rule (a .crew) (a .run) (a .phase) bytes ok)
+    chosen (a .crew) (a .run) (a .phase) bytes _ facts (b4 .read-slots .ensures) _ (c .choose-by-class .ensures)
 
 returns-2 : tie.Need-returns-2
 unfolding choiceOf

@@ -3,10 +3,11 @@ use mathlib.Core.Path.{sym, _∙_}
 use borrow.Author.Needs.{needs}
 use denote.Ref.{now}
 use Rattle.crew.specs.Thresholds.{three}
-use Rattle.tally.proofs.Choosing.{selection-marked, enough-three}
+use Rattle.inbox.specs.Columns.{columns, historiesIn}
+use Rattle.tally.proofs.Choosing.{selection-tested, enough-three}
 use Rattle.tally.proofs.Listing.{listing-rows}
 use Rattle.tally.proofs.Ruling.{possible-slot, backed-three-slot}
-use Rattle.inbox.specs.Columns.{columns, historiesIn}
+use Rattle.tally.specs.Marks.{listedAbove}
 use Rattle.tally.proofs.choose_three.Statement.{statement}
 use Rattle.tally.proofs.choose_three.Tie as tie
 
@@ -22,11 +23,8 @@ bound-requires c κs = search needs
 mark-above-requires : tie.Need-mark-above-requires
 mark-above-requires c κs = search needs
 
-mark-listed-requires : tie.Need-mark-listed-requires
-mark-listed-requires c κs = search needs
-
-backing-of-requires : tie.Need-backing-of-requires
-backing-of-requires c κs = search needs
+backing-listed-requires : tie.Need-backing-listed-requires
+backing-listed-requires c κs = search needs
 
 mark-stamped-requires : tie.Need-mark-stamped-requires
 mark-stamped-requires c κs = search needs
@@ -40,26 +38,27 @@ answer-three-requires c κs = search needs
 returns : tie.Need-returns
 returns c =
     let b3 = c .before .before .before in
-    let b7 = b3 .before .before .before .before in
-    let b10 = b7 .before .before .before in
-    let b12 = b10 .before .before in
-    let start = b12 .before .before .before .before in
+    let b5 = b3 .before .before in
+    let b7 = b5 .before .before in
+    let b9 = b7 .before .before in
+    let start = b9 .before .before .before .before in
     let a = start .args in
     let crew = a .crew in
     let bytes = now (a .inbox) in
     let read = columns (now (a .present)) (now (a .votes)) (now (a .stamps)) in
     let h = historiesIn bytes in
-    let above = rw (b12 .bound .ensures .0) at (b10 .mark-above .ensures) in
+    let possible = b7 .mark-above .last .0 in
+    let above = rw (b9 .bound .ensures .0) at (b7 .mark-above .ensures) in
     let slots =
-    rw (← b12 .bound .ensures .0) at
+    rw (← b9 .bound .ensures .0) at
     (enough-three crew read h (crew .n) (c .before .count-marks .result) (b3 .mark-stamped .last .0)
     (c .before .count-marks .ensures .0) (b3 .mark-stamped .ensures)) in
-    selection-marked crew read h (crew .n) three (b7 .mark-listed .last .0) _ _ _
-    (λ q less. b7 .mark-listed .ensures q less
-    ∙ sym (backed-three-slot crew read h (crew .n) (b10 .mark-above .last .0)
+    selection-tested crew read h (crew .n) three
+    (listedAbove possible (read .present) (read .votes) (read .stamps) bytes (crew .n) (crew .b)) _ _ _
+    (λ q less. sym (backed-three-slot crew read h (crew .n) possible
     (λ k inside. above k inside ∙ sym (possible-slot crew read h (crew .n) k)) bytes
     (listing-rows read bytes (crew .n) (start .pre .2) (start .pre .3)) q less))
-    (c .answer-three .ensures) (b3 .before .before .backing-of .ensures) slots
+    (c .answer-three .ensures) (b5 .backing-listed .ensures) slots
 
 pub choose-three-spec : {M : Type 1} → statement M
 choose-three-spec =
@@ -69,8 +68,7 @@ choose-three-spec =
     cast-b
     bound-requires
     mark-above-requires
-    mark-listed-requires
-    backing-of-requires
+    backing-listed-requires
     mark-stamped-requires
     count-marks-requires
     answer-three-requires

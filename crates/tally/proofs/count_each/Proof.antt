@@ -1,6 +1,7 @@
--- `count_each` meets its contract. The invariant: the first q slots are counted, slot 0 at least.
-use mathlib.Core.Path.{_≡_, ap, _∙_}
-use Prim.Native.Nat.{_≤_, _-_}
+-- `count_each` meets its contract. The invariant: the first q slots are counted, slot 0 at least, and `count` is that
+-- of the last of them.
+use mathlib.Core.Path.{_≡_, sym, ap, _∙_}
+use Prim.Native.Nat.{_+_, _≤_, _-_}
 use native.Mathlib.Omega.{arith}
 use lib.ListN.{length, length-set, getD}
 use borrow.Author.Needs.{needs}
@@ -12,11 +13,15 @@ use Rattle.tally.proofs.count_each.Statement.{statement}
 use Rattle.tally.proofs.count_each.Tie as tie
 
 abbrev Inv-loop : tie.InvT-loop
-Inv-loop counts₀ marks votes stamps n stamped below q₀ counts q = (1 ≤ q) × (q ≤ 32) ×
-    (length counts ≡ 32) × Counts counts q (supporters marks votes stamps n stamped)
+Inv-loop counts₀ marks votes stamps n stamped below count₀ q₀ counts count q =
+    (1 ≤ q)
+    × (q ≤ 32)
+    × (length counts ≡ 32)
+    × (count ≡ supporters marks votes stamps n stamped (q - 1))
+    × Counts counts q (supporters marks votes stamps n stamped)
 
 abbrev μ-loop : tie.MeasureT-loop
-μ-loop counts₀ marks votes stamps n stamped below q₀ counts q = n - q
+μ-loop counts₀ marks votes stamps n stamped below count₀ q₀ counts count q = n - q
 
 element-copy-out-below-of : tie.Need-element-copy-out-below-of Inv-loop μ-loop
 element-copy-out-below-of c = search needs
@@ -46,25 +51,15 @@ loop-holds c =
       omega arith,
       omega arith,
       length-set (now (a .counts)) 0 _ ∙ long,
+      first,
       counts-next (now (a .counts)) 0 number _ (omega (arith, long)) (λ k less. absurd (omega arith)) first,
     )
 
 sub-count-next : tie.Need-sub-count-next Inv-loop μ-loop
 sub-count-next c = search needs
 
-mul-count-next : tie.Need-mul-count-next Inv-loop μ-loop
-mul-count-next c = search needs
-
-element-copy-out-count-next : tie.Need-element-copy-out-count-next Inv-loop μ-loop
-element-copy-out-count-next c = search needs
-
 count-next-requires : tie.Need-count-next-requires Inv-loop μ-loop
-count-next-requires c κs = (
-  omega arith,
-  omega arith,
-  omega arith,
-  c .before .before .loop .inv .3 (c .before .before .loop .q - 1) (omega arith),
-)
+count-next-requires c κs = (omega arith, omega arith, omega arith, c .before .loop .inv .3)
 
 mul-counts : tie.Need-mul-counts Inv-loop μ-loop
 mul-counts c = search needs
@@ -81,18 +76,20 @@ loop-less c = search needs
 loop-again : tie.Need-loop-again Inv-loop μ-loop
 loop-again c =
     let b4 = c .before .before .before .before in
-    let a = b4 .before .before .before .before .args in
-    let l = c .before .before .before .loop in
-    let number = supporters (now (a .marks)) (now (a .votes)) (now (a .stamps)) (a .n) (a .stamped) in (
+    let a = b4 .before .before .before .args in
+    let l = c .before .before .loop in
+    let number = supporters (now (a .marks)) (now (a .votes)) (now (a .stamps)) (a .n) (a .stamped) in
+    let same : l .q + 1 - 1 ≡ l .q = omega arith in (
       omega arith,
       omega arith,
       length-set (l .counts) (l .q) _ ∙ l .inv .2,
-      counts-next (l .counts) (l .q) number _ (omega (arith, l .inv .2, c .before .before .loop-test .taken))
-          (l .inv .3) (c .count-next .ensures),
+      c .count-next .ensures ∙ ap number (sym same),
+      counts-next (l .counts) (l .q) number _ (omega (arith, l .inv .2, c .before .loop-test .taken)) (l .inv .4)
+          (c .count-next .ensures),
     )
 
 returns : tie.Need-returns Inv-loop μ-loop
-returns c = λ k less. c .before .loop .inv .3 k (omega (arith, c .loop-test .left, less))
+returns c = λ k less. c .before .loop .inv .4 k (omega (arith, c .loop-test .left, less))
 
 pub count-each-spec : {M : Type 1} → statement M
 count-each-spec =
@@ -107,8 +104,6 @@ count-each-spec =
     element-write-counts
     loop-holds
     sub-count-next
-    mul-count-next
-    element-copy-out-count-next
     count-next-requires
     mul-counts
     element-write-counts-2

@@ -16,9 +16,6 @@ element-copy-out-below-of c = search needs
 below-of-requires : tie.Need-below-of-requires
 below-of-requires c κs = search needs
 
-sub-below-of : tie.Need-sub-below-of
-sub-below-of c = search needs
-
 element-copy-out-below-of-2 : tie.Need-element-copy-out-below-of-2
 element-copy-out-below-of-2 c = search needs
 
@@ -30,9 +27,6 @@ mul-again c = search needs
 
 element-copy-out-again : tie.Need-element-copy-out-again
 element-copy-out-again c = search needs
-
-sub-again : tie.Need-sub-again
-sub-again c = search needs
 
 mul-again-2 : tie.Need-mul-again-2
 mul-again-2 c = search needs
@@ -75,12 +69,10 @@ count-next-spec =
     (tie.spec
     element-copy-out-below-of
     below-of-requires
-    sub-below-of
     element-copy-out-below-of-2
     below-of-requires-2
     mul-again
     element-copy-out-again
-    sub-again
     mul-again-2
     element-copy-out-again-2
     returns

@@ -4,10 +4,9 @@ use lib.ListN.{length}
 use borrow.Author.Needs.{needs}
 use denote.Ref.{now}
 use Rattle.ballot.specs.Selection.{selection, takenOn}
-use Rattle.crew.specs.Thresholds.{classOf}
 use Rattle.inbox.specs.Columns.{historiesIn}
-use Rattle.tally.proofs.Countable.{countable-facts, choice-rule}
-use Rattle.tally.proofs.Heard.{polled-selections, ready}
+use Rattle.tally.proofs.Countable.{countable-facts}
+use Rattle.tally.proofs.Heard.{polled-selections, ready, chosen}
 use Rattle.tally.specs.Rules.{choiceOf}
 use Rattle.tally.proofs.select.Statement.{statement}
 use Rattle.tally.proofs.select.Tie as tie
@@ -49,9 +48,7 @@ returns c =
     let same = polled-selections crew (a .run) (a .phase) bytes _ facts (b8 .read-slots .ensures) in
     c .take-on .ensures (historiesIn bytes)
     ∙ ap₂ (takenOn crew) same
-    (b4 .choose-by-class .ensures
-    ∙ ap (selection (classOf crew) crew) same
-    ∙ sym (choice-rule crew (a .run) (a .phase) bytes ok))
+    (chosen crew (a .run) (a .phase) bytes _ facts (b8 .read-slots .ensures) _ (b4 .choose-by-class .ensures))
 
 returns-2 : tie.Need-returns-2
 unfolding choiceOf

@@ -25,22 +25,28 @@ enum Operation {
     Take,
 }
 
-/// What the slots say: every slot counts in both.
+/// What the slots say: every slot counts, but for the gaps.
 #[derive(Clone, Copy, Debug, PartialEq, Eq)]
 enum Votes {
     /// All slots have one vote and one stamp.
     Agreed,
     /// Slots differ in vote, stamp and history, so that no plan is backed early.
     Mixed,
+    /// All slots that came agree, and every third is empty.
+    Gaps,
+    /// All slots have one vote, with two stamps in turn, as after a validation that some nodes missed.
+    Stamps,
 }
+
+const VOTES: [Votes; 4] = [Votes::Agreed, Votes::Mixed, Votes::Gaps, Votes::Stamps];
 
 struct Row {
     operation: Operation,
     crew: Crew,
     round: u8,
     phase: u8,
-    /// For each of `Votes`.
-    times: [Times; 2],
+    /// For each of `VOTES`.
+    times: [Times; 4],
 }
 
 /// Medians over the repetitions: nanoseconds for each call, and the engine's time over the second engine's.
@@ -60,8 +66,8 @@ fn main() {
             for round in rounds_of(operation, crews[0].class) {
                 for phase in PHASES {
                     for crew in crews {
-                        let times = [Votes::Agreed, Votes::Mixed]
-                            .map(|votes| measure(repetitions, operation, &node(crew, phase, round), votes));
+                        let times =
+                            VOTES.map(|votes| measure(repetitions, operation, &node(crew, phase, round), votes));
                         rows.push(Row { operation, crew, round, phase, times });
                     }
                 }
@@ -90,11 +96,14 @@ fn node(crew: Crew, phase: u8, round: u8) -> Node {
     node
 }
 
-/// A full inbox: every slot counts, and in class 3 lists every earlier phase.
+/// An inbox in which every slot counts, but for the gaps, and in class 3 lists every earlier phase.
 fn inbox(node: &Node, votes: Votes) -> Vec<u8> {
     let n = usize::from(node.crew.n);
     let mut inbox = vec![0; SLOT * n];
     for (q, slot) in inbox.chunks_exact_mut(SLOT).enumerate() {
+        if votes == Votes::Gaps && q % 3 == 2 {
+            continue;
+        }
         let bytes = message(node, votes, q).layout();
         slot[..bytes.len()].copy_from_slice(&bytes);
     }
@@ -103,14 +112,15 @@ fn inbox(node: &Node, votes: Votes) -> Vec<u8> {
 
 fn message(node: &Node, votes: Votes, q: usize) -> Fields {
     let plan = match votes {
-        Votes::Agreed => 5,
         Votes::Mixed => 5 + (q % 3) as u16,
+        _ => 5,
     };
     let highest = if node.round == 1 { node.phase - 1 } else { node.phase };
     let stamp = match (node.crew.class, votes) {
         (1, _) => 0,
-        (_, Votes::Agreed) => highest,
+        (_, Votes::Agreed | Votes::Gaps) => highest,
         (_, Votes::Mixed) => highest - (q % 4).min(usize::from(highest)) as u8,
+        (_, Votes::Stamps) => highest - (q % 2).min(usize::from(highest)) as u8,
     };
     let entries: Vec<(u8, u16)> = match (node.crew.class, node.round) {
         (3, 1) => (0..node.phase).map(|phase| (phase, plan)).collect(),
@@ -202,14 +212,13 @@ fn print_rows(rows: &[Row], repetitions: usize) {
     println!("Nanoseconds, medians of {repetitions} repetitions.");
     println!("Of {} ratios {above} are above 1.0; the highest is {highest:.2}.", ratios.len());
     println!();
-    println!(
-        "| | class | round | phase | n | agreed: engine | second | ratio | mixed: engine | second | ratio | floor |"
-    );
-    println!("|---|---|---|---|---|---|---|---|---|---|---|---|");
+    print!("| | class | round | phase | n | agreed: engine | second | ratio | mixed: engine | second | ratio ");
+    println!("| gaps: ratio | stamps: ratio | floor |");
+    println!("|---|---|---|---|---|---|---|---|---|---|---|---|---|---|");
     for row in rows {
-        let [agreed, mixed] = row.times;
+        let [agreed, mixed, gaps, stamps] = row.times;
         println!(
-            "| {} | {} | {} | {} | {} | {:.0} | {:.0} | {:.2} | {:.0} | {:.0} | {:.2} | {:.0} |",
+            "| {} | {} | {} | {} | {} | {:.0} | {:.0} | {:.2} | {:.0} | {:.0} | {:.2} | {:.2} | {:.2} | {:.0} |",
             name(row.operation),
             row.crew.class,
             row.round,
@@ -221,6 +230,8 @@ fn print_rows(rows: &[Row], repetitions: usize) {
             mixed.engine,
             mixed.second,
             mixed.ratio,
+            gaps.ratio,
+            stamps.ratio,
             agreed.floor,
         );
     }
