@@ -1,0 +1,9 @@
+pub mod Rounds
+pub mod Events
+pub mod Empty
+pub mod LockStep
+pub mod Exchange
+pub mod Agreement
+pub mod Checking
+pub mod SameRound
+pub mod Example

@@ -1,0 +1,155 @@
+-- A message of another round does not count. 02 asks that what counts was written before it is taken; the premises of
+-- a schedule say, in its sender's round of that number: this loses nothing, because the bytes of another round have
+-- another phase or another kind. Assumes nothing.
+use mathlib.Core.Path.{_≡_, refl, sym, ap, _∙_, subst}
+use mathlib.Core.Bool.{Bool, true, false, cond, _&&_}
+use mathlib.Core.List.{List, [], _∷_, _++_}
+use mathlib.Core.Logic.{inl, inr}
+use mathlib.Core.Option.{Option, none, some}
+use Prim.Native.Nat.{ℕ, _≤_, _<_}
+use native.Mathlib.Omega.{arith}
+use native.Mathlib.Decide.{decLt, decLe}
+use lib.ListN.{length}
+use lib.Dec.{T, ltb, eqb}
+use borrow.Author.Tests.{eqb-true}
+use Rattle.wire.specs.Outcome.{accepted}
+use Rattle.wire.proofs.Tests.{both-true}
+use Rattle.crew.specs.declared.Crew.{Crew}
+use Rattle.message.specs.Fields.{Message}
+use Rattle.message.specs.Encoding.{kindOf}
+use Rattle.message.specs.Reading.{readOf}
+use Rattle.ballot.specs.Ballot.{Ballot}
+use Rattle.ballot.proofs.Slots.{not-none}
+use Rattle.node.specs.declared.Node.{Node}
+use Rattle.node.specs.Sending.{comingOf, encoded}
+use Rattle.node.proofs.Coming.{Says, selects, validates, decides}
+use Rattle.node.proofs.Facts.{Typed}
+use Rattle.node.proofs.SendLaws.{write-accepted}
+use Rattle.node.proofs.ReadBack.{read-back}
+use Rattle.inbox.specs.Inbox.{slotAt, ballotOf, isOf, counted, ballotAt}
+use Rattle.agreement.specs.Statement.{Call, write, ask, take-round, Listing, afterCall, callsOf, Puts, Wrote}
+use Rattle.agreement.specs.Statement.{phaseIf, roundIf, phaseAt, roundAt, Conclusions}
+use Rattle.agreement.proofs.Demand.{demand3}
+use Rattle.agreement.proofs.Simulation.{follows}
+use Rattle.agreement.proofs.Written.{puts-coming}
+use Rattle.schedules.specs.Schedule.{Schedule, isHonest, startRecord, recordAfter, roundsTaken, ownCalls}
+use Rattle.schedules.specs.Schedule.{ownRecord, OwnWrote, SchedulePremises, lockStep, InLockStep}
+use Rattle.schedules.proofs.Rounds.{leaves, OneRound, one-round, no-calls, last-record}
+use Rattle.schedules.proofs.LockStep.{lock-step}
+
+-- all writes of a round are made on the record with which it begins
+round-wrote : (d : Node) (cs : List Call) (taken : Bool) (w : List ℕ) → OneRound d cs taken → Wrote d cs w
+    → (buffer : List ℕ) × Puts d (write buffer) w
+round-wrote d [] taken w h wrote = absurd wrote
+round-wrote d (write buffer ∷ cs) taken w h (inl puts) = (buffer, puts)
+round-wrote d (ask inbox ∷ cs) taken w h (inl puts) = absurd puts
+round-wrote d (take-round inbox ∷ cs) taken w h (inl puts) = absurd puts
+round-wrote d (c ∷ cs) taken w (inl h) (inr wrote) =
+    absurd (subst (λ rest. Wrote (afterCall d c) rest w) (h .1) wrote)
+round-wrote d (c ∷ cs) taken w (inr h) (inr wrote) =
+    let onward = round-wrote (afterCall d c) cs taken w (h .1) wrote in
+    (onward .0, subst (λ e. Puts e (write (onward .0)) w) (leaves d c (h .0)) (onward .1))
+
+-- what a message says of its place is the record's
+says-place : {d : Node} {m : Message} → Says d m → (m .phase ≡ d .phase) × (kindOf (m .body) ≡ d .round)
+says-place (selects one) = (refl, sym one)
+says-place (validates two plan) = (refl, sym two)
+says-place (decides three) = (refl, sym three)
+
+-- a message that counts is of the coming round
+counted-place : (run phase round : ℕ) (m : Message) (b : Ballot) → counted run phase round (accepted m) ≡ some b
+    → (m .phase ≡ phase) × (kindOf (m .body) ≡ round)
+counted-place run phase round m b e = go (isOf run phase round m) refl e
+  where
+    go : (of : Bool) → isOf run phase round m ≡ of → cond of (some (ballotOf (m .body))) none ≡ some b
+        → (m .phase ≡ phase) × (kindOf (m .body) ≡ round)
+    go false h e = absurd (not-none e)
+    go true h e =
+        let both = both-true (eqb (m .run) run && eqb (kindOf (m .body)) round) (eqb (m .phase) phase) h in
+        let first = both-true (eqb (m .run) run) (eqb (kindOf (m .body)) round) (both .0) in
+        (eqb-true _ _ (both .1), eqb-true _ _ (first .1))
+
+-- bytes that a record wrote, and that count for another record with whatever stands behind them: both are in one place
+heard-place : (d other : Node) (inbox : List ℕ) (q : ℕ) (b : Ballot) (buffer w rest : List ℕ) → Typed d
+    → Puts d (write buffer) w → slotAt inbox q ≡ w ++ rest → ballotAt other inbox q ≡ some b
+    → (d .phase ≡ other .phase) × (d .round ≡ other .round)
+unfolding ballotAt
+heard-place d other inbox q b buffer w rest typed puts slot counts = go (comingOf d) refl
+  where
+    go : (o : Option Message) → comingOf d ≡ o → (d .phase ≡ other .phase) × (d .round ≡ other .round)
+    go none silent =
+        let nothing = ap (λ o. length (encoded o)) silent in
+        absurd (omega (arith, puts .1, ap length (puts-coming d buffer w puts), nothing))
+    go (some m) coming =
+        let made = write-accepted d buffer (length w) (puts .0) in
+        let back = read-back d typed (made .0) (made .1) m coming in
+        let read = ap readOf (slot ∙ ap (λ x. x ++ rest) (sym (puts-coming d buffer w puts))) ∙ back .2 rest in
+        let said = says-place (back .0) in
+        let place =
+        counted-place (other .run) (other .phase) (other .round) m b
+        (sym (ap (counted (other .run) (other .phase) (other .round)) read) ∙ counts) in
+        (sym (said .0) ∙ place .0, sym (said .1) ∙ place .1)
+
+-- two rounds with one phase and number are one round
+one-place : (crew : Crew) (i j : ℕ) → phaseAt crew i ≡ phaseAt crew j → roundAt crew i ≡ roundAt crew j → i ≡ j
+one-place crew i j = go (eqb (crew .class) 1)
+  where
+    go : (first : Bool) → phaseIf first i ≡ phaseIf first j → roundIf first i ≡ roundIf first j → i ≡ j
+    go true p r = omega arith
+    go false p r = omega arith
+
+module _ (s : Schedule) (crew : Crew) (run : ℕ) (pre : SchedulePremises s crew run) where
+  abbrev list : Listing
+  list = lockStep s (crew .n)
+
+  in-step : InLockStep s crew run list
+  in-step = lock-step s crew run pre
+
+  concludes : Conclusions list crew
+  concludes = demand3 list crew run (in-step .premises)
+
+  -- a record that is not spent stands at its round's place
+  place-is : (p j : ℕ) → T (isHonest s p) → j ≤ roundsTaken s p → ownRecord s p j .phase < 64
+      → (ownRecord s p j .phase ≡ phaseAt crew j) × (ownRecord s p j .round ≡ roundAt crew j)
+  place-is p j h l left =
+      let same = in-step .records p j h l in
+      let inside = in-step .long p h in
+      elim (decLt (phaseAt crew j) 64) [
+        | yes early ↦
+            let at = concludes .places p j h (omega arith) early in
+            (sym (ap (λ (d : Node). d .phase) same) ∙ at .0, sym (ap (λ (d : Node). d .round) same) ∙ at .1)
+        | no late ↦
+            let gone = concludes .spent p j h (omega arith) (omega arith) .0 .phase in
+            absurd (omega (arith, gone, ap (λ (d : Node). d .phase) same))
+      ]
+
+  -- After a schedule that meets the premises, let a slot of q count for p that begins with bytes which q wrote in any
+  -- round of its own: that round has the number of the round that p is in.
+  pub same-round : (p q : ℕ) → T (isHonest s p) → T (isHonest s q) → (inbox : List ℕ) (b : Ballot)
+      → ballotAt (recordAfter s p) inbox q ≡ some b
+      → (i : ℕ) (w rest : List ℕ) → OwnWrote s q i w → slotAt inbox q ≡ w ++ rest → i ≡ roundsTaken s p
+  same-round p q hp hq inbox b counts i w rest wrote slot = elim (decLe i (roundsTaken s q)) [
+    | no over ↦
+        absurd (subst (λ cs. Wrote (ownRecord s q i) cs w)
+        (no-calls (startRecord s q) (callsOf q (s .events)) i (omega arith)) wrote)
+    | yes l ↦
+        let d = ownRecord s q i in
+        let round = one-round (startRecord s q) (callsOf q (s .events)) i in
+        let made = round-wrote d (ownCalls s q i) (ltb i (roundsTaken s q)) w round wrote in
+        let here = heard-place d (recordAfter s p) inbox q b (made .0) w rest (typed l) (made .1) slot counts in
+        let left = write-accepted d (made .0) (length w) (made .1 .0) .1 in
+        let mine = place-is q i hq l left in
+        let end = last-record (startRecord s p) (callsOf p (s .events)) in
+        let still : ownRecord s p (roundsTaken s p) .phase < 64 =
+        omega (arith, left, here .0, ap (λ (x : Node). x .phase) end) in
+        let theirs = place-is p (roundsTaken s p) hp (omega arith) still in
+        one-place crew i (roundsTaken s p)
+        (sym (mine .0) ∙ here .0 ∙ sym (ap (λ (x : Node). x .phase) end) ∙ theirs .0)
+        (sym (mine .1) ∙ here .1 ∙ sym (ap (λ (x : Node). x .round) end) ∙ theirs .1)
+  ]
+    where
+      typed : i ≤ roundsTaken s q → Typed (ownRecord s q i)
+      typed l =
+          let inside = in-step .long q hq in
+          subst Typed (in-step .records q i hq l)
+          (follows list crew run (in-step .premises) q i hq (omega arith) .typed)
