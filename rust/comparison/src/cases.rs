@@ -1,7 +1,7 @@
 //! One generated case of each operation, given to two engines. A difference is told with the whole case.
 
 use crate::engine::Engine;
-use crate::runs;
+use crate::{runs, schedules};
 use generators::{crews, drills, inboxes, messages, plans, records, Random};
 use second_engine::inbox::SLOT;
 use second_engine::Node;
@@ -19,17 +19,20 @@ pub enum Operation {
     Round,
     /// Whole runs, with the properties of demand 3.
     Run,
+    /// Nodes out of step, with the claims of C-17.
+    Schedule,
     Drill,
 }
 
 impl Operation {
-    pub const ALL: [Operation; 7] = [
+    pub const ALL: [Operation; 8] = [
         Operation::Accept,
         Operation::Start,
         Operation::Write,
         Operation::Read,
         Operation::Round,
         Operation::Run,
+        Operation::Schedule,
         Operation::Drill,
     ];
 }
@@ -44,6 +47,7 @@ pub fn compare(operation: Operation, seed: u64, one: &dyn Engine, other: &dyn En
         Operation::Read => compare_read(random, one, other),
         Operation::Round => compare_round(random, one, other),
         Operation::Run => runs::drive(random, one, Some(other)).map(|_| ()),
+        Operation::Schedule => schedules::drive(random, one, Some(other)).map(|_| ()),
         Operation::Drill => compare_drill(random, one, other),
     };
     outcome.map_err(|difference| format!("{operation:?}, seed {seed}: {difference}"))
@@ -148,4 +152,13 @@ pub fn same<C: Debug, A: PartialEq + Debug>(case: &C, one: A, other: A) -> Resul
         return Ok(());
     }
     Err(format!("the answers differ\ncase: {case:#?}\none: {one:#?}\nother: {other:#?}"))
+}
+
+/// Tells what failed where something that has to hold does not.
+pub fn expect(is_so: bool, failure: impl FnOnce() -> String) -> Result<(), String> {
+    if is_so {
+        Ok(())
+    } else {
+        Err(failure())
+    }
 }

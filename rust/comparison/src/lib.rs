@@ -1,10 +1,16 @@
 //! Comparison of two engines on generated cases, and the properties of whole runs (01, 'The list in demand 3').
 
 pub mod cases;
+pub mod decisions;
 pub mod engine;
+pub mod exchanges;
 pub mod mutants;
+pub mod pair;
+pub mod regrouping;
 pub mod runs;
+pub mod schedules;
 pub mod seeds;
+pub mod slots;
 
 pub use cases::{compare, Operation};
 pub use engine::{Engine, Second};

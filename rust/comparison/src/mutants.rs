@@ -1,7 +1,12 @@
-//! That the comparison has teeth: by how many cases it tells each mutant of the second engine from an engine.
+//! That the comparison has teeth: by how many cases it tells each mutant of the second engine from an engine, and each
+//! wrong regrouping of schedules from the right one.
 
 use crate::cases::{compare, Operation};
 use crate::engine::{Engine, Second};
+use crate::pair::Pair;
+use crate::regrouping::{self, Regrouping};
+use crate::schedules;
+use generators::Random;
 use second_engine::Mutation;
 
 /// How many cases of each operation that has a wrong rule somewhere.
@@ -9,6 +14,7 @@ use second_engine::Mutation;
 pub struct Cases {
     pub rounds: u64,
     pub runs: u64,
+    pub schedules: u64,
     pub drills: u64,
 }
 
@@ -16,7 +22,7 @@ pub struct Cases {
 const IN_AGREEMENT: [Mutation; 2] = [Mutation::ResultReplaced, Mutation::GreatestDecides];
 
 /// Gives the same cases to the engine and to every mutant, and prints how many tell them apart. Rounds have to tell
-/// every mutant, runs all but those that are no change in a run.
+/// every mutant, runs and schedules all but those that are no change there.
 pub fn tell_all(engine: &dyn Engine, cases: Cases) -> Result<(), String> {
     println!("mutants are told by how many of {cases:?}:");
     for mutation in Mutation::MUTANTS {
@@ -26,11 +32,51 @@ pub fn tell_all(engine: &dyn Engine, cases: Cases) -> Result<(), String> {
         };
         let rounds = count(Operation::Round, cases.rounds);
         let runs = count(Operation::Run, cases.runs);
+        let schedules = count(Operation::Schedule, cases.schedules);
         let drills = count(Operation::Drill, cases.drills);
-        println!("  {mutation:?}: {rounds}, {runs}, {drills}");
-        if rounds == 0 || (runs == 0 && !IN_AGREEMENT.contains(&mutation)) {
+        println!("  {mutation:?}: {rounds}, {runs}, {schedules}, {drills}");
+        if rounds == 0 || ((runs == 0 || schedules == 0) && !IN_AGREEMENT.contains(&mutation)) {
             return Err(format!("{mutation:?} is not told from the engine"));
         }
     }
     Ok(())
+}
+
+/// Regroups the schedules of these seeds in every wrong way, and prints how many tell it, in all and by each check.
+pub fn tell_regroupings(engine: &dyn Engine, schedules: u64) -> Result<(), String> {
+    println!("regroupings are told by how many of {schedules} schedules:");
+    for regrouping in Regrouping::MUTANTS {
+        let mut told = 0;
+        let mut by_check = Vec::new();
+        for seed in 1..=schedules {
+            let failed = failed_checks(engine, regrouping, seed)?;
+            told += usize::from(!failed.is_empty());
+            by_check.extend(failed);
+        }
+        let count = |name: &str| by_check.iter().filter(|&&check| check == name).count();
+        let counts: Vec<String> = regrouping::CHECKS.iter().map(|name| format!("{name} {}", count(name))).collect();
+        println!("  {regrouping:?}: {told} ({})", counts.join(", "));
+        if told == 0 {
+            return Err(format!("{regrouping:?} is not told from the definition"));
+        }
+    }
+    Ok(())
+}
+
+/// The names of the checks that a schedule fails where it is regrouped like this.
+fn failed_checks(engine: &dyn Engine, regrouping: Regrouping, seed: u64) -> Result<Vec<&'static str>, String> {
+    let pair = Pair { engine, other: None };
+    let random = &mut Random::new(seed);
+    let class = random.between(1, 3) as u8;
+    let schedule = schedules::make(random, class, pair)?;
+    let replay = schedules::replay(pair, &schedule.setup, &schedule.events)?;
+    let losses = regrouping::losses(schedule.setup.crew);
+    let list = regrouping::regroup(regrouping, &schedule.setup, &replay, &losses);
+    let outcomes = regrouping::checks(pair, &schedule.setup, &replay, &list)?;
+    Ok(regrouping::CHECKS
+        .into_iter()
+        .zip(outcomes)
+        .filter(|(_, outcome)| outcome.is_err())
+        .map(|(name, _)| name)
+        .collect())
 }

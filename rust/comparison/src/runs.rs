@@ -1,12 +1,15 @@
 //! Whole runs: one engine is driven through a generated list, the properties of demand 3 are checked after each round,
 //! and a second engine, if there is one, has to give the same answers to all calls.
 
-use crate::cases::{same, show_inbox};
+use crate::cases::expect;
+use crate::decisions::Decisions;
 use crate::engine::Engine;
+use crate::pair::Pair;
+use crate::slots::{check_premise, counting_slots, is_holding, Slot};
 use generators::runs::{self, Scene, Setup, Weather};
 use generators::Random;
 use second_engine::inbox::SLOT;
-use second_engine::{message, Message, Node, Refusal, Selection};
+use second_engine::{Crew, Node, Refusal, Selection};
 
 /// What happened in a run, to see that runs of all sorts are made.
 #[derive(Clone, Copy, Debug, Default, PartialEq, Eq)]
@@ -50,12 +53,12 @@ pub fn drive_class(
 ) -> Result<Tally, String> {
     let crew = runs::crew(random, class);
     let setup = Setup::new(random, crew);
-    let mut run = Run::start(setup, engine, other)?;
+    let mut run = Run::start(setup, Pair { engine, other })?;
     let outcome = (0..run.setup.rounds).try_for_each(|round| run.round(random, round));
     outcome.map_err(|failure| format!("{failure}\nsetup: {:?}", run.setup))?;
     let (mut decided, mut undecided) = (0, 0);
-    for own in run.honest() {
-        match run.plans[own] {
+    for own in run.setup.honest() {
+        match run.decisions.plans[own] {
             Some(_) => decided += 1,
             None => undecided += 1,
         }
@@ -65,13 +68,10 @@ pub fn drive_class(
 
 struct Run<'a> {
     setup: Setup,
-    engine: &'a dyn Engine,
-    other: Option<&'a dyn Engine>,
+    pair: Pair<'a>,
     /// The honest records, by own number.
     records: Vec<Option<Node>>,
-    /// The plan that each node decided, from its inboxes and never from its record.
-    plans: Vec<Option<u16>>,
-    common: Option<u16>,
+    decisions: Decisions,
     old: Vec<Vec<u8>>,
     weather: Option<Weather>,
     /// Whether the phase has been good for its circle in all its rounds so far.
@@ -80,31 +80,15 @@ struct Run<'a> {
 }
 
 impl<'a> Run<'a> {
-    fn start(setup: Setup, engine: &'a dyn Engine, other: Option<&'a dyn Engine>) -> Result<Run<'a>, String> {
-        let n = usize::from(setup.crew.n);
-        let mut records = vec![None; n];
-        let mut initial = Vec::new();
-        for &(crew, own, run, plan) in &setup.starts {
-            let answer = engine.start(crew, own, run, plan);
-            if let Some(other) = other {
-                same(&(crew, own, run, plan), answer, other.start(crew, own, run, plan))?;
-            }
-            if let Ok(node) = answer {
-                records[usize::from(own)] = Some(node);
-                initial.push(plan);
-            }
-        }
-        for (own, &is_honest) in setup.is_honest.iter().enumerate() {
-            expect(records[own].is_some() == is_honest, || format!("start of node {own}"))?;
-        }
-        let common = initial.first().copied().filter(|&first| initial.iter().all(|&plan| plan == first));
-        let tally = Tally { common_starts: usize::from(common.is_some()), ..Tally::default() };
-        let (plans, old) = (vec![None; n], Vec::new());
-        Ok(Run { setup, engine, other, records, plans, common, old, weather: None, is_good: false, tally })
+    fn start(setup: Setup, pair: Pair<'a>) -> Result<Run<'a>, String> {
+        let (records, initial) = pair.start(&setup)?;
+        let decisions = Decisions::new(setup.crew, &initial);
+        let tally = Tally { common_starts: usize::from(decisions.common.is_some()), ..Tally::default() };
+        Ok(Run { setup, pair, records, decisions, old: Vec::new(), weather: None, is_good: false, tally })
     }
 
-    fn honest(&self) -> Vec<usize> {
-        (0..self.records.len()).filter(|&own| self.records[own].is_some()).collect()
+    fn record(&self, own: usize) -> Result<Node, String> {
+        Ok(self.records[own].ok_or("no such node")?)
     }
 
     /// One whole round of the list, then the properties.
@@ -124,14 +108,18 @@ impl<'a> Run<'a> {
         let scene =
             Scene { setup: &self.setup, weather: &weather, phase, round: number, written: &written, old: &self.old };
         let inboxes = scene.inboxes(random);
-        self.check_premise(phase, number, &written, &inboxes)?;
         let counting: Vec<Vec<Option<Slot>>> =
             inboxes.iter().map(|inbox| counting_slots(self.setup.run, phase, number, inbox)).collect();
+        for to in self.setup.honest() {
+            let is_written =
+                |from: usize| written[from].as_ref().is_some_and(|bytes| is_holding(&inboxes[to], from, bytes));
+            check_premise(&self.setup, &counting[to], is_written).map_err(|failure| format!("node {to}: {failure}"))?;
+        }
         self.is_good = self.is_good && is_good_round(number, &weather.circle, &silent, &counting);
-        for own in self.honest() {
+        for own in self.setup.honest() {
             self.take(random, own, &inboxes[own])?;
-            if number == 3 {
-                self.note_decision(own, phase, &counting[own]);
+            if number == 3 && self.decisions.note(own, phase, &counting[own]) {
+                self.tally.decided_in_good += usize::from(self.is_good);
             }
         }
         if number == 3 && self.is_good {
@@ -153,7 +141,7 @@ impl<'a> Run<'a> {
     ) -> Result<(Vec<Option<Vec<u8>>>, Vec<bool>), String> {
         let n = self.records.len();
         let (mut written, mut silent) = (vec![None; n], vec![false; n]);
-        for own in self.honest() {
+        for own in self.setup.honest() {
             let is_kept = weather.is_kept_from_writing(random, own);
             silent[own] = self.records[own].is_some_and(|node| node.round == 2 && node.select == 0);
             if is_kept || random.chance(1, 16) {
@@ -161,7 +149,7 @@ impl<'a> Run<'a> {
                 // Silence fits in any buffer.
                 let expected = if silent[own] { Ok(0) } else { Err(Refusal::ShortBuffer) };
                 let before = random.bytes(length);
-                let (answer, after) = self.write(own, &before)?;
+                let (answer, after) = self.pair.write(self.record(own)?, &before)?;
                 expect(answer == expected, || format!("short write of node {own}: {answer:?}"))?;
                 expect(after == before, || format!("short write of node {own} wrote"))?;
                 self.tally.refused += usize::from(answer.is_err());
@@ -171,7 +159,7 @@ impl<'a> Run<'a> {
             }
             let length = SLOT + random.below(3);
             let before = random.bytes(length);
-            let (answer, after) = self.write(own, &before)?;
+            let (answer, after) = self.pair.write(self.record(own)?, &before)?;
             let length = answer.map_err(|refusal| format!("write of node {own}: {refusal:?}"))?;
             expect(after[length..] == before[length..], || format!("write of node {own} changed the tail"))?;
             expect((length == 0) == silent[own], || format!("silence of node {own}"))?;
@@ -182,33 +170,18 @@ impl<'a> Run<'a> {
         Ok((written, silent))
     }
 
-    fn write(&self, own: usize, before: &[u8]) -> Result<(Result<usize, Refusal>, Vec<u8>), String> {
-        let node = self.records[own].ok_or("no such node")?;
-        let call = |engine: &dyn Engine| {
-            let (mut node, mut buffer) = (node, before.to_vec());
-            let answer = engine.write(&mut node, &mut buffer);
-            (answer, node, buffer)
-        };
-        let (answer, after, buffer) = call(self.engine);
-        if let Some(other) = self.other {
-            same(&(node, before), (answer, after, buffer.clone()), call(other))?;
-        }
-        expect(after == node, || format!("write changed the record of node {own}"))?;
-        Ok((answer, buffer))
-    }
-
     /// Refused takes, an ask, and the take that is accepted.
     fn take(&mut self, random: &mut Random, own: usize, inbox: &[u8]) -> Result<(), String> {
         if random.chance(1, 16) {
             let wrong = random.pick(&[0, 1, SLOT * (self.records.len() + 1), inbox.len() - 1]);
-            let (answer, _) = self.call_take(own, &vec![7; wrong])?;
+            let (answer, _) = self.pair.take(self.record(own)?, &vec![7; wrong])?;
             expect(answer == Err(Refusal::InboxLength), || format!("take of node {own} with {wrong}: {answer:?}"))?;
             self.tally.refused += 1;
         }
         let is_first = self.records[own].is_some_and(|node| node.round == 1);
-        let asked = self.call_ask(own, inbox)?;
+        let asked = self.pair.ask(self.record(own)?, inbox)?;
         expect(asked.is_ok() == is_first, || format!("ask of node {own}: {asked:?}"))?;
-        let (answer, node) = self.call_take(own, inbox)?;
+        let (answer, node) = self.pair.take(self.record(own)?, inbox)?;
         expect(answer.is_ok(), || format!("take of node {own}: {answer:?}"))?;
         if let Ok(selection) = asked {
             let is_same = match selection {
@@ -222,147 +195,46 @@ impl<'a> Run<'a> {
         Ok(())
     }
 
-    fn call_take(&self, own: usize, inbox: &[u8]) -> Result<(Result<(), Refusal>, Node), String> {
-        let before = self.records[own].ok_or("no such node")?;
-        let mut after = before;
-        let answer = self.engine.take(&mut after, inbox);
-        if let Some(other) = self.other {
-            let mut node = before;
-            let second = other.take(&mut node, inbox);
-            if (answer, after) != (second, node) {
-                same(&(before, show_inbox(inbox)), (answer, after), (second, node))?;
-            }
-        }
-        expect(answer.is_ok() || after == before, || format!("refused take changed the record of node {own}"))?;
-        Ok((answer, after))
-    }
-
-    fn call_ask(&self, own: usize, inbox: &[u8]) -> Result<Result<Selection, Refusal>, String> {
-        let before = self.records[own].ok_or("no such node")?;
-        let mut after = before;
-        let answer = self.engine.ask(&mut after, inbox);
-        if let Some(other) = self.other {
-            let mut node = before;
-            let second = other.ask(&mut node, inbox);
-            if (answer, after) != (second, node) {
-                same(&(before, show_inbox(inbox)), (answer, after), (second, node))?;
-            }
-        }
-        expect(after == before, || format!("ask changed the record of node {own}"))?;
-        Ok(answer)
-    }
-
-    /// 01: "a slot holds what a node wrote if there are such bytes and they stand at its front". This checks the
-    /// generator, not the engine.
-    fn check_premise(
-        &self,
-        phase: u8,
-        number: u8,
-        written: &[Option<Vec<u8>>],
-        inboxes: &[Vec<u8>],
-    ) -> Result<(), String> {
-        for to in self.honest() {
-            let counting = counting_slots(self.setup.run, phase, number, &inboxes[to]);
-            for from in self.honest() {
-                let slot = &inboxes[to][SLOT * from..SLOT * (from + 1)];
-                let is_written = written[from].as_ref().is_some_and(|bytes| slot.starts_with(bytes));
-                expect(counting[from].is_none() || is_written, || {
-                    format!("slot {from} of node {to} breaks the premise")
-                })?;
-            }
-        }
-        Ok(())
-    }
-
-    /// 01: "A node has decided when, in some round 3 that it took, at least D counting slots held one plan (in classes
-    /// 2 and 3 with the phase as stamp). The plan it decided is the least such plan of the first such round."
-    fn note_decision(&mut self, own: usize, phase: u8, slots: &[Option<Slot>]) {
-        if self.plans[own].is_some() {
-            return;
-        }
-        let (class, d) = (self.setup.crew.class, usize::from(self.setup.crew.d));
-        let deciding: Vec<u16> = slots
-            .iter()
-            .flatten()
-            .filter(|slot| class == 1 || slot.message.stamp() == phase)
-            .map(|slot| slot.message.plan())
-            .collect();
-        let is_enough = |plan: &u16| deciding.iter().filter(|&other| other == plan).count() >= d;
-        self.plans[own] = deciding.iter().copied().filter(is_enough).min();
-        if self.plans[own].is_some() && self.is_good {
-            self.tally.decided_in_good += 1;
-        }
-    }
-
     /// A good phase decides its circle.
     fn check_circle(&mut self, phase: u8, circle: &[usize]) -> Result<(), String> {
         self.tally.good_phases += 1;
         for &own in circle {
-            expect(self.plans[own].is_some(), || format!("good phase {phase} left node {own} undecided"))?;
+            expect(self.decisions.plans[own].is_some(), || format!("good phase {phase} left node {own} undecided"))?;
         }
         Ok(())
     }
 
     /// The properties that hold after every round.
     fn check(&self, round: usize) -> Result<(), String> {
-        let coming = runs::place(self.setup.crew, round + 1).unwrap_or((Node::SPENT, 1));
-        let honest = self.honest();
-        for &own in &honest {
-            let node = self.records[own].ok_or("no such node")?;
-            let plan = self.plans[own];
-            expect((node.phase, node.round) == coming, || format!("node {own} stands at the wrong place"))?;
-            expect(node.is_sound(), || format!("node {own} is not sound"))?;
-            // The standing result is the plan decided from the inboxes, or 0.
-            expect(node.result == plan.unwrap_or(0), || format!("result {} of node {own}, not {plan:?}", node.result))?;
-            // Common start: whoever decided has that plan.
-            let is_common = self.common.is_none() || plan.is_none() || plan == self.common;
-            expect(is_common, || format!("node {own} decided {plan:?} after the start {:?}", self.common))?;
+        for node in self.records.iter().flatten() {
+            check_place(self.setup.crew, node, round + 1)?;
         }
-        for &one in &honest {
-            for &other in &honest {
-                // Results are equal exactly when both have decided or neither has.
-                let is_equal = self.records[one].map(|node| node.result) == self.records[other].map(|node| node.result);
-                let are_both = self.plans[one].is_some() == self.plans[other].is_some();
-                let plans = (self.plans[one], self.plans[other]);
-                expect(is_equal == are_both, || format!("nodes {one} and {other} decided {plans:?}"))?;
-            }
-        }
-        Ok(())
+        self.decisions.check(&self.records)
     }
 
     /// 01: "When the records are spent, every call is refused with 8 and the round leaves all as it was."
     fn spent_round(&mut self, random: &mut Random) -> Result<(), String> {
         self.tally.spent_rounds += 1;
-        for own in self.honest() {
+        for own in self.setup.honest() {
             let length = random.below(SLOT + 2);
             let before = random.bytes(length);
-            let (answer, after) = self.write(own, &before)?;
+            let (answer, after) = self.pair.write(self.record(own)?, &before)?;
             expect(answer == Err(Refusal::Spent) && after == before, || format!("spent write of node {own}"))?;
             let inbox = vec![0; random.pick(&[0, SLOT * self.records.len()])];
-            let (answer, _) = self.call_take(own, &inbox)?;
+            let (answer, _) = self.pair.take(self.record(own)?, &inbox)?;
             expect(answer == Err(Refusal::Spent), || format!("spent take of node {own}: {answer:?}"))?;
-            let asked = self.call_ask(own, &inbox)?;
+            let asked = self.pair.ask(self.record(own)?, &inbox)?;
             expect(asked == Err(Refusal::Spent), || format!("spent ask of node {own}: {asked:?}"))?;
         }
         Ok(())
     }
 }
 
-/// A counting slot: its message, and the bytes of that message, which are its one encoding.
-#[derive(Clone, Copy, Debug)]
-struct Slot<'a> {
-    bytes: &'a [u8],
-    message: Message,
-}
-
-/// For each slot of an inbox what counts in it.
-fn counting_slots(run: u32, phase: u8, number: u8, inbox: &[u8]) -> Vec<Option<Slot<'_>>> {
-    let counting = |bytes: &'_ [u8]| {
-        let message = message::read(bytes).ok()?;
-        (message.run == run && message.phase == phase && message.kind() == number).then_some(message)
-    };
-    let slot_of = |bytes| counting(bytes).map(|message| Slot { bytes: &bytes[..message.length()], message });
-    inbox.chunks_exact(SLOT).map(slot_of).collect()
+/// A record that has taken this many rounds is sound and stands at the place that follows them.
+pub fn check_place(crew: Crew, node: &Node, taken: usize) -> Result<(), String> {
+    let coming = runs::place(crew, taken).unwrap_or((Node::SPENT, 1));
+    expect((node.phase, node.round) == coming, || format!("node {} stands at the wrong place", node.own))?;
+    expect(node.is_sound(), || format!("node {} is not sound", node.own))
 }
 
 /// 01: "In round 1 all of them have the same counting messages, each in as many slots of one inbox as of another, and
@@ -377,12 +249,4 @@ fn is_good_round(number: u8, circle: &[usize], silent: &[bool], counting: &[Vec<
         messages
     };
     are_heard && (number != 1 || circle.iter().all(|&to| messages(to) == messages(circle[0])))
-}
-
-fn expect(is_so: bool, failure: impl FnOnce() -> String) -> Result<(), String> {
-    if is_so {
-        Ok(())
-    } else {
-        Err(failure())
-    }
 }

@@ -1,9 +1,12 @@
 //! The comparison has teeth: it tells every mutant from the engine, and finds no difference where there is none.
 
 use comparison::mutants::{tell_all, Cases};
-use comparison::runs;
+use comparison::pair::Pair;
+use comparison::regrouping::{self, Regrouping};
 use comparison::seeds::seeds;
 use comparison::{compare, Engine, Operation, Second};
+use comparison::{exchanges, runs, schedules};
+use generators::schedules::Schedule;
 use generators::Random;
 use second_engine::{Crew, Message, Mutation, Node, Refusal, Selection};
 use std::cell::Cell;
@@ -12,7 +15,7 @@ use std::cell::Cell;
 fn the_engine_is_equal_to_itself() {
     for operation in Operation::ALL {
         let cases = match operation {
-            Operation::Run | Operation::Drill => 100,
+            Operation::Run | Operation::Schedule | Operation::Drill => 100,
             _ => 2_000,
         };
         for seed in seeds(&format!("{operation:?}"), cases) {
@@ -25,7 +28,7 @@ fn the_engine_is_equal_to_itself() {
 
 #[test]
 fn every_mutant_is_told_from_the_engine() {
-    let cases = Cases { rounds: 2_000, runs: 100, drills: 200 };
+    let cases = Cases { rounds: 2_000, runs: 100, schedules: 200, drills: 200 };
     if let Err(failure) = tell_all(&Second::default(), cases) {
         panic!("{failure}");
     }
@@ -43,6 +46,19 @@ fn properties_of_runs_find_mutants() {
     }
 }
 
+/// The same of schedules, which claim no decision in good phases and so find fewer.
+#[test]
+fn claims_of_schedules_find_mutants() {
+    const SCHEDULES: u64 = 200;
+    println!("of {SCHEDULES} schedules");
+    for mutation in Mutation::MUTANTS {
+        let is_found = |seed: &u64| schedules::drive(&mut Random::new(*seed), &Second { mutation }, None).is_err();
+        let found = (1..=SCHEDULES).filter(is_found).count();
+        println!("{mutation:?}: {found}");
+        assert!(found > 0 || mutation != Mutation::MajorityOfArrivalsDecides);
+    }
+}
+
 /// What docs/DECISIONS.md argues: in class 2, going back to the own selection splits and stalls no run.
 #[test]
 fn own_selection_does_no_harm_in_class_2() {
@@ -54,12 +70,12 @@ fn own_selection_does_no_harm_in_class_2() {
     }
 }
 
-/// The second engine, but its first take is wrong, whatever it is given: a select that no rule gives.
-struct WrongOnce {
-    was_wrong: Cell<bool>,
+/// The second engine, but an accepted take is wrong where this says so of the record: a select that no rule gives.
+struct Wrong<F: Fn(&Node) -> bool> {
+    is_wrong: F,
 }
 
-impl Engine for WrongOnce {
+impl<F: Fn(&Node) -> bool> Engine for Wrong<F> {
     fn accept(&self, crew: Crew) -> Result<(), Refusal> {
         Second::default().accept(crew)
     }
@@ -86,7 +102,7 @@ impl Engine for WrongOnce {
 
     fn take(&self, node: &mut Node, inbox: &[u8]) -> Result<(), Refusal> {
         let answer = Second::default().take(node, inbox);
-        if !self.was_wrong.replace(true) {
+        if answer.is_ok() && (self.is_wrong)(node) {
             node.select ^= 1;
         }
         answer
@@ -100,8 +116,31 @@ impl Engine for WrongOnce {
 /// An engine that reads memory it never wrote can be wrong once and right when it is asked again.
 #[test]
 fn a_difference_that_comes_once_is_told() {
-    for operation in [Operation::Round, Operation::Run] {
-        let wrong = WrongOnce { was_wrong: Cell::new(false) };
+    for operation in [Operation::Round, Operation::Run, Operation::Schedule] {
+        let was_wrong = Cell::new(false);
+        let wrong = Wrong { is_wrong: |_| !was_wrong.replace(true) };
         assert!(compare(operation, 1, &wrong, &Second::default()).is_err(), "{operation:?}");
     }
+}
+
+/// An engine that keeps something from one node's take to the next gives other records in another order, which shows
+/// where there is no engine to compare with: in the lock-step list, and where neighbours are exchanged.
+#[test]
+fn an_engine_that_remembers_other_nodes_is_told() {
+    const SCHEDULES: u64 = 100;
+    let last = Cell::new(0);
+    let wrong = Wrong { is_wrong: |node| last.replace(node.own) > node.own };
+    let (right, pair) = (Pair { engine: &Second::default(), other: None }, Pair { engine: &wrong, other: None });
+    let (mut by_list, mut by_exchanges) = (0, 0);
+    for seed in 1..=SCHEDULES {
+        let random = &mut Random::new(seed);
+        let Schedule { setup, events } = schedules::make(random, 3, right).unwrap();
+        let played = schedules::replay(pair, &setup, &events).unwrap();
+        let losses = regrouping::losses(setup.crew);
+        let list = regrouping::regroup(Regrouping::ByOwnRound, &setup, &played, &losses);
+        by_list += usize::from(regrouping::check(pair, &setup, &played, &list).is_err());
+        by_exchanges += usize::from(exchanges::check(random, pair, &setup, &played).is_err());
+    }
+    println!("of {SCHEDULES} schedules the list tells {by_list}, exchanges tell {by_exchanges}");
+    assert!(by_list > 0 && by_exchanges > 0);
 }

@@ -1,4 +1,5 @@
-//! Generators of test cases, each a function of a seed: crews, records, messages, inboxes, whole runs, drill scripts.
+//! Generators of test cases, each a function of a seed: crews, records, messages, inboxes, whole runs, schedules, drill
+//! scripts.
 //! Any engine may be fed from them; they use the second engine's types and its reader, never its rules.
 
 pub mod crews;
@@ -9,5 +10,6 @@ pub mod plans;
 pub mod random;
 pub mod records;
 pub mod runs;
+pub mod schedules;
 
 pub use random::Random;

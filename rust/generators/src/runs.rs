@@ -60,6 +60,16 @@ impl Setup {
         };
         Setup { crew, run, starts, is_honest, pool, rounds, good: random.pick(&[0, 1, 3, 8]) }
     }
+
+    /// The honest numbers, in their order.
+    pub fn honest(&self) -> Vec<usize> {
+        (0..self.is_honest.len()).filter(|&own| self.is_honest[own]).collect()
+    }
+
+    /// The least number of nodes in a circle: n - b - f.
+    pub fn reachable(&self) -> usize {
+        usize::from(self.crew.n) - usize::from(self.crew.b) - usize::from(self.crew.f)
+    }
 }
 
 /// A start that is refused: plan 0, a number not below n, or a refused crew.
@@ -124,11 +134,10 @@ enum Liar {
 impl Weather {
     pub fn new(random: &mut Random, setup: &Setup, records: &[Option<Node>]) -> Weather {
         let n = usize::from(setup.crew.n);
-        let honest: Vec<usize> = (0..n).filter(|&own| setup.is_honest[own]).collect();
-        let least = n - usize::from(setup.crew.b) - usize::from(setup.crew.f);
-        let mut circle = honest.clone();
+        let least = setup.reachable();
+        let mut circle = setup.honest();
         random.shuffle(&mut circle);
-        let any_size = random.between(least, honest.len());
+        let any_size = random.between(least, circle.len());
         circle.truncate(random.pick(&[least, least, any_size]));
         // Adaptive: a plan that was decided or that honest nodes vote for now, and one to set against it.
         let votes: Vec<u16> = records.iter().flatten().map(|node| node.vote).collect();
@@ -195,26 +204,36 @@ pub struct Scene<'a> {
 impl Scene<'_> {
     /// One inbox for each number below n; those of liars stay empty.
     pub fn inboxes(&self, random: &mut Random) -> Vec<Vec<u8>> {
-        let n = usize::from(self.setup.crew.n);
         let common = self.common_slots(random);
         let mut inboxes = Vec::new();
-        for to in 0..n {
-            let mut inbox = vec![0; SLOT * n];
-            let in_circle = self.weather.is_good && self.weather.circle.contains(&to);
-            for (from, slot) in inbox.chunks_exact_mut(SLOT).enumerate() {
-                if in_circle && self.round == 1 {
-                    self.put_or_absent(random, slot, common[from].as_deref());
-                } else {
-                    let bytes = self.choose(random, from, to, in_circle);
-                    self.put_or_absent(random, slot, bytes.as_deref());
-                }
-            }
-            if in_circle && self.round == 1 {
-                self.permute_liars(random, &mut inbox);
-            }
-            inboxes.push(if self.setup.is_honest[to] { inbox } else { Vec::new() });
+        for (to, &is_honest) in self.setup.is_honest.iter().enumerate() {
+            let inbox = self.filled(random, to, &common);
+            inboxes.push(if is_honest { inbox } else { Vec::new() });
         }
         inboxes
+    }
+
+    /// The inbox of one node alone, which takes its round when others are elsewhere. Liars have no words in common.
+    pub fn inbox(&self, random: &mut Random, to: usize) -> Vec<u8> {
+        let common = self.common_slots(random);
+        self.filled(random, to, &common)
+    }
+
+    fn filled(&self, random: &mut Random, to: usize, common: &[Option<Vec<u8>>]) -> Vec<u8> {
+        let mut inbox = vec![0; SLOT * usize::from(self.setup.crew.n)];
+        let in_circle = self.weather.is_good && self.weather.circle.contains(&to);
+        for (from, slot) in inbox.chunks_exact_mut(SLOT).enumerate() {
+            if in_circle && self.round == 1 {
+                self.put_or_absent(random, slot, common[from].as_deref());
+            } else {
+                let bytes = self.choose(random, from, to, in_circle);
+                self.put_or_absent(random, slot, bytes.as_deref());
+            }
+        }
+        if in_circle && self.round == 1 {
+            self.permute_liars(random, &mut inbox);
+        }
+        inbox
     }
 
     /// What every circle node gets in round 1 of a good phase, by sender.
