@@ -1,4 +1,5 @@
-//! Comparison of two engines on generated cases, and the properties of whole runs (01, 'The list in demand 3').
+//! Comparison of two engines on generated cases, the properties of whole runs (01, 'The list in demand 3'), and the
+//! claims on schedules, where nodes are out of step (C-17).
 
 pub mod cases;
 pub mod decisions;

@@ -11,9 +11,10 @@ use generators::schedules::{Call, Event};
 use second_engine::inbox::SLOT;
 use second_engine::{Crew, Refusal};
 
-/// How a schedule is regrouped: as above, or in a way that the checks have to tell from it.
+/// How a schedule is regrouped: by the definition, or in a way that the checks have to tell from it.
 #[derive(Clone, Copy, Debug, PartialEq, Eq)]
 pub enum Regrouping {
+    /// The definition.
     ByOwnRound,
     /// The schedule itself, cut after as many accepted takes as there are honest nodes, whoever took. The round that is
     /// on at its end is filled up with losses.
@@ -22,7 +23,7 @@ pub enum Regrouping {
     PadWithLastInbox,
     /// Refused takes count as rounds.
     RefusedTakesCount,
-    /// As many rounds as the fastest took and no more.
+    /// As many rounds as the fastest took and no more, so that its calls after them are missing.
     WithoutRoundThatIsOn,
 }
 
@@ -47,27 +48,28 @@ pub fn losses(crew: Crew) -> Vec<Event> {
 
 /// The list for a schedule that was played.
 pub fn regroup<'a>(regrouping: Regrouping, setup: &Setup, schedule: &Replay<'a>, losses: &'a [Event]) -> List<'a> {
+    let honest = setup.honest();
     if regrouping == Regrouping::ByGlobalRound {
-        return cut(&setup.honest(), &schedule.steps, losses);
+        return by_global_round(&honest, &schedule.steps, losses);
     }
     let is_end = |step: &Step| match step.answer {
         Answer::Taken(answer) => answer.is_ok() || regrouping == Regrouping::RefusedTakesCount,
         _ => false,
     };
-    let rounds: Vec<Vec<OwnRound>> = (0..losses.len())
-        .map(|own| own_rounds(schedule.steps.iter().filter(|step| step.event.own == own), is_end))
-        .collect();
+    let rounds: Vec<Vec<OwnRound>> = (0..losses.len()).map(|own| own_rounds(steps_of(schedule, own), is_end)).collect();
     let padding = |own: usize| match regrouping {
         Regrouping::PadWithLastInbox => rounds[own].iter().rev().find_map(|round| round.take).unwrap_or(&losses[own]),
         _ => &losses[own],
     };
-    let most = rounds.iter().map(Vec::len).max().unwrap_or(0);
+    // A node's rounds are those it took and the one that is on.
+    let most = rounds.iter().map(Vec::len).max().unwrap_or(1);
+    let count = if regrouping == Regrouping::WithoutRoundThatIsOn { most - 1 } else { most };
     let mut list = Vec::new();
-    for round in 0..most - usize::from(regrouping == Regrouping::WithoutRoundThatIsOn) {
-        let of_node = |own: usize| rounds[own].get(round);
-        let calls = setup.honest().into_iter().filter_map(of_node).flat_map(|round| round.calls.iter().copied());
-        let take = |own: usize| of_node(own).and_then(|round| round.take).unwrap_or(padding(own));
-        list.push(calls.chain(setup.honest().into_iter().map(take)).collect());
+    for round in 0..count {
+        let of_node = |own: &usize| rounds[*own].get(round);
+        let calls = honest.iter().filter_map(of_node).flat_map(|round| round.calls.iter().copied());
+        let take = |own: &usize| of_node(own).and_then(|round| round.take).unwrap_or(padding(*own));
+        list.push(calls.chain(honest.iter().map(take)).collect());
     }
     list
 }
@@ -80,7 +82,7 @@ struct OwnRound<'a> {
 }
 
 /// The rounds of one node, from its steps. The last is the one that is on.
-fn own_rounds<'a, 's>(steps: impl Iterator<Item = &'s Step<'a>>, is_end: impl Fn(&Step) -> bool) -> Vec<OwnRound<'a>>
+fn own_rounds<'s, 'a>(steps: impl Iterator<Item = &'s Step<'a>>, is_end: impl Fn(&Step) -> bool) -> Vec<OwnRound<'a>>
 where
     'a: 's,
 {
@@ -99,7 +101,7 @@ where
 }
 
 /// A mutant's list: a round ends after as many accepted takes as there are honest nodes.
-fn cut<'a>(honest: &[usize], steps: &[Step<'a>], losses: &'a [Event]) -> List<'a> {
+fn by_global_round<'a>(honest: &[usize], steps: &[Step<'a>], losses: &'a [Event]) -> List<'a> {
     let mut list = Vec::new();
     let (mut round, mut takers) = (Vec::new(), Vec::new());
     for step in steps {

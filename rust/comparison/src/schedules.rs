@@ -78,6 +78,7 @@ pub enum Answer {
 }
 
 impl Answer {
+    /// The refusal, if the call was refused.
     pub fn refusal(&self) -> Option<Refusal> {
         match self {
             Answer::Written(answer) => answer.as_ref().err().copied(),
@@ -314,6 +315,7 @@ impl Tally {
         self.decided_apart += usize::from(before.result != after.result && distance >= APART);
     }
 
+    /// Adds another schedule, or many.
     pub fn add(&mut self, other: Tally) {
         self.schedules += other.schedules;
         self.events += other.events;

@@ -164,14 +164,11 @@ fn three_rounds_ahead_in_lock_step() {
     let played = replay(ALONE, &schedule.setup, &schedule.events).unwrap();
     let losses = losses(schedule.setup.crew);
     let list = regroup(Regrouping::ByOwnRound, &schedule.setup, &played, &losses);
-    let rounds: [Vec<&Event>; 4] = [
-        [0, 1, 8, 9, 10, 2, 3, 11, 12].map(|place| &schedule.events[place]).to_vec(),
-        [4, 13, 14, 5, 15, 18].map(|place| &schedule.events[place]).to_vec(),
-        [6, 16, 17, 19, 7]
-            .map(|place| &schedule.events[place])
-            .into_iter()
-            .chain([&losses[1], &schedule.events[20]])
-            .collect(),
+    let events = |places: &[usize]| -> Vec<&Event> { places.iter().map(|&place| &schedule.events[place]).collect() };
+    let rounds = [
+        events(&[0, 1, 8, 9, 10, 2, 3, 11, 12]),
+        events(&[4, 13, 14, 5, 15, 18]),
+        [events(&[6, 16, 17, 19, 7]), vec![&losses[1]], events(&[20])].concat(),
         losses[..3].iter().collect(),
     ];
     assert_eq!(list, rounds);
@@ -196,18 +193,19 @@ fn three_rounds_ahead_exchanged() {
             bound.push(place);
         }
     }
-    // The write of node 2 and the take of node 0, then the writes and takes of round 2.
+    // In round 1 the write of node 2 and the take of node 0, in round 2 that write and the take of node 1.
     assert_eq!(bound, [2, 14]);
 }
 
-/// A message that was not yet written when it was taken: of another node, and of the node itself.
+/// A message that is written only after it was taken, the node's own and another's, and one that is not written at all.
 #[test]
 fn a_message_from_nowhere_is_told() {
-    for (later, earlier) in [(4, 2), (1, 3)] {
-        let mut schedule = by_hand();
-        let event = schedule.events.remove(earlier);
-        schedule.events.insert(later - usize::from(later > earlier), event);
-        let failure = check(&mut Random::new(1), &schedule, ALONE).unwrap_err();
-        assert!(failure.contains("breaks the premise"), "{failure}");
+    let mut schedules = [by_hand(), by_hand(), by_hand()];
+    schedules[0].events[0..=3].rotate_left(1);
+    schedules[1].events[2..=3].rotate_left(1);
+    schedules[2].events[5] = take(0, [VALIDATION, VALIDATION, &[], &[]]);
+    for (schedule, slot) in schedules.iter().zip([0, 2, 1]) {
+        let failure = check(&mut Random::new(1), schedule, ALONE).unwrap_err();
+        assert!(failure.starts_with("take of node 0") && failure.contains(&format!("slot {slot} breaks the premise")));
     }
 }

@@ -17,7 +17,7 @@ fn cases_of(operation: Operation) -> u64 {
     match operation {
         Operation::Accept | Operation::Start | Operation::Write | Operation::Read | Operation::Round => 1_000_000,
         Operation::Run => 5_000,
-        Operation::Schedule => 10_000,
+        Operation::Schedule => 6_000,
         Operation::Drill => 3_000,
     }
 }
