@@ -2,6 +2,7 @@
 -- 02: "Agreement and common start follow for it without a fresh argument."
 -- Assumes nothing.
 use mathlib.Core.Path.{_≡_, sym, ap, _∙_, subst}
+use mathlib.Core.Bool.{Bool}
 use mathlib.Core.List.{List}
 use mathlib.Core.Logic.{_⊎_, inl, inr, _↔_}
 use mathlib.Core.Option.{some}
@@ -21,8 +22,8 @@ use Rattle.agreement.specs.Statement.{Listing, callsOf, recordAt, inboxAt, phas
 use Rattle.agreement.proofs.Calls.{none-taken}
 use Rattle.agreement.proofs.Demand.{demand3}
 use Rattle.schedules.specs.Schedule.{Schedule, isHonest, startRecord, roundsTaken, ownRecord, ownInbox}
-use Rattle.schedules.specs.Schedule.{SchedulePremises, inStep, mostRounds, Wins, Decided, PlanDecided, standing}
-use Rattle.schedules.specs.Schedule.{OutOfStep}
+use Rattle.schedules.specs.Schedule.{SchedulePremises, inStep, mostRounds, lockStep, Wins, Decided, PlanDecided}
+use Rattle.schedules.specs.Schedule.{standing, OutOfStep}
 use Rattle.schedules.proofs.Rounds.{last-record, not-taken}
 use Rattle.schedules.proofs.Events.{rounds-length}
 use Rattle.schedules.proofs.Empty.{nothing-counts}
@@ -185,6 +186,17 @@ module _ (s : Schedule) (crew : Crew) (number : ℕ) (pre : SchedulePremises s c
       agree : (lists.standing (run m) p ≡ lists.standing (run m) q)
           ↔ (lists.Decided (run m) crew p ↔ lists.Decided (run m) crew q)
       agree = concludes m p hp most-p .agreement p q hp hq
+
+-- Good phases, which 02 does not ask for: every node in the circle of a phase that is good in the run has decided.
+pub good-phase : (s : Schedule) (crew : Crew) (number : ℕ) → SchedulePremises s crew number
+    → (phase : ℕ) (circle : ℕ → Bool) → 1 ≤ phase → phase < 64 → lists.Good (lockStep s (crew .n)) crew phase circle
+    → (p : ℕ) → T (circle p) → (j : ℕ) × (v : ℕ) × (phaseAt crew j ≤ phase) × Wins s crew p j v
+good-phase s crew number pre phase circle from early good p inside =
+    let m = suc (mostRounds s (crew .n)) in
+    let h = good .inside p inside in
+    let ample : roundsTaken s p ≤ m = omega (arith, at-most s (crew .n) p (honest-in s crew number pre p h)) in
+    let won = concludes s crew number pre m p h ample .good-phase phase circle from early good p inside in
+    (won .0, won .1, won .2, wins-from s crew number pre m p h ample (won .0) (won .1) (won .3))
 
 pub out-of-step : OutOfStep
 out-of-step s crew number pre = record {

@@ -1,10 +1,11 @@
 -- A message of another round does not count. 02 asks that what counts was written before it is taken; the premises of
--- a schedule say, in its sender's round of that number: this loses nothing, because the bytes of another round have
--- another phase or another kind. Assumes nothing.
-use mathlib.Core.Path.{_≡_, refl, sym, ap, _∙_, subst}
+-- a schedule say, in its sender's round of that number. Nothing is lost by it: the bytes of another round have another
+-- phase or another kind, so the premises follow from 02's words alone. Assumes nothing.
+use mathlib.Core.Path.{_≡_, refl, sym, ap, ap₂, _∙_, subst}
 use mathlib.Core.Bool.{Bool, true, false, cond, _&&_}
-use mathlib.Core.List.{List, [], _∷_, _++_}
-use mathlib.Core.Logic.{inl, inr}
+use mathlib.Core.List.{List, [], _∷_, _++_, append-nil, append-assoc}
+use mathlib.Core.List.{head-eq-of-cons-eq, tail-eq-of-cons-eq}
+use mathlib.Core.Logic.{_⊎_, inl, inr}
 use mathlib.Core.Option.{Option, none, some}
 use Prim.Native.Nat.{ℕ, _≤_, _<_}
 use native.Mathlib.Omega.{arith}
@@ -12,7 +13,7 @@ use native.Mathlib.Decide.{decLt, decLe}
 use lib.ListN.{length}
 use lib.Dec.{T, ltb, eqb}
 use borrow.Author.Tests.{eqb-true}
-use Rattle.wire.specs.Outcome.{accepted}
+use Rattle.wire.specs.Outcome.{accepted, isAccepted}
 use Rattle.wire.proofs.Tests.{both-true}
 use Rattle.crew.specs.declared.Crew.{Crew}
 use Rattle.message.specs.Fields.{Message}
@@ -27,14 +28,17 @@ use Rattle.node.proofs.Facts.{Typed}
 use Rattle.node.proofs.SendLaws.{write-accepted}
 use Rattle.node.proofs.ReadBack.{read-back}
 use Rattle.inbox.specs.Inbox.{slotAt, ballotOf, isOf, counted, ballotAt}
-use Rattle.agreement.specs.Statement.{Call, write, ask, take-round, Listing, afterCall, callsOf, Puts, Wrote}
+use Rattle.rounds.specs.Taking.{takeOf}
+use Rattle.agreement.specs.Statement.{Call, Event, write, ask, take-round, Listing, afterCall, callsOf, Puts, Wrote}
 use Rattle.agreement.specs.Statement.{phaseIf, roundIf, phaseAt, roundAt, Conclusions}
 use Rattle.agreement.proofs.Demand.{demand3}
 use Rattle.agreement.proofs.Simulation.{follows}
 use Rattle.agreement.proofs.Written.{puts-coming}
-use Rattle.schedules.specs.Schedule.{Schedule, isHonest, startRecord, recordAfter, roundsTaken, ownCalls}
-use Rattle.schedules.specs.Schedule.{ownRecord, OwnWrote, SchedulePremises, lockStep, InLockStep}
+use Rattle.schedules.specs.Schedule.{Schedule, on, upTo, isHonest, startRecord, recordAfter, roundsTaken}
+use Rattle.schedules.specs.Schedule.{ownCalls, ownRecord, OwnWrote, TakesAfter, SchedulePremises, WrittenBefore}
+use Rattle.schedules.specs.Schedule.{SameRound, lockStep, InLockStep}
 use Rattle.schedules.proofs.Rounds.{leaves, OneRound, one-round, no-calls, last-record}
+use Rattle.schedules.proofs.Events.{nothing-there}
 use Rattle.schedules.proofs.LockStep.{lock-step}
 
 -- all writes of a round are made on the record with which it begins
@@ -153,3 +157,71 @@ module _ (s : Schedule) (crew : Crew) (run : ℕ) (pre : SchedulePremises s crew
           let inside = in-step .long q hq in
           subst Typed (in-step .records q i hq l)
           (follows list crew run (in-step .premises) q i hq (omega arith) .typed)
+
+-- what stands in a list with x at its end is x, or stands before it
+last-or-before : (before : List Event) (x : Event) (earlier : List Event) (y : Event) (later : List Event)
+    → before ++ (x ∷ []) ≡ earlier ++ (y ∷ later)
+    → ((before ≡ earlier) × (x ≡ y)) ⊎ ((between : List Event) × (before ≡ earlier ++ (y ∷ between)))
+last-or-before [] x [] y later h = inl (refl, head-eq-of-cons-eq h)
+last-or-before [] x (z ∷ earlier) y later h = absurd (nothing-there earlier y later (tail-eq-of-cons-eq h))
+last-or-before (z ∷ before) x [] y later h = inr (before, ap (λ e. e ∷ before) (head-eq-of-cons-eq h))
+last-or-before (z ∷ before) x (w ∷ earlier) y later h =
+    let same = head-eq-of-cons-eq h in
+    elim (last-or-before before x earlier y later (tail-eq-of-cons-eq h)) [
+      | inl k ↦ inl (ap₂ (λ e es. e ∷ es) same (k .0), k .1)
+      | inr k ↦ inr (k .0, ap₂ (λ e es. e ∷ es) same (k .1))
+    ]
+
+module _ (s : Schedule) (crew : Crew) (run : ℕ) (pre : WrittenBefore s crew run) where
+  -- one event more, in a schedule that meets the premises so far
+  one-more : (before : List Event) (x : Event) (later : List Event) → s .events ≡ before ++ (x ∷ later)
+      → SchedulePremises (upTo s before) crew run → SchedulePremises (upTo s (before ++ (x ∷ []))) crew run
+  one-more before x later stands so-far = record {
+    typed = so-far .typed;
+    crew-accepted = so-far .crew-accepted;
+    one-crew = so-far .one-crew;
+    distinct = so-far .distinct;
+    few = so-far .few;
+    bytes = λ p h earlier inbox t. elim (where-is p earlier inbox t) [
+      | inl k ↦ pre .bytes p h earlier inbox (last-take p earlier inbox k (t .is-accepted))
+      | inr k ↦
+          so-far .bytes p h earlier inbox (record { later = k .0; stands = k .1; is-accepted = t .is-accepted })
+    ];
+    slots = λ p q hp hq earlier inbox m t counts. elim (where-is p earlier inbox t) [
+      | inl k ↦
+          let w = pre .slots p q hp hq earlier inbox m (last-take p earlier inbox k (t .is-accepted)) counts in
+          let then = subst (λ es. SchedulePremises (upTo s es) crew run) (k .0) so-far in
+          let same =
+          same-round (upTo s earlier) crew run then p q hp hq inbox m counts (w .0) (w .1) (w .2) (w .3) (w .4) in
+          (w .1, w .2, subst (λ j. OwnWrote (upTo s earlier) q j (w .1)) same (w .3), w .4)
+      | inr k ↦
+          so-far .slots p q hp hq earlier inbox m
+          (record { later = k .0; stands = k .1; is-accepted = t .is-accepted }) counts
+    ];
+  }
+    where
+      where-is : (p : ℕ) (earlier : List Event) (inbox : List ℕ)
+          → TakesAfter (upTo s (before ++ (x ∷ []))) earlier p inbox
+          → ((before ≡ earlier) × (x ≡ on p (take-round inbox)))
+          ⊎ ((between : List Event) × (before ≡ earlier ++ (on p (take-round inbox) ∷ between)))
+      where-is p earlier inbox t =
+          last-or-before before x earlier (on p (take-round inbox)) (t .later) (t .stands)
+
+      last-take : (p : ℕ) (earlier : List Event) (inbox : List ℕ) → (before ≡ earlier) × (x ≡ on p (take-round inbox))
+          → T (isAccepted (takeOf (recordAfter (upTo s earlier) p) inbox)) → TakesAfter s earlier p inbox
+      last-take p earlier inbox k accepts = record {
+        later = later;
+        stands = stands ∙ ap₂ (λ es y. es ++ (y ∷ later)) (k .0) (k .1);
+        is-accepted = accepts;
+      }
+
+  onward : (before later : List Event) → s .events ≡ before ++ later → SchedulePremises (upTo s before) crew run
+      → SchedulePremises s crew run
+  onward before [] stands so-far =
+      subst (λ es. SchedulePremises (upTo s es) crew run) (sym (stands ∙ append-nil before)) so-far
+  onward before (x ∷ later) stands so-far =
+      onward (before ++ (x ∷ [])) later (stands ∙ sym (append-assoc before (x ∷ []) later))
+      (one-more before x later stands so-far)
+
+pub written-before : SameRound
+written-before s crew run pre = onward s crew run pre [] (s .events) refl (pre .begun)

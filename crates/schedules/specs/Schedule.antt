@@ -1,8 +1,8 @@
 -- Controllers out of step: the calls of demand 3 in any order, one node in round 3 while another still sits in round 1
 -- (02, C-17). This is the page that a reader has to believe: definitions only, in the order of 02's sentences, each
--- under its words; Exchange, LockStep and OutOfStep are the three statements. What a call answers and leaves behind,
--- and what a list of whole rounds is, stands in agreement/specs/Statement.antt. proofs/Exchange.antt, LockStep.antt and
--- Agreement.antt prove the statements; proofs/Example.antt has a schedule that meets the premises.
+-- under its words. The statements are SameRound, Exchange, LockStep and OutOfStep; SameRound.antt, Exchange.antt,
+-- LockStep.antt and Agreement.antt in proofs/ prove them, and Example.antt there has a schedule that meets the premises.
+-- What a call answers and leaves behind, and what a list of whole rounds is, stands in agreement/specs/Statement.antt.
 use mathlib.Core.Path.{_≡_}
 use mathlib.Core.Bool.{Bool, false, not, cond}
 use mathlib.Core.List.{List, [], _∷_, _++_, map, flatten}
@@ -124,6 +124,22 @@ pub record SchedulePremises (s : Schedule) (crew : Crew) (run : ℕ) : Type 0 wh
       → (written : List ℕ) × (rest : List ℕ)
       × OwnWrote (upTo s before) q (roundsTaken (upTo s before) p) written
       × (slotAt inbox q ≡ written ++ rest)
+
+-- The same without the number of the round: what counts was written before, in whatever round of its sender's own. 02
+-- asks no more, and the premises above follow from it, because a message of another round does not count.
+pub record WrittenBefore (s : Schedule) (crew : Crew) (run : ℕ) : Type 0 where
+  -- the premises on the starts, when no call has been made
+  pub begun : SchedulePremises (upTo s []) crew run
+  pub bytes : (p : ℕ) → T (isHonest s p) → (before : List Event) (inbox : List ℕ) → TakesAfter s before p inbox
+      → AreBytes inbox
+  pub slots : (p q : ℕ) → T (isHonest s p) → T (isHonest s q) → (before : List Event) (inbox : List ℕ) (m : Ballot)
+      → TakesAfter s before p inbox → ballotAt (recordAfter (upTo s before) p) inbox q ≡ some m
+      → (j : ℕ) × (written : List ℕ) × (rest : List ℕ)
+      × OwnWrote (upTo s before) q j written
+      × (slotAt inbox q ≡ written ++ rest)
+
+abbrev pub SameRound : Type 0
+SameRound = (s : Schedule) (crew : Crew) (run : ℕ) → WrittenBefore s crew run → SchedulePremises s crew run
 
 -- 02: "Two steps of different nodes, neither of which takes what the other writes, give the same records in either
 -- order, each handed the same inbox."
