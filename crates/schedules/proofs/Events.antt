@@ -126,7 +126,7 @@ module _ (s : Schedule) (given : ℕ → List Call) (p : ℕ) where
   own-part true t = calls-made p (given p)
   own-part false t = absurd t
 
-  pub by-node : (n : ℕ) → T (isHonest s p) → p < n → callsOf p (byNode s given n) ≡ given p
+  by-node : (n : ℕ) → T (isHonest s p) → p < n → callsOf p (byNode s given n) ≡ given p
   unfolding byNode
   by-node zero honest h = absurd (omega arith)
   by-node (suc n) honest h = elim (ℕ-discrete n p) [

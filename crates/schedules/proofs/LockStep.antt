@@ -32,8 +32,8 @@ use Rattle.schedules.specs.Schedule.{Schedule, on, upTo, isHonest, start
 use Rattle.schedules.specs.Schedule.{callsBefore, roundsTaken, ownCalls, ownRecord, ownInbox, OwnWrote}
 use Rattle.schedules.specs.Schedule.{TakesAfter, SchedulePremises, emptyInbox, paddedCalls, firstRounds, inStep}
 use Rattle.schedules.specs.Schedule.{mostRounds, LockStep}
-use Rattle.schedules.proofs.Rounds.{leaves, after-append, all-calls, OneRound, one-round, no-calls, open-inbox}
-use Rattle.schedules.proofs.Rounds.{last-record, taken-at, wrote-more}
+use Rattle.schedules.proofs.Rounds.{not-both, leaves, after-append, all-calls, OneRound, one-round, no-calls}
+use Rattle.schedules.proofs.Rounds.{open-inbox, last-record, taken-at, wrote-more}
 use Rattle.schedules.proofs.Events.{calls-append, stands-at, calls-in-round, rounds-length, round-at}
 use Rattle.schedules.proofs.Events.{calls-together}
 use Rattle.schedules.proofs.Empty.{empty-length, empty-bytes, nothing-counts}
@@ -46,17 +46,15 @@ accepted-long : (n : ℕ) (d : Node) → Unspent n d → (inbox : List ℕ) → 
     → length inbox ≡ 202 * n
 accepted-long n d u inbox e = elim (ℕ-discrete (length inbox) (202 * n)) [
   | yes l ↦ l
-  | no l ↦
-      let z : _≡_ {A = Bool} false true = sym (ap isAccepted (u .takes-not inbox l)) ∙ e in
-      absurd (let y : _≡_ {A = ℕ} 0 1 = cc in omega arith)
+  | no l ↦ not-both (sym (ap isAccepted (u .takes-not inbox l)) ∙ e)
 ]
 
 whole-round : (n : ℕ) (d : Node) → Unspent n d → (cs : List Call) (taken : Bool) → OneRound d cs taken
     → Whole n (cs ++ cond taken [] (take-round (emptyInbox n) ∷ []))
 whole-round n d u [] taken h = rw h (inl (empty-length n, tt))
-whole-round n d u (write buffer ∷ cs) taken (inl h) = absurd (let y : _≡_ {A = ℕ} 0 1 = cc (h .0) in omega arith)
+whole-round n d u (write buffer ∷ cs) taken (inl h) = not-both (h .0)
 whole-round n d u (write buffer ∷ cs) taken (inr h) = whole-round n d u cs taken (h .1)
-whole-round n d u (ask inbox ∷ cs) taken (inl h) = absurd (let y : _≡_ {A = ℕ} 0 1 = cc (h .0) in omega arith)
+whole-round n d u (ask inbox ∷ cs) taken (inl h) = not-both (h .0)
 whole-round n d u (ask inbox ∷ cs) taken (inr h) = whole-round n d u cs taken (h .1)
 whole-round n d u (take-round inbox ∷ cs) taken (inl h) =
     inl (accepted-long n d u inbox (h .0), rw (h .1, h .2) tt)

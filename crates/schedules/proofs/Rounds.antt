@@ -17,10 +17,16 @@ use Rattle.agreement.specs.Statement.{Call, write, ask, take-round, afterCall, 
 use Rattle.agreement.proofs.Calls.{none-taken}
 use Rattle.schedules.specs.Schedule.{endsRound, roundsIn, callsIn, callsBefore, recordIn}
 
--- either a call ends its round or it does not
-pub either : (b : Bool) → (b ≡ true) ⊎ (b ≡ false)
+-- A test passes or fails, and not both.
+
+either : (b : Bool) → (b ≡ true) ⊎ (b ≡ false)
 either true = inl refl
 either false = inr refl
+
+pub not-both : {A : Type 0} → _≡_ {A = Bool} false true → A
+not-both e = absurd (let z : _≡_ {A = ℕ} 0 1 = cc in omega arith)
+
+-- a count with one call more, by whether it ends a round
 
 one-more : (r : ℕ) → bit true + r ≡ suc r
 one-more r = omega arith
@@ -35,7 +41,7 @@ leaves d (ask inbox) e = refl
 leaves d (take-round inbox) e = go (takeOf d inbox) e
   where
     go : (o : Outcome Node) → isAccepted o ≡ false → valueOr d o ≡ d
-    go (accepted x) e = absurd (let z : _≡_ {A = Bool} true false = e in let y : _≡_ {A = ℕ} 0 1 = cc in omega arith)
+    go (accepted x) e = not-both (sym e)
     go (refused x) e = refl
 
 pub after-append : (d : Node) (cs more : List Call) → afterCalls d (cs ++ more) ≡ afterCalls (afterCalls d cs) more
@@ -64,7 +70,7 @@ before-onward d c cs (suc j) =
     go true = refl
     go false = refl
 
-pub record-onward : (d : Node) (c : Call) (cs : List Call) (j : ℕ)
+record-onward : (d : Node) (c : Call) (cs : List Call) (j : ℕ)
     → recordIn d (c ∷ cs) (suc j) ≡ recordIn (afterCall d c) cs (cond (endsRound d c) j (suc j))
 unfolding afterCalls
 record-onward d c cs j = ap (afterCalls d) (before-onward d c cs j)
@@ -131,19 +137,16 @@ no-calls d (c ∷ cs) (suc j) h =
 
 -- A round that no take has ended leaves the record, and takes no inbox.
 
-not-true : {A : Type 0} → _≡_ {A = Bool} false true → A
-not-true e = absurd (let z : _≡_ {A = ℕ} 0 1 = cc in omega arith)
-
 open-after : (d : Node) (cs : List Call) → OneRound d cs false → afterCalls d cs ≡ d
 unfolding afterCalls
 open-after d [] h = refl
-open-after d (c ∷ cs) (inl h) = not-true (h .2)
+open-after d (c ∷ cs) (inl h) = not-both (h .2)
 open-after d (c ∷ cs) (inr h) = open-after (afterCall d c) cs (h .1) ∙ leaves d c (h .0)
 
 pub open-inbox : (d : Node) (cs more : List Call) → OneRound d cs false → takenInbox d (cs ++ more) ≡ takenInbox d more
 unfolding takenInbox
 open-inbox d [] more h = refl
-open-inbox d (c ∷ cs) more (inl h) = not-true (h .2)
+open-inbox d (c ∷ cs) more (inl h) = not-both (h .2)
 open-inbox d (write buffer ∷ cs) more (inr h) = open-inbox d cs more (h .1)
 open-inbox d (ask inbox ∷ cs) more (inr h) = open-inbox d cs more (h .1)
 open-inbox d (take-round inbox ∷ cs) more (inr h) =
