@@ -179,11 +179,11 @@ unfolding acceptOf
 accepted-crew = refl
 
 -- the inboxes hold bytes
-allBytes : List ℕ → Bool
+unfoldable pub allBytes : List ℕ → Bool
 allBytes [] = true
 allBytes (x ∷ s) = ltb x 256 && allBytes s
 
-are-bytes : (s : List ℕ) → T (allBytes s) → AreBytes s
+pub are-bytes : (s : List ℕ) → T (allBytes s) → AreBytes s
 unfolding allBytes
 are-bytes [] t place = omega arith
 are-bytes (x ∷ s) t zero = ltb→lt x 256 (and-T (ltb x 256) (allBytes s) t .0)

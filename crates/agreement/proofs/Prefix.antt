@@ -23,12 +23,12 @@ module _ (l : Listing) (m : ℕ) where
   calls-same : (p j : ℕ) → j < m → calls (cut m l) p j ≡ calls l p j
   calls-same p j h = ap (callsOf p) (getD-take m (l .rounds) j [] h)
 
-  record-same : (p j : ℕ) → j ≤ m → recordAt (cut m l) p j ≡ recordAt l p j
+  pub record-same : (p j : ℕ) → j ≤ m → recordAt (cut m l) p j ≡ recordAt l p j
   unfolding recordAt
   record-same p zero h = refl
   record-same p (suc j) h = ap₂ afterCalls (record-same p j (omega arith)) (calls-same p j (omega arith))
 
-  inbox-same : (p j : ℕ) → j < m → inboxAt (cut m l) p j ≡ inboxAt l p j
+  pub inbox-same : (p j : ℕ) → j < m → inboxAt (cut m l) p j ≡ inboxAt l p j
   inbox-same p j h = ap₂ takenInbox (record-same p j (omega arith)) (calls-same p j h)
 
   cut-length : (length (cut m l .rounds) ≤ m) × (length (cut m l .rounds) ≤ length (l .rounds))

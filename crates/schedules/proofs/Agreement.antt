@@ -6,28 +6,31 @@ use mathlib.Core.Bool.{Bool}
 use mathlib.Core.List.{List}
 use mathlib.Core.Logic.{_⊎_, inl, inr, _↔_}
 use mathlib.Core.Option.{some}
-use Prim.Native.Nat.{ℕ, suc, _≤_, _<_}
+use Prim.Native.Nat.{ℕ, _≤_, _<_}
 use native.Mathlib.Omega.{arith}
 use native.Mathlib.Decide.{decLt}
-use lib.ListN.{length}
-use lib.Dec.{T}
+use lib.ListN.{length, length-take}
+use lib.Dec.{T, ltb}
+use Rattle.wire.specs.Outcome.{accepted, isAccepted}
 use Rattle.crew.specs.declared.Crew.{Crew}
+use Rattle.crew.specs.Acceptance.{acceptOf}
 use Rattle.crew.proofs.Facts.{accepts, quorum-positive}
 use Rattle.ballot.specs.Count.{tally, holds}
 use Rattle.ballot.proofs.Counting.{tally-le, tally-none, nobody-of}
 use Rattle.node.specs.declared.Node.{Node}
 use Rattle.inbox.specs.Inbox.{ballotAt}
 use Rattle.agreement.specs.Statement as lists
-use Rattle.agreement.specs.Statement.{Listing, callsOf, recordAt, inboxAt, phaseAt, isFor, Conclusions}
-use Rattle.agreement.proofs.Calls.{none-taken}
+use Rattle.agreement.specs.Statement.{Listing, answerTo, made, numbered, callsOf, recordAt, inboxAt, phaseAt, Every}
+use Rattle.agreement.specs.Statement.{isFor, Conclusions}
+use Rattle.agreement.proofs.Calls.{none-taken, taken-inside}
 use Rattle.agreement.proofs.Demand.{demand3}
-use Rattle.schedules.specs.Schedule.{Schedule, isHonest, startRecord, roundsTaken, ownRecord, ownInbox}
-use Rattle.schedules.specs.Schedule.{SchedulePremises, inStep, mostRounds, lockStep, Wins, Decided, PlanDecided}
+use Rattle.agreement.proofs.Prefix.{cut, record-same, inbox-same, after-every-round}
+use Rattle.schedules.specs.Schedule.{Schedule, isHonest, startRecord, recordAfter, roundsTaken, ownRecord}
+use Rattle.schedules.specs.Schedule.{ownInbox, emptyInbox, lockStep, InLockStep, Wins, Decided, PlanDecided}
 use Rattle.schedules.specs.Schedule.{standing, OutOfStep}
-use Rattle.schedules.proofs.Rounds.{last-record, not-taken}
-use Rattle.schedules.proofs.Events.{rounds-length}
+use Rattle.schedules.proofs.Rounds.{not-taken}
 use Rattle.schedules.proofs.Empty.{nothing-counts}
-use Rattle.schedules.proofs.LockStep.{records-are, inboxes-are, nothing-heard, honest-in, run-premises, at-most}
+use Rattle.schedules.proofs.LockStep.{lock-step}
 
 -- a round whose inbox was taken is one that the node took
 took-round : (s : Schedule) (p j : ℕ) (inbox : List ℕ) → ownInbox s p j ≡ some inbox → j < roundsTaken s p
@@ -61,149 +64,177 @@ stands-once (inl a) (inr b) = absurd (b .0 (a .round, _, a .wins))
 stands-once (inr a) (inl b) = absurd (a .0 (b .round, _, b .wins))
 stands-once (inr a) (inr b) = a .1 ∙ sym (b .1)
 
-module _ (s : Schedule) (crew : Crew) (number : ℕ) (pre : SchedulePremises s crew number) where
-  abbrev run : ℕ → Listing
-  run m = inStep s (crew .n) m
+-- A list in which p has the schedule's records and inboxes as long as it took rounds, and then hears nothing.
+record Carries (s : Schedule) (n p : ℕ) (l : Listing) : Type 0 where
+  records : (j : ℕ) → j ≤ roundsTaken s p → recordAt l p j ≡ ownRecord s p j
+  inboxes : (j : ℕ) → j < roundsTaken s p → inboxAt l p j ≡ ownInbox s p j
+  losses : (j : ℕ) → roundsTaken s p ≤ j → (inbox : List ℕ) → inboxAt l p j ≡ some inbox → inbox ≡ emptyInbox n
 
-  -- In the run of m rounds, at least as many as p took, p wins with what it wins with in the schedule.
-  module _ (m p : ℕ) (h : T (isHonest s p)) (ample : roundsTaken s p ≤ m) where
-    abbrev Enough : ℕ → ℕ → List ℕ → Node → Type 0
-    Enough j v inbox d =
-        crew .d ≤ tally (λ q. holds (isFor crew (phaseAt crew j) v) (ballotAt d inbox q)) (crew .n)
+-- In such a list p wins with what it wins with in the schedule.
 
-    same-record : (j : ℕ) → j ≤ roundsTaken s p → recordAt (run m) p j ≡ ownRecord s p j
-    same-record j l = records-are s (crew .n) p h (honest-in s crew number pre p h) m j (omega arith) l
+module _ (s : Schedule) (crew : Crew) (ok : acceptOf crew ≡ accepted tt) (p : ℕ) (l : Listing)
+    (carries : Carries s (crew .n) p l) where
+  abbrev Enough : ℕ → ℕ → List ℕ → Node → Type 0
+  Enough j v inbox d =
+      crew .d ≤ tally (λ q. holds (isFor crew (phaseAt crew j) v) (ballotAt d inbox q)) (crew .n)
 
-    same-inbox : (j : ℕ) → j < roundsTaken s p → inboxAt (run m) p j ≡ ownInbox s p j
-    same-inbox j l = inboxes-are s (crew .n) p h (honest-in s crew number pre p h) m j (omega arith) l
+  wins-to : (j v : ℕ) → Wins s crew p j v → lists.Wins l crew p j v
+  wins-to j v w =
+      let took = took-round s p j (w .1) (w .2) in
+      let same = carries .records j (omega arith) in
+      (w .0, w .1, carries .inboxes j took ∙ w .2, subst (Enough j v (w .1)) (sym same) (w .3))
 
-    wins-to : (j v : ℕ) → Wins s crew p j v → lists.Wins (run m) crew p j v
-    wins-to j v w =
-        let took = took-round s p j (w .1) (w .2) in
-        (w .0, w .1, same-inbox j took ∙ w .2, subst (Enough j v (w .1)) (sym (same-record j (omega arith))) (w .3))
+  -- with an empty inbox nothing is won
+  lost : (j v : ℕ) → roundsTaken s p ≤ j → lists.Wins l crew p j v → ⊥
+  lost j v over w =
+      let d = recordAt l p j in
+      let empty = carries .losses j over (w .1) (w .2) in
+      omega (
+        arith,
+        quorum-positive (accepts crew ok),
+        w .3,
+        tally-none (crew .n),
+        tally-le (λ q. holds (isFor crew (phaseAt crew j) v) (ballotAt d (w .1) q)) nobody-of (crew .n) (λ q below t.
+            subst (λ o. T (holds (isFor crew (phaseAt crew j) v) o))
+            (ap (λ x. ballotAt d x q) empty ∙ nothing-counts d (crew .n) q) t),
+      )
 
-    -- with an empty inbox nothing is won
-    lost : (j v : ℕ) → roundsTaken s p ≤ j → lists.Wins (run m) crew p j v → ⊥
-    lost j v over w =
-        let d = recordAt (run m) p j in
-        let empty = nothing-heard s (crew .n) p h (honest-in s crew number pre p h) m j over (w .1) (w .2) in
-        omega (
-          arith,
-          quorum-positive (accepts crew (pre .crew-accepted)),
-          w .3,
-          tally-none (crew .n),
-          tally-le (λ q. holds (isFor crew (phaseAt crew j) v) (ballotAt d (w .1) q)) nobody-of (crew .n)
-              (λ q l t.
-              subst (λ o. T (holds (isFor crew (phaseAt crew j) v) o))
-              (ap (λ x. ballotAt d x q) empty ∙ nothing-counts d (crew .n) q) t),
-        )
+  wins-from : (j v : ℕ) → lists.Wins l crew p j v → Wins s crew p j v
+  wins-from j v w = elim (decLt j (roundsTaken s p)) [
+    | yes took ↦
+        let same = carries .records j (omega arith) in
+        (w .0, w .1, sym (carries .inboxes j took) ∙ w .2, subst (Enough j v (w .1)) same (w .3))
+    | no over ↦ absurd (lost j v (omega arith) w)
+  ]
 
-    wins-from : (j v : ℕ) → lists.Wins (run m) crew p j v → Wins s crew p j v
-    wins-from j v w = elim (decLt j (roundsTaken s p)) [
-      | yes took ↦
-          (w .0, w .1, sym (same-inbox j took) ∙ w .2, subst (Enough j v (w .1)) (same-record j (omega arith)) (w .3))
-      | no over ↦ absurd (lost j v (omega arith) w)
-    ]
+  decided-to : Decided s crew p → lists.Decided l crew p
+  decided-to d = (d .0, d .1, wins-to (d .0) (d .1) (d .2))
 
-    decided-to : Decided s crew p → lists.Decided (run m) crew p
-    decided-to d = (d .0, d .1, wins-to (d .0) (d .1) (d .2))
+  decided-from : lists.Decided l crew p → Decided s crew p
+  decided-from d = (d .0, d .1, wins-from (d .0) (d .1) (d .2))
 
-    decided-from : lists.Decided (run m) crew p → Decided s crew p
-    decided-from d = (d .0, d .1, wins-from (d .0) (d .1) (d .2))
+  plan-to : (v : ℕ) → PlanDecided s crew p v → lists.PlanDecided l crew p v
+  plan-to v d = record {
+    round = d .round;
+    wins = wins-to (d .round) v (d .wins);
+    least = λ w x. d .least w (wins-from (d .round) w x);
+    first = λ i w before x. d .first i w before (wins-from i w x);
+  }
 
-    plan-to : (v : ℕ) → PlanDecided s crew p v → lists.PlanDecided (run m) crew p v
-    plan-to v d = record {
-      round = d .round;
-      wins = wins-to (d .round) v (d .wins);
-      least = λ w x. d .least w (wins-from (d .round) w x);
-      first = λ i w l x. d .first i w l (wins-from i w x);
-    }
+  plan-from : (v : ℕ) → lists.PlanDecided l crew p v → PlanDecided s crew p v
+  plan-from v d = record {
+    round = d .round;
+    wins = wins-from (d .round) v (d .wins);
+    least = λ w x. d .least w (wins-to (d .round) w x);
+    first = λ i w before x. d .first i w before (wins-to i w x);
+  }
 
-    plan-from : (v : ℕ) → lists.PlanDecided (run m) crew p v → PlanDecided s crew p v
-    plan-from v d = record {
-      round = d .round;
-      wins = wins-from (d .round) v (d .wins);
-      least = λ w x. d .least w (wins-to (d .round) w x);
-      first = λ i w l x. d .first i w l (wins-to i w x);
-    }
+  -- what demand 3 says of a result in the list, it says in the schedule
+  result-from : (v : ℕ) → lists.PlanDecided l crew p v ⊎ ((lists.Decided l crew p → ⊥) × (v ≡ 0)) → Stands s crew p v
+  result-from v (inl d) = inl (plan-from v d)
+  result-from v (inr d) = inr (λ x. d .0 (decided-to x), d .1)
 
-    -- demand 3 of the run
-    concludes : Conclusions (run m) crew
-    concludes = demand3 (run m) crew number (run-premises s crew number pre m)
+-- From the run and demand 3 alone: all that is known of the list is that it is a lock-step run of the schedule.
 
-    run-result : Stands s crew p (lists.standing (run m) p)
-    run-result = elim (concludes .result p h) [
-      | inl d ↦ inl (plan-from (lists.standing (run m) p) d)
-      | inr d ↦ inr (λ x. d .0 (decided-to x), d .1)
-    ]
+module _ (s : Schedule) (crew : Crew) (run : ℕ) (l : Listing) (inStep : InLockStep s crew run l) where
+  abbrev ok : acceptOf crew ≡ accepted tt
+  ok = inStep .premises .crew-accepted
 
-  -- the run of just the rounds that p took ends with the record of p
+  honest-in : (p : ℕ) → T (isHonest s p) → T (lists.honest l p)
+  honest-in p h = subst (λ starts. T (ltb 0 (numbered p (made starts)))) (sym (inStep .starts)) h
+
+  run-carries : (p : ℕ) → T (isHonest s p) → Carries s (crew .n) p l
+  run-carries p h = record {
+    records = λ j. inStep .records p j h;
+    inboxes = λ j. inStep .inboxes p j h;
+    losses = λ j. inStep .losses p j h;
+  }
+
+  -- demand 3 of the run
+  concludes : Conclusions l crew
+  concludes = demand3 l crew run (inStep .premises)
+
+  -- The result of p: demand 3 of the run cut short after the rounds that p took, where it has the record of p.
   result : (p : ℕ) → T (isHonest s p) → Stands s crew p (standing s p)
   result p h =
-      let m = roundsTaken s p in
-      let end =
-      ap (recordAt (run m) p) (rounds-length s (crew .n) m)
-      ∙ same-record m p h (omega arith) m (omega arith)
-      ∙ last-record (startRecord s p) (callsOf p (s .events)) in
-      subst (Stands s crew p) (ap (λ (x : Node). x .result) end) (run-result m p h (omega arith))
+      subst (Stands s crew p) (ap (λ (d : Node). d .result) end)
+      (result-from s crew ok p short short-carries (lists.standing short p)
+      (after-every-round l crew run (inStep .premises) m .result p (honest-in p h)))
+    where
+      m : ℕ
+      m = roundsTaken s p
+
+      short : Listing
+      short = cut m l
+
+      m-rounds : length (short .rounds) ≡ m
+      m-rounds = omega (arith, length-take m (l .rounds), inStep .long p h)
+
+      short-carries : Carries s (crew .n) p short
+      short-carries = record {
+        records = λ j inside. record-same l m p j inside ∙ inStep .records p j h inside;
+        inboxes = λ j inside. inbox-same l m p j inside ∙ inStep .inboxes p j h inside;
+        losses = λ j over inbox e. absurd (omega (arith, taken-inside short p j inbox e, m-rounds));
+      }
+
+      end : recordAt short p (length (short .rounds)) ≡ recordAfter s p
+      end = ap (recordAt short p) m-rounds ∙ record-same l m p m (omega arith) ∙ inStep .last p h
 
   -- so a node's result stays what it is in the rounds that others took and it did not
-  same-standing : (m p : ℕ) (h : T (isHonest s p)) → roundsTaken s p ≤ m → lists.standing (run m) p ≡ standing s p
-  same-standing m p h ample = stands-once (run-result m p h ample) (result p h)
+  same-standing : (p : ℕ) (h : T (isHonest s p)) → lists.standing l p ≡ standing s p
+  same-standing p h =
+      stands-once
+      (result-from s crew ok p l (run-carries p h) (lists.standing l p) (concludes .result p (honest-in p h)))
+      (result p h)
 
   agreement : (p q : ℕ) → T (isHonest s p) → T (isHonest s q)
       → (standing s p ≡ standing s q) ↔ (Decided s crew p ↔ Decided s crew q)
   agreement p q hp hq = (
     λ e.
-        let both = agree .0 (same-p ∙ e ∙ sym same-q) in (
-          λ d. decided-from m q hq most-q (both .0 (decided-to m p hp most-p d)),
-          λ d. decided-from m p hp most-p (both .1 (decided-to m q hq most-q d)),
-        ),
+        let both = agree .0 (same-standing p hp ∙ e ∙ sym (same-standing q hq)) in
+        (λ d. q-from (both .0 (p-to d)), λ d. p-from (both .1 (q-to d))),
     λ both.
-        sym same-p
-        ∙ agree .1 (
-          λ d. decided-to m q hq most-q (both .0 (decided-from m p hp most-p d)),
-          λ d. decided-to m p hp most-p (both .1 (decided-from m q hq most-q d)),
-        )
-        ∙ same-q,
+        sym (same-standing p hp)
+        ∙ agree .1 (λ d. q-to (both .0 (p-from d)), λ d. p-to (both .1 (q-from d)))
+        ∙ same-standing q hq,
   )
     where
-      m : ℕ
-      m = suc (mostRounds s (crew .n))
+      agree : (lists.standing l p ≡ lists.standing l q) ↔ (lists.Decided l crew p ↔ lists.Decided l crew q)
+      agree = concludes .agreement p q (honest-in p hp) (honest-in q hq)
 
-      most-p : roundsTaken s p ≤ m
-      most-p = omega (arith, at-most s (crew .n) p (honest-in s crew number pre p hp))
+      p-to : Decided s crew p → lists.Decided l crew p
+      p-to = decided-to s crew ok p l (run-carries p hp)
 
-      most-q : roundsTaken s q ≤ m
-      most-q = omega (arith, at-most s (crew .n) q (honest-in s crew number pre q hq))
+      p-from : lists.Decided l crew p → Decided s crew p
+      p-from = decided-from s crew ok p l (run-carries p hp)
 
-      same-p : lists.standing (run m) p ≡ standing s p
-      same-p = same-standing m p hp most-p
+      q-to : Decided s crew q → lists.Decided l crew q
+      q-to = decided-to s crew ok q l (run-carries q hq)
 
-      same-q : lists.standing (run m) q ≡ standing s q
-      same-q = same-standing m q hq most-q
+      q-from : lists.Decided l crew q → Decided s crew q
+      q-from = decided-from s crew ok q l (run-carries q hq)
 
-      agree : (lists.standing (run m) p ≡ lists.standing (run m) q)
-          ↔ (lists.Decided (run m) crew p ↔ lists.Decided (run m) crew q)
-      agree = concludes m p hp most-p .agreement p q hp hq
+  common-start : (v : ℕ) → Every (λ x. T (isAccepted (answerTo x)) → x .plan ≡ v) (s .starts)
+      → (p w : ℕ) → T (isHonest s p) → PlanDecided s crew p w → w ≡ v
+  common-start v each p w h d =
+      concludes .common-start v
+      (subst (Every (λ x. T (isAccepted (answerTo x)) → x .plan ≡ v)) (sym (inStep .starts)) each)
+      p w (honest-in p h) (plan-to s crew ok p l (run-carries p h) w d)
 
--- Good phases, which 02 does not ask for: every node in the circle of a phase that is good in the run has decided.
-pub good-phase : (s : Schedule) (crew : Crew) (number : ℕ) → SchedulePremises s crew number
-    → (phase : ℕ) (circle : ℕ → Bool) → 1 ≤ phase → phase < 64 → lists.Good (lockStep s (crew .n)) crew phase circle
-    → (p : ℕ) → T (circle p) → (j : ℕ) × (v : ℕ) × (phaseAt crew j ≤ phase) × Wins s crew p j v
-good-phase s crew number pre phase circle from early good p inside =
-    let m = suc (mostRounds s (crew .n)) in
-    let h = good .inside p inside in
-    let ample : roundsTaken s p ≤ m = omega (arith, at-most s (crew .n) p (honest-in s crew number pre p h)) in
-    let won = concludes s crew number pre m p h ample .good-phase phase circle from early good p inside in
-    (won .0, won .1, won .2, wins-from s crew number pre m p h ample (won .0) (won .1) (won .3))
+  -- Good phases, which 02 does not ask for: every node in the circle of a phase that is good in the run has decided.
+  pub good-phase : (phase : ℕ) (circle : ℕ → Bool) → 1 ≤ phase → phase < 64 → lists.Good l crew phase circle
+      → (p : ℕ) → T (circle p) → (j : ℕ) × (v : ℕ) × (phaseAt crew j ≤ phase) × Wins s crew p j v
+  good-phase phase circle from early good p inside =
+      let h = subst (λ starts. T (ltb 0 (numbered p (made starts)))) (inStep .starts) (good .inside p inside) in
+      let won = concludes .good-phase phase circle from early good p inside in
+      (won .0, won .1, won .2, wins-from s crew ok p l (run-carries p h) (won .0) (won .1) (won .3))
 
 pub out-of-step : OutOfStep
-out-of-step s crew number pre = record {
-  result = result s crew number pre;
-  agreement = agreement s crew number pre;
-  common-start = λ v each p w h d.
-      let m = roundsTaken s p in
-      let run-of-p = concludes s crew number pre m p h (omega arith) in
-      run-of-p .common-start v each p w h (plan-to s crew number pre m p h (omega arith) w d);
-}
+out-of-step s crew run pre =
+    let l = lockStep s (crew .n) in
+    let inStep = lock-step s crew run pre in
+    record {
+      result = result s crew run l inStep;
+      agreement = agreement s crew run l inStep;
+      common-start = common-start s crew run l inStep;
+    }

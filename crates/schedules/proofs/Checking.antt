@@ -20,21 +20,12 @@ use Rattle.node.specs.Sending.{writeOf, bufferOf}
 use Rattle.inbox.specs.Inbox.{slotAt, ballotAt}
 use Rattle.rounds.specs.Taking.{takeOf}
 use Rattle.agreement.specs.Statement.{Call, write, ask, take-round, Event, afterCall, Puts, Wrote}
+use Rattle.agreement.proofs.Example.{allBytes, are-bytes}
 use Rattle.schedules.specs.Schedule.{Schedule, on, upTo, isHonest, recordAfter, roundsTaken, ownCalls, ownRecord}
 use Rattle.schedules.specs.Schedule.{OwnWrote, TakesAfter}
 use Rattle.schedules.proofs.Events.{nothing-there}
 
 -- Lists of numbers.
-
-unfoldable pub allBytes : List ℕ → Bool
-allBytes [] = true
-allBytes (x ∷ xs) = ltb x 256 && allBytes xs
-
-all-bytes : (xs : List ℕ) → T (allBytes xs) → AreBytes xs
-unfolding allBytes
-all-bytes [] t place = omega arith
-all-bytes (x ∷ xs) t zero = ltb→lt x 256 (and-T (ltb x 256) (allBytes xs) t .0)
-all-bytes (x ∷ xs) t (suc place) = all-bytes xs (and-T (ltb x 256) (allBytes xs) t .1) place
 
 unfoldable pub sameBytes : List ℕ → List ℕ → Bool
 sameBytes [] [] = true
@@ -169,7 +160,7 @@ module _ (s : Schedule) (n : ℕ) where
         (T-and (isHonest s p) accepts hp (t .is-accepted))
 
     pub bytes-ok : AreBytes inbox
-    bytes-ok = all-bytes inbox (and-T (allBytes inbox) (everyBelow (slotOk before p inbox) n) take-ok .0)
+    bytes-ok = are-bytes inbox (and-T (allBytes inbox) (everyBelow (slotOk before p inbox) n) take-ok .0)
 
     pub slots-ok : (q : ℕ) → T (isHonest s q) → q < n → (m : Ballot)
         → ballotAt (recordAfter (upTo s before) p) inbox q ≡ some m

@@ -13,8 +13,9 @@ use lib.Seq.{getD-at}
 use lib.Dec.{T, eqb}
 use borrow.Author.Tests.{eq-eqb, ne-eqb}
 use Rattle.agreement.specs.Statement.{Call, Event, callsOf}
-use Rattle.schedules.specs.Schedule.{Schedule, on, isHonest, paddedCalls, allButLast, lastOnly, byNode}
-use Rattle.schedules.specs.Schedule.{roundInStep, firstRounds}
+use Rattle.schedules.specs.Schedule.{Schedule, on, upTo, isHonest, startRecord, OwnWrote, paddedCalls}
+use Rattle.schedules.specs.Schedule.{lastPlace, allButLast, lastOnly, byNode, roundInStep, firstRounds}
+use Rattle.schedules.proofs.Rounds.{wrote-more}
 
 -- nothing stands in the empty list
 pub nothing-there : {A : Type 0} (before : List A) (x : A) (later : List A) → [] ≡ before ++ (x ∷ later) → ⊥
@@ -52,6 +53,12 @@ pub calls-other-last : (p : ℕ) (es : List Event) (e : Event) → e .node ≢ p
 unfolding callsOf
 calls-other-last p es e h =
     calls-append p es (e ∷ []) ∙ ap (λ x. callsOf p es ++ x) (calls-other p e [] h) ∙ append-nil (callsOf p es)
+
+-- what was written among the first events was written among all
+pub wrote-all : (s : Schedule) (before later : List Event) → s .events ≡ before ++ later → (q j : ℕ) (w : List ℕ)
+    → OwnWrote (upTo s before) q j w → OwnWrote s q j w
+wrote-all s before later e q j w h =
+    rw (e, calls-append q before later) (wrote-more (startRecord s q) (callsOf q before) (callsOf q later) j w h)
 
 -- A call of p stands among the events where it stands among its calls.
 pub record StandsAt (p : ℕ) (es : List Event) (earlier : List Call) (c : Call) : Type 0 where
@@ -126,7 +133,7 @@ module _ (s : Schedule) (given : ℕ → List Call) (p : ℕ) where
   own-part true t = calls-made p (given p)
   own-part false t = absurd t
 
-  by-node : (n : ℕ) → T (isHonest s p) → p < n → callsOf p (byNode s given n) ≡ given p
+  pub by-node : (n : ℕ) → T (isHonest s p) → p < n → callsOf p (byNode s given n) ≡ given p
   unfolding byNode
   by-node zero honest h = absurd (omega arith)
   by-node (suc n) honest h = elim (ℕ-discrete n p) [
@@ -154,7 +161,7 @@ module _ (s : Schedule) (n : ℕ) where
       (byNode s (λ q. lastOnly (paddedCalls s n q j)) n)
       ∙ ap₂ (λ x y. x ++ y) (by-node s (λ q. allButLast (paddedCalls s n q j)) p n honest below)
       (by-node s (λ q. lastOnly (paddedCalls s n q j)) p n honest below)
-      ∙ take-append-drop (length own - 1) own
+      ∙ take-append-drop (lastPlace own) own
 
   pub rounds-length : (m : ℕ) → length (firstRounds s n m) ≡ m
   unfolding firstRounds

@@ -26,10 +26,10 @@ use Rattle.inbox.specs.Inbox.{ballotAt}
 use Rattle.rounds.specs.Taking.{afterRound, takeOf}
 use Rattle.agreement.specs.Statement.{write, ask, take-round, made, recordOf, afterCalls, callsOf}
 use Rattle.agreement.proofs.Simulation.{honest-below}
-use Rattle.agreement.proofs.Example.{drill, drill-premises}
+use Rattle.agreement.proofs.Example.{drill, drill-premises, allBytes}
 use Rattle.schedules.specs.Schedule.{Schedule, on, roundsIn, callsIn, callsBefore}
 use Rattle.schedules.specs.Schedule.{roundsTaken, SchedulePremises, ScheduleConclusions, standing}
-use Rattle.schedules.proofs.Checking.{allBytes, sameBytes, everyBelow, wroteFront, slotOk, takeOk, eventsOk}
+use Rattle.schedules.proofs.Checking.{sameBytes, everyBelow, wroteFront, slotOk, takeOk, eventsOk}
 use Rattle.schedules.proofs.Checking.{bytes-ok, slots-ok}
 use Rattle.schedules.proofs.Agreement.{out-of-step}
 

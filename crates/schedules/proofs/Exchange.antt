@@ -21,7 +21,7 @@ use Rattle.schedules.specs.Schedule.{recordIn, roundsTaken, OwnWrote, Ta
 use Rattle.schedules.specs.Schedule.{TakesFrom, inOrder, Exchange}
 use Rattle.schedules.proofs.Rounds.{wrote-last}
 use Rattle.schedules.proofs.Events.{calls-mine, calls-other, calls-append, calls-mine-last, calls-other-last}
-use Rattle.schedules.proofs.LockStep.{wrote-all}
+use Rattle.schedules.proofs.Events.{wrote-all}
 
 -- Two steps of different nodes: in either order every node has the same calls.
 

@@ -2,8 +2,8 @@ pub mod Rounds
 pub mod Events
 pub mod Empty
 pub mod LockStep
+pub mod SameRound
 pub mod Exchange
 pub mod Agreement
 pub mod Checking
-pub mod SameRound
 pub mod Example

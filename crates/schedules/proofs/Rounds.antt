@@ -152,21 +152,22 @@ open-inbox d (ask inbox ∷ cs) more (inr h) = open-inbox d cs more (h .1)
 open-inbox d (take-round inbox ∷ cs) more (inr h) =
     rw (h .0) (open-inbox d cs more (rw (leaves d (take-round inbox) (h .0)) at (h .1)))
 
+pub open-none : (d : Node) (cs : List Call) → OneRound d cs false → takenInbox d cs ≡ none
+unfolding takenInbox
+open-none d cs h = sym (ap (takenInbox d) (append-nil cs)) ∙ open-inbox d cs [] h
+
 pub not-taken : (d : Node) (cs : List Call) (j : ℕ) → roundsIn d cs ≤ j
     → takenInbox (recordIn d cs j) (callsIn d cs j) ≡ none
-unfolding takenInbox
 not-taken d cs j h =
-    let on = rw (le-ltb j (roundsIn d cs) h) at (one-round d cs j) in
-    sym (ap (takenInbox (recordIn d cs j)) (append-nil (callsIn d cs j)))
-    ∙ open-inbox (recordIn d cs j) (callsIn d cs j) [] on
+    open-none (recordIn d cs j) (callsIn d cs j) (rw (le-ltb j (roundsIn d cs) h) at (one-round d cs j))
 
 -- so the record after all calls is the one with which the round that is on began
 pub last-record : (d : Node) (cs : List Call) → recordIn d cs (roundsIn d cs) ≡ afterCalls d cs
 unfolding callsBefore
 last-record d cs =
     let r = roundsIn d cs in
-    let on = rw (le-ltb r r (omega arith)) at (one-round d cs r) in
-    sym (open-after (recordIn d cs r) (callsIn d cs r) on)
+    let unended = rw (le-ltb r r (omega arith)) at (one-round d cs r) in
+    sym (open-after (recordIn d cs r) (callsIn d cs r) unended)
     ∙ sym (after-append d (callsBefore d cs r) (callsIn d cs r))
     ∙ ap (afterCalls d) (all-calls d cs)
 

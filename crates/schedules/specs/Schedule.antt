@@ -7,9 +7,9 @@ use mathlib.Core.Path.{_≡_}
 use mathlib.Core.Bool.{Bool, false, not, cond}
 use mathlib.Core.List.{List, [], _∷_, _++_, map, flatten}
 use mathlib.Core.Logic.{_⊎_, _≢_, _↔_}
-use mathlib.Core.Option.{Option, some}
+use mathlib.Core.Option.{Option, none, some}
 use Prim.Native.Nat.{ℕ, zero, suc, _+_, _-_, _*_, _^_, _≤_, _<_, max}
-use lib.ListN.{length, replicate, take, drop}
+use lib.ListN.{length, getD, replicate, take, drop}
 use lib.Dec.{T, ltb}
 use Rattle.wire.specs.Outcome.{accepted, isAccepted}
 use Rattle.wire.specs.Bytes.{AreBytes}
@@ -117,8 +117,8 @@ pub record SchedulePremises (s : Schedule) (crew : Crew) (run : ℕ) : Type 0 wh
   -- An inbox that an honest node took holds bytes.
   pub bytes : (p : ℕ) → T (isHonest s p) → (before : List Event) (inbox : List ℕ) → TakesAfter s before p inbox
       → AreBytes inbox
-  -- A slot that counts for an honest node and belongs to an honest node holds what its node wrote: by a write that
-  -- stands before the take, in its own round of the number of the round that is taken.
+  -- A slot that counts for an honest node p and belongs to an honest node q holds what q wrote, by a write that stands
+  -- before the take, in q's own round with the number of the round that p takes.
   pub slots : (p q : ℕ) → T (isHonest s p) → T (isHonest s q) → (before : List Event) (inbox : List ℕ) (m : Ballot)
       → TakesAfter s before p inbox → ballotAt (recordAfter (upTo s before) p) inbox q ≡ some m
       → (written : List ℕ) × (rest : List ℕ)
@@ -145,7 +145,7 @@ SameRound = (s : Schedule) (crew : Crew) (run : ℕ) → WrittenBefore s crew ru
 -- order, each handed the same inbox."
 
 -- In the schedule so far, step f takes what step e writes: f is an accepted take, in whose inbox the slot of e's node
--- counts; e writes, in its node's round of that number, bytes that stand at the front of that slot.
+-- counts; both are in rounds of one number; and e writes bytes that stand at the front of that slot.
 pub record TakesFrom (s : Schedule) (f e : Event) : Type 0 where
   pub inbox : List ℕ
   pub is-take : f .call ≡ take-round inbox
@@ -160,7 +160,7 @@ pub record TakesFrom (s : Schedule) (f e : Event) : Type 0 where
 
 -- the schedule with step e and then step f at this place
 abbrev pub inOrder : Schedule → Event → Event → List Event → Schedule
-inOrder s e f after = upTo s (s .events ++ (e ∷ f ∷ after))
+inOrder s e f after = record { starts = s .starts; events = s .events ++ (e ∷ f ∷ after) }
 
 -- A call carries its inbox, so that in either order each is handed the same one. Every node ends with the same record,
 -- after as many rounds, with the same inbox in each; and what is supposed of the one order holds of the other.
@@ -187,19 +187,25 @@ emptyInbox n = replicate (202 * n) 0
 abbrev pub paddedCalls : Schedule → ℕ → ℕ → ℕ → List Call
 paddedCalls s n p j = ownCalls s p j ++ cond (ltb j (roundsTaken s p)) [] (take-round (emptyInbox n) ∷ [])
 
+-- where the last of some calls stands; all calls but the last; the last alone
+abbrev pub lastPlace : List Call → ℕ
+lastPlace cs = length cs - 1
+
 abbrev pub allButLast : List Call → List Call
-allButLast cs = take (length cs - 1) cs
+allButLast cs = take (lastPlace cs) cs
 
 abbrev pub lastOnly : List Call → List Call
-lastOnly cs = drop (length cs - 1) cs
+lastOnly cs = drop (lastPlace cs) cs
 
 -- the honest nodes below n make the calls that are given for each, node after node
 unfoldable pub byNode : Schedule → (ℕ → List Call) → ℕ → List Event
 byNode s given zero = []
 byNode s given (suc p) = byNode s given p ++ cond (isHonest s p) (map (on p) (given p)) []
 
--- 01: "In a whole round every honest node writes its coming message, then every honest node takes the round": first all
--- calls but the takes, then the takes
+-- 01: "In a whole round every honest node writes its coming message, then every honest node takes the round, with
+-- inboxes that anybody may fill after all the writes." First, node after node, all calls but the last of each, refused
+-- takes and asks among them; then the last of each, the take that ends its round. A node that wrote nothing in its own
+-- round writes nothing here, as the Statement's Whole allows.
 abbrev pub roundInStep : Schedule → ℕ → ℕ → List Event
 roundInStep s n j =
     byNode s (λ p. allButLast (paddedCalls s n p j)) n ++ byNode s (λ p. lastOnly (paddedCalls s n p j)) n
@@ -209,26 +215,36 @@ unfoldable pub firstRounds : Schedule → ℕ → ℕ → List (List Event)
 firstRounds s n zero = []
 firstRounds s n (suc m) = firstRounds s n m ++ (roundInStep s n m ∷ [])
 
--- the same starts, and m rounds
-abbrev pub inStep : Schedule → ℕ → ℕ → Listing
-inStep s n m = record { starts = s .starts; rounds = firstRounds s n m }
-
--- as many rounds as the fastest of the nodes below n took
+-- how many rounds the fastest of the honest nodes below n took
 unfoldable pub mostRounds : Schedule → ℕ → ℕ
 mostRounds s zero = 0
-mostRounds s (suc p) = max (roundsTaken s p) (mostRounds s p)
+mostRounds s (suc p) = max (cond (isHonest s p) (roundsTaken s p) 0) (mostRounds s p)
 
--- The lock-step run. It has one round more than any node took, so that the calls after a node's last accepted take are
--- in it too.
+-- one round more, so that the calls after a node's last accepted take are in the run too
+abbrev pub roundsInStep : Schedule → ℕ → ℕ
+roundsInStep s n = suc (mostRounds s n)
+
+-- The lock-step run: the same starts, and these rounds.
 abbrev pub lockStep : Schedule → ℕ → Listing
-lockStep s n = inStep s n (suc (mostRounds s n))
+lockStep s n = record { starts = s .starts; rounds = firstRounds s n (roundsInStep s n) }
+
+-- All nodes take the round together: first come calls that take nothing, then each honest node makes one call, a take.
+pub record TakesLast (s : Schedule) (l : Listing) (j : ℕ) : Type 0 where
+  pub others : List Event
+  pub takes : List Event
+  pub parts : getD (l .rounds) j [] ≡ others ++ takes
+  pub takes-none : (p : ℕ) → T (isHonest s p) → takenInbox (recordAt l p j) (callsOf p others) ≡ none
+  pub takes-one : (p : ℕ) → T (isHonest s p) → (inbox : List ℕ) × (callsOf p takes ≡ take-round inbox ∷ [])
 
 pub record InLockStep (s : Schedule) (crew : Crew) (run : ℕ) (l : Listing) : Type 0 where
-  -- "with the same starts and premises": demand 3's, whole rounds among them
+  -- "with the same starts and premises": demand 3's, whole rounds among them, in each of which the takes come last
   pub starts : l .starts ≡ s .starts
   pub premises : Premises l crew run
-  -- "the same record after as many rounds as that node took", and on the way there the same records and inboxes
+  pub takes-last : (j : ℕ) → j < length (l .rounds) → TakesLast s l j
+  -- one round more than the fastest node took: more than each took, and no more than one more
   pub long : (p : ℕ) → T (isHonest s p) → roundsTaken s p < length (l .rounds)
+  pub no-longer : (m : ℕ) → ((p : ℕ) → T (isHonest s p) → roundsTaken s p ≤ m) → length (l .rounds) ≤ suc m
+  -- "the same record after as many rounds as that node took", and on the way there the same records and inboxes
   pub last : (p : ℕ) → T (isHonest s p) → recordAt l p (roundsTaken s p) ≡ recordAfter s p
   pub records : (p j : ℕ) → T (isHonest s p) → j ≤ roundsTaken s p → recordAt l p j ≡ ownRecord s p j
   pub inboxes : (p j : ℕ) → T (isHonest s p) → j < roundsTaken s p → inboxAt l p j ≡ ownInbox s p j
