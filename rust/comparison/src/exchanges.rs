@@ -1,5 +1,6 @@
 //! Exchanges (C-17): two neighbouring calls of different nodes change places, where the later does not take what the
-//! earlier writes. That changes no record and no answer, and the premise on slots still holds.
+//! earlier writes. That changes no record and no answer, and the premise on slots still holds. 02 has it of steps of
+//! which neither takes what the other writes; here the earlier may take what the later writes once more.
 
 use crate::cases::expect;
 use crate::pair::Pair;

@@ -5,7 +5,6 @@
 use crate::cases::expect;
 use crate::pair::Pair;
 use crate::schedules::{check_decisions, check_premise, replay, Answer, Replay, Step};
-use crate::slots::counting_slots;
 use generators::runs::{place, Setup};
 use generators::schedules::{Call, Event};
 use second_engine::inbox::SLOT;
@@ -25,15 +24,21 @@ pub enum Regrouping {
     RefusedTakesCount,
     /// As many rounds as the fastest took and no more, so that its calls after them are missing.
     WithoutRoundThatIsOn,
+    /// One round more than there has to be.
+    RoundToSpare,
+    /// Each node takes right after its own calls, before others have made theirs.
+    TakesAmongCalls,
 }
 
 impl Regrouping {
     /// The wrong ones.
-    pub const MUTANTS: [Regrouping; 4] = [
+    pub const MUTANTS: [Regrouping; 6] = [
         Regrouping::ByGlobalRound,
         Regrouping::PadWithLastInbox,
         Regrouping::RefusedTakesCount,
         Regrouping::WithoutRoundThatIsOn,
+        Regrouping::RoundToSpare,
+        Regrouping::TakesAmongCalls,
     ];
 }
 
@@ -63,13 +68,21 @@ pub fn regroup<'a>(regrouping: Regrouping, setup: &Setup, schedule: &Replay<'a>,
     };
     // A node's rounds are those it took and the one that is on.
     let most = rounds.iter().map(Vec::len).max().unwrap_or(1);
-    let count = if regrouping == Regrouping::WithoutRoundThatIsOn { most - 1 } else { most };
+    let count = match regrouping {
+        Regrouping::WithoutRoundThatIsOn => most - 1,
+        Regrouping::RoundToSpare => most + 1,
+        _ => most,
+    };
     let mut list = Vec::new();
     for round in 0..count {
         let of_node = |own: &usize| rounds[*own].get(round);
-        let calls = honest.iter().filter_map(of_node).flat_map(|round| round.calls.iter().copied());
+        let calls = |own: &usize| of_node(own).map_or(&[][..], |round| &round.calls).to_vec();
         let take = |own: &usize| of_node(own).and_then(|round| round.take).unwrap_or(padding(*own));
-        list.push(calls.chain(honest.iter().map(take)).collect());
+        list.push(if regrouping == Regrouping::TakesAmongCalls {
+            honest.iter().flat_map(|own| [calls(own), vec![take(own)]].concat()).collect()
+        } else {
+            honest.iter().flat_map(calls).chain(honest.iter().map(take)).collect()
+        });
     }
     list
 }
@@ -117,8 +130,9 @@ fn by_global_round<'a>(honest: &[usize], steps: &[Step<'a>], losses: &'a [Event]
     list
 }
 
-/// The names of the checks, in their order.
-pub const CHECKS: [&str; 6] = ["calls", "losses", "whole", "records", "premise", "decisions"];
+/// The names of the checks, in their order. The last is one of the engine more than of the list: no wrong regrouping
+/// fails it, but an engine does that decides, or loses a result, where nothing is heard.
+pub const CHECKS: [&str; 7] = ["rounds", "calls", "losses", "whole", "records", "premise", "decisions"];
 
 /// Plays the list and tells the first check that fails.
 pub fn check(pair: Pair, setup: &Setup, schedule: &Replay, list: &List) -> Result<(), String> {
@@ -140,6 +154,7 @@ pub fn checks(
     let rounds = in_rounds(list, &played.steps);
     let numbered = rounds.iter().enumerate().flat_map(|(round, steps)| steps.iter().map(move |step| (round, step)));
     Ok([
+        check_rounds(setup, schedule, list),
         check_calls(setup, schedule, &played),
         check_losses(setup, schedule, &played),
         check_whole(setup, &rounds),
@@ -165,6 +180,13 @@ fn steps_of<'s, 'a>(replay: &'s Replay<'a>, own: usize) -> impl Iterator<Item = 
     replay.steps.iter().filter(move |step| step.event.own == own)
 }
 
+/// The list has one round more than the fastest honest node took.
+fn check_rounds(setup: &Setup, schedule: &Replay, list: &List) -> Result<(), String> {
+    // Of the start there is a record as well.
+    let most = setup.honest().into_iter().map(|own| schedule.records[own].len()).max().unwrap_or(1);
+    expect(list.len() == most, || format!("the list has {} rounds, not {most}", list.len()))
+}
+
 /// Each node makes the calls that it made in the schedule, in its own order, and gets the same answers.
 fn check_calls(setup: &Setup, schedule: &Replay, played: &Replay) -> Result<(), String> {
     for own in setup.honest() {
@@ -177,17 +199,13 @@ fn check_calls(setup: &Setup, schedule: &Replay, played: &Replay) -> Result<(), 
     Ok(())
 }
 
-/// What a node does in the list beyond its calls of the schedule is to take inboxes in which nothing counts.
+/// What a node does in the list beyond its calls of the schedule is to take inboxes of zero bytes.
 fn check_losses(setup: &Setup, schedule: &Replay, played: &Replay) -> Result<(), String> {
+    let losses = losses(setup.crew);
     for own in setup.honest() {
         for step in steps_of(played, own).skip(steps_of(schedule, own).count()) {
-            let heard = match (&step.event.call, place(setup.crew, step.round)) {
-                (Call::Take(inbox), Some((phase, number))) => counting_slots(setup.run, phase, number, inbox),
-                (Call::Take(_), None) => Vec::new(),
-                _ => return Err(format!("node {own} makes a new call that is no take")),
-            };
-            let is_loss = heard.iter().all(Option::is_none);
-            expect(is_loss, || format!("node {own} hears something in round {}, which it did not take", step.round))?;
+            let is_loss = *step.event == losses[own];
+            expect(is_loss, || format!("node {own} makes a new call in round {} that is no loss", step.round))?;
         }
     }
     Ok(())

@@ -252,6 +252,8 @@ pub struct Tally {
     pub common_starts: usize,
     /// Nodes that came to the spent mark.
     pub spent: usize,
+    /// Rounds that were taken without a call to write.
+    pub unwritten: usize,
     /// Takes that the list adds, each a loss.
     pub padded: usize,
     pub swaps: usize,
@@ -278,10 +280,14 @@ impl Tally {
             ..Tally::default()
         };
         let mut taken = vec![0; setup.is_honest.len()];
+        let mut has_called = vec![false; setup.is_honest.len()];
         for step in &replay.steps {
+            let own = step.event.own;
             tally.add_refusal(step);
+            has_called[own] |= matches!(step.event.call, Call::Write(_));
             if step.taken().is_some() {
-                taken[step.event.own] += 1;
+                taken[own] += 1;
+                tally.unwritten += usize::from(!std::mem::take(&mut has_called[own]));
                 tally.add_take(setup, replay, step, &taken);
             }
         }
@@ -326,6 +332,7 @@ impl Tally {
         self.decided_apart += other.decided_apart;
         self.common_starts += other.common_starts;
         self.spent += other.spent;
+        self.unwritten += other.unwritten;
         self.padded += other.padded;
         self.swaps += other.swaps;
         self.late_asks += other.late_asks;

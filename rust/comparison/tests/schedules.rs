@@ -32,7 +32,7 @@ fn schedules_of(class: u8) {
         assert!(tally.decided > tally.undecided / 2 && tally.undecided > 0 && tally.decided_apart > tally.decided / 10);
         assert!(tally.common_starts > 0 && tally.spent > 0 && tally.padded > 0 && tally.swaps > tally.events);
         assert!(tally.late_asks > 0 && tally.spent_calls > 0 && tally.short_buffers > 0);
-        assert!(tally.wrong_asks > 0 && tally.wrong_takes > 0);
+        assert!(tally.wrong_asks > 0 && tally.wrong_takes > 0 && tally.unwritten > 0);
     }
 }
 

@@ -137,6 +137,10 @@ impl Maker {
             self.stray_call(random, own, records)
         } else if random.chance(1, 10) {
             self.stray_call(random, own, records)
+        } else if !cursor.has_written && random.chance(1, 24) {
+            // It takes the round without a write.
+            cursor.has_written = true;
+            self.ask_or_take(random, own)
         } else if !cursor.has_written {
             self.write(random, own)
         } else {

@@ -69,7 +69,7 @@ fn first_seed(is_new: bool) -> u64 {
 fn compare_once(archive: &Archive, first: u64) -> Result<(), String> {
     compare_small_crews(archive)?;
     compare_all(archive, first, 1)?;
-    tell_all(archive, Cases { rounds: 2_000, runs: 100, schedules: 100, drills: 100 })
+    tell_all(archive, Cases { rounds: 2_000, runs: 100, schedules: 400, drills: 100 })
 }
 
 fn compare_for(archive: &Archive, first: u64, time: Duration) -> Result<(), String> {
