@@ -1,4 +1,4 @@
--- What demand 3 says of a schedule's lock-step run it says of the schedule.
+-- What demand 3 says of results, agreement and common start in a schedule's lock-step run, it says of the schedule.
 -- 02: "Agreement and common start follow for it without a fresh argument."
 -- Assumes nothing.
 use mathlib.Core.Path.{_≡_, sym, ap, _∙_, subst}

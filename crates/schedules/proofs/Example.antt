@@ -3,7 +3,8 @@
 -- example; node 3 is not honest and repeats what it hears. Assumes nothing.
 use mathlib.Core.Path.{_≡_, refl}
 use mathlib.Core.List.{List, [], _∷_, _++_}
-use Prim.Native.Nat.{ℕ}
+use Prim.Native.Nat.{ℕ, zero, suc, _≤_, _<_}
+use native.Mathlib.Omega.{arith}
 use lib.ListN.{length, drop, replicate}
 use lib.Dec.{T}
 use Rattle.crew.specs.declared.Crew.{Crew}
@@ -24,11 +25,12 @@ use Rattle.node.specs.Starting.{startOf}
 use Rattle.node.specs.Sending.{comingOf, writeOf}
 use Rattle.inbox.specs.Inbox.{ballotAt}
 use Rattle.rounds.specs.Taking.{afterRound, takeOf}
-use Rattle.agreement.specs.Statement.{write, ask, take-round, made, recordOf, afterCalls, callsOf}
+use Rattle.agreement.specs.Statement.{write, ask, take-round, Listing, made, recordOf, afterCalls, callsOf}
 use Rattle.agreement.proofs.Simulation.{honest-below}
 use Rattle.agreement.proofs.Example.{drill, drill-premises, allBytes}
-use Rattle.schedules.specs.Schedule.{Schedule, on, roundsIn, callsIn, callsBefore}
-use Rattle.schedules.specs.Schedule.{roundsTaken, SchedulePremises, ScheduleConclusions, standing}
+use Rattle.schedules.specs.Schedule.{Schedule, on, isHonest, roundsIn, callsIn, callsBefore}
+use Rattle.schedules.specs.Schedule.{roundsTaken, SchedulePremises, TakesLast, InLockStep, standing}
+use Rattle.schedules.specs.Schedule.{ScheduleConclusions}
 use Rattle.schedules.proofs.Checking.{sameBytes, everyBelow, wroteFront, slotOk, takeOk, eventsOk}
 use Rattle.schedules.proofs.Checking.{bytes-ok, slots-ok}
 use Rattle.schedules.proofs.Agreement.{out-of-step}
@@ -89,6 +91,34 @@ unfolding
     lists least leastOf possible backed backing enough selection leading mostVoted anyPlan taken
     valid validated decides decision
 places = (refl, refl, refl, refl, refl, refl)
+
+-- What is said of its lock-step run, whatever list that is: it has four rounds, and in the last one too the takes come
+-- last.
+
+nobody-faster : (p : ℕ) → p < 4 → roundsTaken outOfStep p ≤ 3
+unfolding
+    acceptOf startOf begun made recordOf callsOf afterCalls roundsIn
+    takeOf sound emptyFrom afterRound ballotAt readOf tested bodyAt entriesIn entriesOk countIf gather
+    lists least leastOf possible backed backing enough selection leading mostVoted anyPlan taken
+    valid validated decides decision
+nobody-faster zero h = omega arith
+nobody-faster (suc zero) h = omega arith
+nobody-faster (suc (suc zero)) h = omega arith
+nobody-faster (suc (suc (suc zero))) h = omega arith
+nobody-faster (suc (suc (suc (suc p)))) h = absurd (omega arith)
+
+node-0-honest : T (isHonest outOfStep 0)
+unfolding acceptOf startOf begun made countIf
+node-0-honest = tt
+
+pub four-rounds : (l : Listing) → InLockStep outOfStep crew 1 l → length (l .rounds) ≡ 4
+four-rounds l inStep =
+    let more = inStep .long 0 node-0-honest in
+    let no-more = inStep .no-longer 3 (λ p h. nobody-faster p (honest-below drill crew 1 drill-premises p h)) in
+    omega (arith, more, no-more, places .0)
+
+pub last-round : (l : Listing) → InLockStep outOfStep crew 1 l → TakesLast outOfStep l 3
+last-round l inStep = inStep .takes-last 3 (omega (arith, four-rounds l inStep))
 
 -- the test of the premises on its takes
 all-ok : T (eventsOk outOfStep 4 [] (outOfStep .events))

@@ -199,7 +199,8 @@ module _ (s : Schedule) (n p : ℕ) (honest : T (isHonest s p)) (below : p < n) 
 
     whole-is : (j : ℕ) → j < m → Unspent n (recordAt (runOf s n m) p j) → Whole n (calls (runOf s n m) p j)
     whole-is j inside u =
-        rw (calls-are j inside) (whole-round n (recordAt (runOf s n m) p j) (paddedCalls s n p j) u (padded-is j (omega arith)))
+        rw (calls-are j inside)
+        (whole-round n (recordAt (runOf s n m) p j) (paddedCalls s n p j) u (padded-is j (omega arith)))
 
     -- in the others nothing is heard
     pub nothing-heard : (j : ℕ) → roundsTaken s p ≤ j → (inbox : List ℕ) → inboxAt (runOf s n m) p j ≡ some inbox
@@ -219,7 +220,8 @@ module _ (s : Schedule) (n p : ℕ) (honest : T (isHonest s p)) (below : p < n) 
         go false h = absurd (none-taken h)
 
     -- what p wrote in its own round it writes in that round of the run
-    wrote-in-run : (j : ℕ) → j < m → (w : List ℕ) → OwnWrote s p j w → Wrote (recordAt (runOf s n m) p j) (calls (runOf s n m) p j) w
+    wrote-in-run : (j : ℕ) → j < m → (w : List ℕ) → OwnWrote s p j w
+        → Wrote (recordAt (runOf s n m) p j) (calls (runOf s n m) p j) w
     wrote-in-run j inside w h = elim (decLe j (roundsTaken s p)) [
       | yes l ↦
           rw (calls-are j inside, records-are j (omega arith) l)
@@ -380,7 +382,8 @@ takes-last s crew run pre m j inside = record {
     n : ℕ
     n = crew .n
 
-    ends : (p : ℕ) → T (isHonest s p) → Padded (crew .n) (recordAt (runOf s (crew .n) m) p j) (paddedCalls s (crew .n) p j)
+    ends : (p : ℕ) → T (isHonest s p)
+        → Padded (crew .n) (recordAt (runOf s (crew .n) m) p j) (paddedCalls s (crew .n) p j)
     ends p h = padded-is s (crew .n) p h (honest-in s crew run pre p h) m j (omega arith)
 
 -- As many rounds as the fastest took.

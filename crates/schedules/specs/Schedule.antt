@@ -1,7 +1,7 @@
 -- Controllers out of step: the calls of demand 3 in any order, one node in round 3 while another still sits in round 1
 -- (02, C-17). This is the page that a reader has to believe: definitions only, in the order of 02's sentences, each
--- under its words. The statements are SameRound, Exchange, LockStep and OutOfStep; SameRound.antt, Exchange.antt,
--- LockStep.antt and Agreement.antt in proofs/ prove them, and Example.antt there has a schedule that meets the premises.
+-- under its words. The statements are SameRound, Exchange, LockStep and OutOfStep; in proofs/, SameRound.antt,
+-- Exchange.antt, LockStep.antt and Agreement.antt prove them, and Example.antt has a schedule that meets the premises.
 -- What a call answers and leaves behind, and what a list of whole rounds is, stands in agreement/specs/Statement.antt.
 use mathlib.Core.Path.{_≡_}
 use mathlib.Core.Bool.{Bool, false, not, cond}
@@ -126,7 +126,8 @@ pub record SchedulePremises (s : Schedule) (crew : Crew) (run : ℕ) : Type 0 wh
       × (slotAt inbox q ≡ written ++ rest)
 
 -- The same without the number of the round: what counts was written before, in whatever round of its sender's own. 02
--- asks no more, and the premises above follow from it, because a message of another round does not count.
+-- asks no more, and the premises above follow from it, because a message of another round does not count. So what is
+-- stated below of schedules that meet the premises holds of these.
 pub record WrittenBefore (s : Schedule) (crew : Crew) (run : ℕ) : Type 0 where
   -- the premises on the starts, when no call has been made
   pub begun : SchedulePremises (upTo s []) crew run
