@@ -113,9 +113,9 @@ wrote-append d (c ∷ cs) more w (inr h) = inr (wrote-append (afterCall d c) cs 
 abbrev runOf : Schedule → ℕ → ℕ → Listing
 runOf s n m = record { starts = s .starts; rounds = firstRounds s n m }
 
--- One honest node in them.
+-- What p does in a round of the run, by whether it took that round.
 
-module _ (s : Schedule) (n p : ℕ) (honest : T (isHonest s p)) (below : p < n) where
+module _ (s : Schedule) (n p : ℕ) where
   padded-taken : (j : ℕ) → j < roundsTaken s p → paddedCalls s n p j ≡ ownCalls s p j
   padded-taken j h =
       ap (λ taken. ownCalls s p j ++ cond taken [] (take-round (emptyInbox n) ∷ [])) (lt-ltb j (roundsTaken s p) h)
@@ -126,6 +126,9 @@ module _ (s : Schedule) (n p : ℕ) (honest : T (isHonest s p)) (below : p < n) 
   padded-open j h =
       ap (λ taken. ownCalls s p j ++ cond taken [] (take-round (emptyInbox n) ∷ [])) (le-ltb j (roundsTaken s p) h)
 
+-- One honest node in the first rounds.
+
+module _ (s : Schedule) (n p : ℕ) (honest : T (isHonest s p)) (below : p < n) where
   -- All its calls.
 
   kept-before : (m : ℕ) → m ≤ roundsTaken s p
@@ -134,7 +137,7 @@ module _ (s : Schedule) (n p : ℕ) (honest : T (isHonest s p)) (below : p < n) 
   kept-before zero h = refl
   kept-before (suc m) h =
       calls-together s n p m honest below
-      ∙ ap₂ (λ x y. x ++ y) (kept-before m (omega arith)) (padded-taken m (omega arith))
+      ∙ ap₂ (λ x y. x ++ y) (kept-before m (omega arith)) (padded-taken s n p m (omega arith))
 
   kept-after : (k m : ℕ) → roundsTaken s p + k ≡ m
       → callsOf p (flatten (firstRounds s n (suc m)))
@@ -146,7 +149,7 @@ module _ (s : Schedule) (n p : ℕ) (honest : T (isHonest s p)) (below : p < n) 
       let last = take-round (emptyInbox n) ∷ [] in
       let now : m ≡ roundsTaken s p = omega arith in
       calls-together s n p m honest below
-      ∙ ap₂ (λ x y. x ++ y) (kept-before m (omega arith)) (padded-open m (omega arith))
+      ∙ ap₂ (λ x y. x ++ y) (kept-before m (omega arith)) (padded-open s n p m (omega arith))
       ∙ sym (append-assoc (callsBefore d own m) (callsIn d own m) last)
       ∙ ap (λ i. callsBefore d own (suc i) ++ last) now
       ∙ ap (λ x. x ++ last) (all-calls d own)
@@ -157,7 +160,7 @@ module _ (s : Schedule) (n p : ℕ) (honest : T (isHonest s p)) (below : p < n) 
       let one-more : suc k + 1 ≡ suc (suc k) = omega arith in
       calls-together s n p (suc m) honest below
       ∙ ap₂ (λ x y. x ++ y) (kept-after k m (omega arith))
-      (padded-open (suc m) (omega arith)
+      (padded-open s n p (suc m) (omega arith)
       ∙ ap (λ x. x ++ (missed ∷ [])) (no-calls (startRecord s p) own (suc m) (omega arith)))
       ∙ append-assoc own (replicate (suc k) missed) (missed ∷ [])
       ∙ ap (λ x. own ++ x) (replicate-append-replicate (suc k) 1 missed)
@@ -170,19 +173,19 @@ module _ (s : Schedule) (n p : ℕ) (honest : T (isHonest s p)) (below : p < n) 
     calls-are j inside = ap (callsOf p) (round-at s n m j inside) ∙ calls-in-round s n p j honest below
 
     -- as long as p took rounds, its records are the schedule's, and so are its inboxes
-    pub records-are : (j : ℕ) → j ≤ m → j ≤ roundsTaken s p → recordAt (runOf s n m) p j ≡ ownRecord s p j
+    records-are : (j : ℕ) → j ≤ m → j ≤ roundsTaken s p → recordAt (runOf s n m) p j ≡ ownRecord s p j
     unfolding recordAt callsBefore afterCalls
     records-are zero inside h = refl
     records-are (suc j) inside h =
         let d = startRecord s p in
         let own = callsOf p (s .events) in
         ap₂ afterCalls (records-are j (omega arith) (omega arith))
-        (calls-are j (omega arith) ∙ padded-taken j (omega arith))
+        (calls-are j (omega arith) ∙ padded-taken s n p j (omega arith))
         ∙ sym (after-append d (callsBefore d own j) (callsIn d own j))
 
-    pub inboxes-are : (j : ℕ) → j < m → j < roundsTaken s p → inboxAt (runOf s n m) p j ≡ ownInbox s p j
+    inboxes-are : (j : ℕ) → j < m → j < roundsTaken s p → inboxAt (runOf s n m) p j ≡ ownInbox s p j
     inboxes-are j inside h =
-        ap₂ takenInbox (records-are j (omega arith) (omega arith)) (calls-are j inside ∙ padded-taken j h)
+        ap₂ takenInbox (records-are j (omega arith) (omega arith)) (calls-are j inside ∙ padded-taken s n p j h)
 
     -- in every round of the run what p does of its own is one round, taken or not
     round-is : (j : ℕ) → j ≤ m → OneRound (recordAt (runOf s n m) p j) (ownCalls s p j) (ltb j (roundsTaken s p))
@@ -202,8 +205,8 @@ module _ (s : Schedule) (n p : ℕ) (honest : T (isHonest s p)) (below : p < n) 
         rw (calls-are j inside)
         (whole-round n (recordAt (runOf s n m) p j) (paddedCalls s n p j) u (padded-is j (omega arith)))
 
-    -- in the others nothing is heard
-    pub nothing-heard : (j : ℕ) → roundsTaken s p ≤ j → (inbox : List ℕ) → inboxAt (runOf s n m) p j ≡ some inbox
+    -- in a round that p did not take in the schedule nothing is heard
+    nothing-heard : (j : ℕ) → roundsTaken s p ≤ j → (inbox : List ℕ) → inboxAt (runOf s n m) p j ≡ some inbox
         → inbox ≡ emptyInbox n
     unfolding takenInbox
     nothing-heard j h inbox e =
@@ -212,7 +215,7 @@ module _ (s : Schedule) (n p : ℕ) (honest : T (isHonest s p)) (below : p < n) 
         let unended = rw (le-ltb j (roundsTaken s p) h) at (round-is j (omega arith)) in
         go (isAccepted (takeOf d (emptyInbox n)))
         (sym (open-inbox d (ownCalls s p j) (take-round (emptyInbox n) ∷ []) unended)
-        ∙ sym (ap (takenInbox d) (calls-are j inside ∙ padded-open j h))
+        ∙ sym (ap (takenInbox d) (calls-are j inside ∙ padded-open s n p j h))
         ∙ e)
       where
         go : (b : Bool) → cond b (some (emptyInbox n)) none ≡ some inbox → inbox ≡ emptyInbox n
@@ -264,7 +267,7 @@ module _ (s : Schedule) (crew : Crew) (run : ℕ) (pre : SchedulePremises s crew
   n = crew .n
 
   -- an honest node's number is below n: the list of no rounds says so already
-  pub honest-in : (p : ℕ) → T (isHonest s p) → p < n
+  honest-in : (p : ℕ) → T (isHonest s p) → p < n
   honest-in p h = honest-below no-list crew run no-rounds p h
     where
       no-list : Listing
@@ -348,7 +351,7 @@ module _ (s : Schedule) (crew : Crew) (run : ℕ) (pre : SchedulePremises s crew
       (calls-are s n p h (honest-in p h) m j (omega arith)
       ∙ sym (calls-are s n p h (honest-in p h) k j (omega arith)))
 
-  pub run-premises : (m : ℕ) → Premises (runOf s n m) crew run
+  run-premises : (m : ℕ) → Premises (runOf s n m) crew run
   run-premises zero = premises-from 0 (λ p j h inside early. absurd (omega arith))
   run-premises (suc m) =
       let so-far = demand3 (runOf s n m) crew run (run-premises m) in

@@ -1,6 +1,7 @@
 //! One generated case of each operation, given to two engines. A difference is told with the whole case.
 
 use crate::engine::Engine;
+use crate::pair::Pair;
 use crate::{runs, schedules};
 use generators::{crews, drills, inboxes, messages, plans, records, Random};
 use second_engine::inbox::SLOT;
@@ -47,7 +48,7 @@ pub fn compare(operation: Operation, seed: u64, one: &dyn Engine, other: &dyn En
         Operation::Read => compare_read(random, one, other),
         Operation::Round => compare_round(random, one, other),
         Operation::Run => runs::drive(random, one, Some(other)).map(|_| ()),
-        Operation::Schedule => schedules::drive(random, one, Some(other)).map(|_| ()),
+        Operation::Schedule => schedules::drive(random, Pair { engine: one, other: Some(other) }).map(|_| ()),
         Operation::Drill => compare_drill(random, one, other),
     };
     outcome.map_err(|difference| format!("{operation:?}, seed {seed}: {difference}"))

@@ -5,6 +5,7 @@ use crate::cases::{expect, same, show_inbox};
 use crate::engine::Engine;
 use generators::runs::Setup;
 use second_engine::{Node, Refusal, Selection};
+use std::fmt::Debug;
 
 /// The engine that is driven, and the one it is compared with. An error is a text that tells what differs.
 #[derive(Clone, Copy)]
@@ -51,15 +52,7 @@ impl Pair<'_> {
 
     /// The answer to a take, and the record after it.
     pub fn take(&self, before: Node, inbox: &[u8]) -> Result<(Result<(), Refusal>, Node), String> {
-        let mut after = before;
-        let answer = self.engine.take(&mut after, inbox);
-        if let Some(other) = self.other {
-            let mut node = before;
-            let second = other.take(&mut node, inbox);
-            if (answer, after) != (second, node) {
-                same(&(before, show_inbox(inbox)), (answer, after), (second, node))?;
-            }
-        }
+        let (answer, after) = self.of_inbox(before, inbox, |engine, node| engine.take(node, inbox))?;
         expect(answer.is_ok() || after == before, || {
             format!("refused take changed the record of node {}", before.own)
         })?;
@@ -68,16 +61,31 @@ impl Pair<'_> {
 
     /// The answer to an ask.
     pub fn ask(&self, before: Node, inbox: &[u8]) -> Result<Result<Selection, Refusal>, String> {
-        let mut after = before;
-        let answer = self.engine.ask(&mut after, inbox);
-        if let Some(other) = self.other {
-            let mut node = before;
-            let second = other.ask(&mut node, inbox);
-            if (answer, after) != (second, node) {
-                same(&(before, show_inbox(inbox)), (answer, after), (second, node))?;
-            }
-        }
+        let (answer, after) = self.of_inbox(before, inbox, |engine, node| engine.ask(node, inbox))?;
         expect(after == before, || format!("ask changed the record of node {}", before.own))?;
         Ok(answer)
+    }
+
+    /// The answer to a call that is handed this inbox, and the record after it. An inbox is shown only where the engines
+    /// differ: that takes long.
+    fn of_inbox<A: PartialEq + Debug>(
+        &self,
+        before: Node,
+        inbox: &[u8],
+        call: impl Fn(&dyn Engine, &mut Node) -> A,
+    ) -> Result<(A, Node), String> {
+        let play = |engine: &dyn Engine| {
+            let mut node = before;
+            let answer = call(engine, &mut node);
+            (answer, node)
+        };
+        let one = play(self.engine);
+        if let Some(other) = self.other {
+            let second = play(other);
+            if one != second {
+                same(&(before, show_inbox(inbox)), &one, &second)?;
+            }
+        }
+        Ok(one)
     }
 }

@@ -4,7 +4,6 @@
 
 use crate::cases::expect;
 use crate::decisions::Decisions;
-use crate::engine::Engine;
 use crate::exchanges;
 use crate::pair::Pair;
 use crate::regrouping::{self, Regrouping};
@@ -19,19 +18,13 @@ use std::collections::BTreeMap;
 use std::fmt::Write;
 
 /// A schedule of any class.
-pub fn drive(random: &mut Random, engine: &dyn Engine, other: Option<&dyn Engine>) -> Result<Tally, String> {
+pub fn drive(random: &mut Random, pair: Pair) -> Result<Tally, String> {
     let class = random.between(1, 3) as u8;
-    drive_class(random, class, engine, other)
+    drive_class(random, class, pair)
 }
 
 /// A schedule of this class. The error tells the claim that failed, or the answers that differ.
-pub fn drive_class(
-    random: &mut Random,
-    class: u8,
-    engine: &dyn Engine,
-    other: Option<&dyn Engine>,
-) -> Result<Tally, String> {
-    let pair = Pair { engine, other };
+pub fn drive_class(random: &mut Random, class: u8, pair: Pair) -> Result<Tally, String> {
     let schedule = make(random, class, pair)?;
     check(random, &schedule, pair).map_err(|failure| format!("{failure}\n{}", show(&schedule)))
 }

@@ -58,7 +58,8 @@ fn properties_of_runs_find_mutants() {
 /// The same of schedules, which claim no decision in good phases and so find fewer.
 #[test]
 fn claims_of_schedules_find_mutants() {
-    let mutants = found("schedules", 200, |random, engine| schedules::drive(random, engine, None).is_err());
+    let mutants =
+        found("schedules", 200, |random, engine| schedules::drive(random, Pair { engine, other: None }).is_err());
     assert!(mutants.contains(&Mutation::MajorityOfArrivalsDecides));
 }
 
@@ -138,10 +139,14 @@ fn an_engine_that_remembers_other_nodes_is_told() {
     for seed in 1..=SCHEDULES {
         let random = &mut Random::new(seed);
         let Schedule { setup, events } = schedules::make(random, 3, right).unwrap();
+        last.set(0);
         let played = schedules::replay(pair, &setup, &events).unwrap();
         let losses = regrouping::losses(setup.crew);
         let list = regrouping::regroup(Regrouping::ByOwnRound, &setup, &played, &losses);
+        // Each list is played from the start of its memory on, so that the order alone makes the difference.
+        last.set(0);
         by_list += usize::from(regrouping::check(pair, &setup, &played, &list).is_err());
+        last.set(0);
         by_exchanges += usize::from(exchanges::check(random, pair, &setup, &played).is_err());
     }
     println!("of {SCHEDULES} schedules the list tells {by_list}, exchanges tell {by_exchanges}");

@@ -20,7 +20,7 @@ const ALONE: Pair = Pair { engine: &SECOND, other: None };
 fn schedules_of(class: u8) {
     let mut tally = Tally::default();
     for seed in seeds(&format!("schedules of class {class}"), 3_400) {
-        match drive_class(&mut Random::new(seed), class, &SECOND, None) {
+        match drive_class(&mut Random::new(seed), class, ALONE) {
             Ok(schedule) => tally.add(schedule),
             Err(failure) => panic!("schedule of class {class}, seed {seed}: {failure}"),
         }
