@@ -15,10 +15,10 @@ enum { NODES = 4, HONEST = 3, LIAR = 3, RUN = 1 };
 #define CREW 3, NODES, 1, 0, 3
 
 /* The value of an answer that has to be accepted. */
-static uint32_t value(uint32_t answer, const char *what)
+static uint64_t value(uint64_t answer, const char *what)
 {
     if (RAIL_REFUSED(answer) != 0) {
-        printf("%s: refused with %u\n", what, (unsigned)RAIL_REFUSED(answer));
+        printf("%s: refused with %u\n", what, RAIL_REFUSED(answer));
         exit(1);
     }
     return RAIL_VALUE(answer);
@@ -58,14 +58,14 @@ static unsigned two_bytes(const uint8_t *bytes, size_t at)
 static void show_message(const uint8_t *record)
 {
     uint8_t message[RAIL_SLOT], fields[RAIL_FIELDS];
-    uint32_t length = value(rail_write(record, RAIL_RECORD, message, sizeof message), "write");
+    size_t length = value(rail_write(record, RAIL_RECORD, message, sizeof message), "write");
     value(rail_read(message, length, fields, sizeof fields), "read");
     printf("node 0 writes %u bytes: kind %u, phase %u, vote %u, stamp %u, entries", (unsigned)length,
            fields[RAIL_FIELDS_KIND], fields[RAIL_FIELDS_PHASE], two_bytes(fields, RAIL_FIELDS_PLAN),
            fields[RAIL_FIELDS_STAMP]);
     for (size_t i = 0; i < fields[RAIL_FIELDS_COUNT]; i++) {
-        uint32_t entry = value(rail_entry(message, length, i), "entry");
-        printf(" %u:%u", (unsigned)(entry / 65536), (unsigned)(entry % 65536));
+        uint64_t entry = value(rail_entry(message, length, i), "entry");
+        printf(" %u:%u", RAIL_ENTRY_PHASE(entry), (unsigned)RAIL_ENTRY_PLAN(entry));
     }
     printf("\n");
 }
@@ -73,7 +73,7 @@ static void show_message(const uint8_t *record)
 /* What asking answers, before the round is taken. */
 static void show_selection(const uint8_t *record, const uint8_t *inbox)
 {
-    uint32_t selected = value(rail_ask(record, RAIL_RECORD, inbox, NODES * RAIL_SLOT), "ask");
+    uint64_t selected = value(rail_ask(record, RAIL_RECORD, inbox, NODES * RAIL_SLOT), "ask");
     if (selected == RAIL_ANY)
         printf(" any");
     else if (selected == RAIL_NONE)
@@ -114,7 +114,7 @@ int main(void)
     for (int own = 0; own < HONEST; own++)
         value(rail_start(CREW, (uint8_t)own, RUN, plans[own], records[own], RAIL_RECORD), "start");
     printf("a start with plan 0 is refused with %u\n",
-           (unsigned)RAIL_REFUSED(rail_start(CREW, 0, RUN, 0, records[0], RAIL_RECORD)));
+           RAIL_REFUSED(rail_start(CREW, 0, RUN, 0, records[0], RAIL_RECORD)));
     for (int round = 0; round < 6; round++) {
         if (round % 3 == 0)
             show_message(records[0]);

@@ -17,11 +17,11 @@ extern "C" {
 #endif
 
 /*
- * An answer is one number: a value below 2^24, or 2^24 times the number of a refusal. Where a call is refused, no lent
- * byte has been written.
+ * An answer is one number of 64 bits: a value below 2^56, or 2^56 times the number of a refusal. Where a call is
+ * refused, no lent byte has been written.
  */
-#define RAIL_REFUSED(answer) ((answer) >> 24)              /* the refusal's number, 0 where the call was accepted */
-#define RAIL_VALUE(answer) ((answer) & UINT32_C(0xffffff)) /* the value of an accepted call */
+#define RAIL_REFUSED(answer) ((unsigned)((answer) >> 56))          /* the refusal's number, 0 where it was accepted */
+#define RAIL_VALUE(answer) ((answer) & UINT64_C(0xffffffffffffff)) /* the value of an accepted call */
 
 /* The refusals. The first that applies is given, in the order of docs/LINKING.md. */
 #define RAIL_CLASS 1           /* class not 1 to 3 */
@@ -72,36 +72,40 @@ extern "C" {
 #define RAIL_FIELDS_STAMP 8 /* 0 for kind 2 */
 #define RAIL_FIELDS_COUNT 9 /* how many entries follow; 0 for kinds 2 and 3 */
 
-/* Asking answers a plan, or one of these. */
+/* Asking answers a plan, or one of these. RAIL_ANY is 2^32, which no plan's number is. */
 #define RAIL_NONE 0
-#define RAIL_ANY 65536
+#define RAIL_ANY UINT64_C(4294967296)
+
+/* The value of an entry is 2^32 times its phase, plus its plan. */
+#define RAIL_ENTRY_PHASE(value) ((unsigned)((value) >> 32))
+#define RAIL_ENTRY_PLAN(value) ((uint32_t)(value))
 
 /* Accepts a crew. The value is 0. Refuses 1 to 4. */
-uint32_t rail_accept(uint8_t class_, uint8_t n, uint8_t b, uint8_t f, uint8_t d);
+uint64_t rail_accept(uint8_t class_, uint8_t n, uint8_t b, uint8_t f, uint8_t d);
 
 /* Starts a node and writes its record. All nodes of a crew have the same crew and run, each its own number from 0 on.
  * The value is 0. Refuses 25, 1 to 6. */
-uint32_t rail_start(uint8_t class_, uint8_t n, uint8_t b, uint8_t f, uint8_t d, uint8_t own, uint32_t run,
+uint64_t rail_start(uint8_t class_, uint8_t n, uint8_t b, uint8_t f, uint8_t d, uint8_t own, uint32_t run,
                     uint16_t plan, uint8_t *record, size_t record_length);
 
 /* Writes the coming message to the buffer's front. The value is its length, 0 for silence. Refuses 25, 7 to 9. */
-uint32_t rail_write(const uint8_t *record, size_t record_length, uint8_t *buffer, size_t buffer_length);
+uint64_t rail_write(const uint8_t *record, size_t record_length, uint8_t *buffer, size_t buffer_length);
 
 /* Takes the coming round: the record becomes the next one. The value is 0. Refuses 25, 7, 8, 14. */
-uint32_t rail_take(uint8_t *record, size_t record_length, const uint8_t *inbox, size_t inbox_length);
+uint64_t rail_take(uint8_t *record, size_t record_length, const uint8_t *inbox, size_t inbox_length);
 
 /* Asks for the coming selection. The value is a plan, RAIL_NONE or RAIL_ANY. Refuses 25, 7, 8, 14. */
-uint32_t rail_ask(const uint8_t *record, size_t record_length, const uint8_t *inbox, size_t inbox_length);
+uint64_t rail_ask(const uint8_t *record, size_t record_length, const uint8_t *inbox, size_t inbox_length);
 
 /* The record's standing result. The value is the plan, 0 before there is one. Refuses 25, 7. */
-uint32_t rail_result(const uint8_t *record, size_t record_length);
+uint64_t rail_result(const uint8_t *record, size_t record_length);
 
 /* Reads the message at the front of the bytes and writes its fields. The value is 0. Refuses 26, 10 to 13. */
-uint32_t rail_read(const uint8_t *bytes, size_t bytes_length, uint8_t *fields, size_t fields_length);
+uint64_t rail_read(const uint8_t *bytes, size_t bytes_length, uint8_t *fields, size_t fields_length);
 
-/* Entry i, from 0 on, of the message at the front of the bytes. The value is 65,536 times its phase, plus its plan.
- * Refuses 10 to 13, 27. */
-uint32_t rail_entry(const uint8_t *bytes, size_t bytes_length, size_t i);
+/* Entry i, from 0 on, of the message at the front of the bytes. RAIL_ENTRY_PHASE and RAIL_ENTRY_PLAN take the value
+ * apart. Refuses 10 to 13, 27. */
+uint64_t rail_entry(const uint8_t *bytes, size_t bytes_length, size_t i);
 
 #ifdef __cplusplus
 }

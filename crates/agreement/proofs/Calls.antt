@@ -10,6 +10,7 @@ use native.Mathlib.Omega.{arith}
 use native.Mathlib.Decide.{decLt}
 use lib.ListN.{length, List·getD-eq-default}
 use Rattle.wire.specs.Outcome.{accepted, refused, valueOr, isAccepted}
+use Rattle.message.specs.Layout.{slotSize}
 use Rattle.node.specs.declared.Node.{Node}
 use Rattle.rounds.specs.Taking.{takeOf}
 use Rattle.agreement.specs.Statement.{Call, write, ask, take-round, Listing, afterCall, afterCalls, callsOf}
@@ -38,10 +39,13 @@ taken-first d inbox cs e = ap (λ o. cond (isAccepted o) (some inbox) (takenInbo
 
 -- a record that takes every inbox of the right length and refuses every other
 module _ (d : Node) (n : ℕ) (next : List ℕ → Node)
-    (takes : (inbox : List ℕ) → length inbox ≡ 202 * n → takeOf d inbox ≡ accepted (next inbox))
-    (refuses : (inbox : List ℕ) → length inbox ≢ 202 * n → takeOf d inbox ≡ refused 14) where
+    (takes : (inbox : List ℕ) → length inbox ≡ slotSize * n → takeOf d inbox ≡ accepted (next inbox))
+    (refuses : (inbox : List ℕ) → length inbox ≢ slotSize * n → takeOf d inbox ≡ refused 14) where
   pub whole-takes : (cs : List Call) → Whole n cs
-      → (inbox : List ℕ) × (length inbox ≡ 202 * n) × (takenInbox d cs ≡ some inbox) × (afterCalls d cs ≡ next inbox)
+      → (inbox : List ℕ)
+      × (length inbox ≡ slotSize * n)
+      × (takenInbox d cs ≡ some inbox)
+      × (afterCalls d cs ≡ next inbox)
   unfolding takenInbox afterCalls
   whole-takes [] h = absurd h
   whole-takes (write buffer ∷ cs) h = whole-takes cs h

@@ -9,6 +9,7 @@ use native.Mathlib.Omega.{arith}
 use native.Mathlib.Decide.{decLt}
 use lib.ListN.{length}
 use lib.Dec.{T, leb, leb→le, le→leb, ltb→lt}
+use Rattle.wire.specs.Sizes.{spentPhase}
 use Rattle.wire.specs.Outcome.{accepted, isAccepted}
 use Rattle.crew.specs.declared.Crew.{Crew}
 use Rattle.crew.specs.Thresholds.{classOf}
@@ -56,7 +57,7 @@ module _ (l : Listing) (crew : Crew) (run : ℕ) (pre : Premises l crew run) whe
   took-held : (p j : ℕ) → T (honest l p) → (bytes : List ℕ) → inboxAt l p j ≡ some bytes → Held (runOf l crew) j
   took-held p j h bytes e =
       let inside = taken-inside l p j bytes e in
-      elim (decLt (state (runOf l crew) j .phase) 64) [
+      elim (decLt (state (runOf l crew) j .phase) spentPhase) [
         | yes left ↦ (inside, left)
         | no spent ↦ absurd (none-taken (sym (took-none l crew run pre p j h (omega arith) (omega arith)) ∙ e))
       ]

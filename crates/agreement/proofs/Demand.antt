@@ -4,6 +4,7 @@ use Prim.Native.Nat.{ℕ, suc, _≤_, _<_}
 use native.Mathlib.Omega.{arith}
 use lib.ListN.{length}
 use lib.Dec.{T}
+use Rattle.wire.specs.Sizes.{spentPhase}
 use Rattle.crew.specs.declared.Crew.{Crew}
 use Rattle.model.specs.Node.{number}
 use Rattle.model.specs.Run.{state}
@@ -36,10 +37,10 @@ module _ (l : Listing) (crew : Crew) (run : ℕ) (pre : Premises l crew run) (p 
   unspent : Early crew j → Unspent (crew .n) (recordAt l p j)
   unspent early =
       let f = follows l crew run pre p j h inside in
-      let left : d .phase < 64 = omega (arith, phase-is, early-is (runOf l crew) j early) in
+      let left : d .phase < spentPhase = omega (arith, phase-is, early-is (runOf l crew) j early) in
       subst (λ (c : Crew). Unspent (c .n) d) (crew-is l crew run pre p j h inside) (unspent-calls d (f .is-sound) left)
 
-  spent : 64 ≤ phaseAt crew j → Spent (recordAt l p j) × (recordAt l p (suc j) ≡ recordAt l p j)
+  spent : spentPhase ≤ phaseAt crew j → Spent (recordAt l p j) × (recordAt l p (suc j) ≡ recordAt l p j)
   unfolding recordAt
   spent late =
       let f = follows l crew run pre p j h inside in

@@ -6,16 +6,19 @@ use mathlib.Core.Bool.{Bool, true, not, _&&_}
 use mathlib.Core.List.{List, [], _∷_, _++_}
 use mathlib.Core.Logic.{inl, inr}
 use mathlib.Core.Option.{Option, some}
-use Prim.Native.Nat.{ℕ, zero, suc, _+_, _^_, _≤_, _<_}
+use Prim.Native.Nat.{ℕ, zero, suc, _+_, _≤_, _<_}
 use native.Mathlib.Omega.{arith}
 use native.Mathlib.Decide.{decLt}
 use lib.ListN.{length, drop, replicate}
 use lib.Dec.{T, ltb, ltb→lt}
 use borrow.Author.Tests.{ne-eqb}
+use Rattle.wire.specs.Sizes.{planLimit, runLimit}
 use Rattle.wire.specs.Outcome.{accepted, refused}
 use Rattle.wire.specs.Bytes.{AreBytes}
 use Rattle.crew.specs.declared.Crew.{Crew}
+use Rattle.crew.specs.Parts.{crewOf}
 use Rattle.crew.specs.Acceptance.{acceptOf}
+use Rattle.message.specs.Layout.{slotSize}
 use Rattle.message.specs.Bounds.{entriesOk}
 use Rattle.message.specs.Encoding.{entryBytes, encode}
 use Rattle.message.specs.Reading.{entriesIn, bodyAt, tested, readOf}
@@ -40,7 +43,7 @@ use Rattle.agreement.proofs.Calls.{taken-inside}
 use Rattle.agreement.proofs.Demand.{demand3}
 
 abbrev crew : Crew
-crew = record { class = 3; n = 4; b = 1; f = 0; d = 3 }
+crew = crewOf 3 4 1 0 3
 
 -- The messages of the three rounds of phase 1, byte by byte: all three nodes write the same.
 
@@ -53,7 +56,7 @@ message (suc zero) = 11 ∷ 0 ∷ 2 ∷ 0 ∷ 1 ∷ 0 ∷ 0 ∷ 0 ∷ 1 ∷ 5 �
 message (suc (suc j)) = 12 ∷ 0 ∷ 3 ∷ 0 ∷ 1 ∷ 0 ∷ 0 ∷ 0 ∷ 1 ∷ 5 ∷ 0 ∷ 1 ∷ []
 
 abbrev buffer : List ℕ
-buffer = replicate 202 0
+buffer = replicate slotSize 0
 
 -- a slot holds the message at its front; the last slot is empty
 abbrev slot : ℕ → List ℕ
@@ -204,7 +207,7 @@ taken-box p j inbox h e =
     let inside = taken-inside drill p j inbox e in
     (inside, same-box (box j) inbox (sym (goes p (honest-three p h) j inside .0) ∙ e))
 
-fits : (1 < 256 ^ 4) × (5 < 256 ^ 2)
+fits : (1 < runLimit) × (5 < planLimit)
 fits = (omega arith, omega arith)
 
 pub drill-premises : Premises drill crew 1

@@ -6,6 +6,7 @@ use mathlib.Core.Option.{none}
 use Prim.Native.Nat.{ℕ, _≤_, _<_}
 use native.Mathlib.Omega.{arith}
 use lib.Dec.{T}
+use Rattle.wire.specs.Sizes.{spentPhase}
 use Rattle.crew.specs.declared.Crew.{Crew}
 use Rattle.crew.specs.Thresholds.{classOf}
 use Rattle.ballot.specs.Count.{countIf}
@@ -15,21 +16,21 @@ use Rattle.model.specs.Node.{number}
 use Rattle.model.specs.Run as model
 use Rattle.model.specs.Run.{saying, state, Held}
 use Rattle.model.proofs.Theorems as engine
-use Rattle.node.specs.Sending.{comingOf}
 use Rattle.agreement.specs.Statement.{Listing, honest, recordAt, phaseAt, roundAt, Premises, Wins}
 use Rattle.agreement.specs.Statement.{ballotsIn, heard, Good}
-use Rattle.agreement.proofs.Written.{silent-is}
+use Rattle.agreement.proofs.Written.{forward}
 use Rattle.agreement.proofs.Places.{place-early}
-use Rattle.agreement.proofs.Simulation.{slotIn, said, runOf, follows, crew-is, heard-is, honest-below, took}
+use Rattle.agreement.proofs.Simulation.{slotIn, said, runOf, crew-is, heard-is, honest-below, took}
+use Rattle.agreement.proofs.Simulation.{coming-is}
 use Rattle.agreement.proofs.Faithful.{admissible}
 use Rattle.agreement.proofs.Decisions.{decides-wins}
 
-module _ (l : Listing) (crew : Crew) (run : ℕ) (pre : Premises l crew run) (phase : ℕ) (early : phase < 64)
+module _ (l : Listing) (crew : Crew) (run : ℕ) (pre : Premises l crew run) (phase : ℕ) (early : phase < spentPhase)
     (circle : ℕ → Bool) (good : Good l crew phase circle) where
   -- a round of the phase is in the list, before the records are spent
   held : (j : ℕ) → state (runOf l crew) j .phase ≡ phase → Held (runOf l crew) j
   held j e =
-      let left : state (runOf l crew) j .phase < 64 = omega arith in
+      let left : state (runOf l crew) j .phase < spentPhase = omega arith in
       (good .listed j (place-early (runOf l crew) j left .0 ∙ e), left)
 
   -- its place is the state's
@@ -48,10 +49,8 @@ module _ (l : Listing) (crew : Crew) (run : ℕ) (pre : Premises l crew run) (ph
   speaks : (j p q : ℕ) → state (runOf l crew) j .phase ≡ phase → T (circle p) → T (circle q)
       → (saying (classOf crew) crew (state (runOf l crew) j) q ≡ none → ⊥) → said l j p q ≡ none → ⊥
   speaks j p q e kp kq loud absent =
-      let s = state (runOf l crew) j in
-      let f = follows l crew run pre q j (good .inside q kq) (omega (arith, held j e .0)) in
-      let counts = good .counts j p q (place-is j e .0) kp kq λ silent.
-      loud (silent-is crew run q (s .phase) (s .round) (s .node q) (sym (ap comingOf (f .is)) ∙ silent)) in
+      let same = coming-is l crew run pre q j (good .inside q kq) (omega (arith, held j e .0)) in
+      let counts = good .counts j p q (place-is j e .0) kp kq (λ silent. loud (sym same ∙ ap forward silent)) in
       not-none (sym absent ∙ ap (λ o. slotIn (recordAt l p j) o q) (counts .2 .0) ∙ counts .2 .1)
 
   good-run : model.Good (runOf l crew) phase circle

@@ -7,8 +7,10 @@ use mathlib.Core.List.{List}
 use Prim.Native.Nat.{ℕ, _*_}
 use lib.ListN.{length}
 use lib.Dec.{ltb, eqb}
+use Rattle.wire.specs.Sizes.{spentPhase}
 use Rattle.wire.specs.Outcome.{accepted, require}
 use Rattle.crew.specs.Thresholds.{classOf}
+use Rattle.message.specs.Layout.{slotSize}
 use Rattle.ballot.specs.Count.{countIf}
 use Rattle.ballot.specs.Ballot.{Ballot, sameBallot}
 use Rattle.ballot.proofs.Counting.{Same}
@@ -36,9 +38,9 @@ module _ (d : Node) (left right : List ℕ) (long : length left ≡ length right
   pub same-answers : (takeOf d left ≡ takeOf d right) × (askOf d left ≡ askOf d right)
   unfolding takeOf askOf
   same-answers = (
-    ap₂ (λ size next. require (sound d) 7 (require (ltb (d .phase) 64) 8
-        (require (eqb size (202 * d .crew .n)) 14 (accepted next)))) long after-same,
-    ap₂ (λ size choice. require (sound d && eqb (d .round) 1) 7 (require (ltb (d .phase) 64) 8
-        (require (eqb size (202 * d .crew .n)) 14 (accepted choice)))) long
+    ap₂ (λ size next. require (sound d) 7 (require (ltb (d .phase) spentPhase) 8
+        (require (eqb size (slotSize * d .crew .n)) 14 (accepted next)))) long after-same,
+    ap₂ (λ size choice. require (sound d && eqb (d .round) 1) 7 (require (ltb (d .phase) spentPhase) 8
+        (require (eqb size (slotSize * d .crew .n)) 14 (accepted choice)))) long
         (selection-same (d .crew) (ballots d left) (ballots d right) same (classOf (d .crew))),
   )

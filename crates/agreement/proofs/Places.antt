@@ -7,6 +7,7 @@ use Prim.Native.Nat.{ℕ, zero, suc, _/_, _%_, _≤_, _<_}
 use native.Mathlib.Omega.{arith}
 use native.Mathlib.Decide.{decLt}
 use lib.Dec.{eqb}
+use Rattle.wire.specs.Sizes.{spentPhase}
 use Rattle.crew.specs.declared.Crew.{Crew}
 use Rattle.crew.specs.Thresholds.{Class, one, two, three}
 use Rattle.model.specs.Node.{Round, selecting, validating, deciding, number}
@@ -17,8 +18,8 @@ use Rattle.agreement.specs.Statement.{phaseIf, roundIf, phaseAt, roundAt
 -- the phase and round with which round j begins: those of its place, and round 1 of phase 64 once the records are spent
 abbrev Stands : Crew → ℕ → ℕ → Round → Type 0
 Stands crew j phase round =
-    ((phaseAt crew j < 64) × (phase ≡ phaseAt crew j) × (number round ≡ roundAt crew j))
-    ⊎ ((64 ≤ phaseAt crew j) × (phase ≡ 64) × (round ≡ selecting))
+    ((phaseAt crew j < spentPhase) × (phase ≡ phaseAt crew j) × (number round ≡ roundAt crew j))
+    ⊎ ((spentPhase ≤ phaseAt crew j) × (phase ≡ spentPhase) × (round ≡ selecting))
 
 -- One round on, by the class: of two rounds a phase, or of three.
 
@@ -59,8 +60,8 @@ first-place true = (refl, refl)
 first-place false = (refl, refl)
 
 -- the last round of phase 63 is a round 3, and leads to phase 64
-last-place : (class : Class) (round : Round) (phase : ℕ) → phase < 64 → 64 ≤ phaseAfter round phase
-    → (phaseAfter round phase ≡ 64) × (roundAfter class round ≡ selecting)
+last-place : (class : Class) (round : Round) (phase : ℕ) → phase < spentPhase → spentPhase ≤ phaseAfter round phase
+    → (phaseAfter round phase ≡ spentPhase) × (roundAfter class round ≡ selecting)
 last-place class selecting phase left end = absurd (omega arith)
 last-place class validating phase left end = absurd (omega arith)
 last-place class deciding phase left end = (omega arith, refl)
@@ -69,20 +70,20 @@ module _ (run : Run) where
   abbrev Here : ℕ → State → Type 0
   Here j s = Stands (run .crew) j (s .phase) (s .round)
 
-  goes-on : (j : ℕ) (s : State) → s .phase < 64 → Here j s
+  goes-on : (j : ℕ) (s : State) → s .phase < spentPhase → Here j s
       → Here (suc j) (step (class run) (run .crew) (run .rounds j) s)
   goes-on j s left (inr spent) = absurd (omega (arith, spent .1))
   goes-on j s left (inl here) =
       let crew = run .crew in
       let next = next-place j (s .phase) (s .round) (eqb (crew .class) 1) (eqb (crew .class) 2) (here .1) (here .2) in
-      elim (decLt (phaseAt crew (suc j)) 64) [
+      elim (decLt (phaseAt crew (suc j)) spentPhase) [
         | yes early ↦ inl (early, next .0, next .1)
         | no end ↦
             let last = last-place (class run) (s .round) (s .phase) left (omega (arith, next .0)) in
             inr (omega arith, last .0, last .1)
       ]
 
-  stays : (j : ℕ) (s : State) → 64 ≤ s .phase → Here j s → Here (suc j) s
+  stays : (j : ℕ) (s : State) → spentPhase ≤ s .phase → Here j s → Here (suc j) s
   stays j s end (inl here) = absurd (omega (arith, here .0, here .1))
   stays j s end (inr spent) =
       let rises = phase-rises j (eqb (run .crew .class) 1) in
@@ -98,7 +99,7 @@ module _ (run : Run) where
       moves run (Here (suc j)) j (λ left. goes-on j (state run j) left here) (λ end. stays j (state run j) end here)
 
   -- before the records are spent, the place is the state's
-  pub place-early : (j : ℕ) → state run j .phase < 64
+  pub place-early : (j : ℕ) → state run j .phase < spentPhase
       → (phaseAt (run .crew) j ≡ state run j .phase) × (roundAt (run .crew) j ≡ number (state run j .round))
   place-early j left = elim (place j) [
     | inl here ↦ (sym (here .1), sym (here .2))
@@ -106,8 +107,9 @@ module _ (run : Run) where
   ]
 
   -- and the state is not spent where the place is not
-  pub early-is : (j : ℕ) → phaseAt (run .crew) j < 64 → state run j .phase < 64
+  pub early-is : (j : ℕ) → phaseAt (run .crew) j < spentPhase → state run j .phase < spentPhase
   early-is j early = elim (place j) [ inl here ↦ omega (arith, here .1) | inr spent ↦ absurd (omega (arith, spent .0)) ]
 
-  pub late-is : (j : ℕ) → 64 ≤ phaseAt (run .crew) j → (state run j .phase ≡ 64) × (state run j .round ≡ selecting)
+  pub late-is : (j : ℕ) → spentPhase ≤ phaseAt (run .crew) j
+      → (state run j .phase ≡ spentPhase) × (state run j .round ≡ selecting)
   late-is j late = elim (place j) [ inl here ↦ absurd (omega (arith, here .0)) | inr spent ↦ (spent .1, spent .2) ]

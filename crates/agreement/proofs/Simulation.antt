@@ -4,21 +4,24 @@ use mathlib.Core.Path.{_≡_, refl, sym, ap, ap₂, _∙_, subst}
 use mathlib.Core.List.{List}
 use mathlib.Core.Bool.{true}
 use mathlib.Core.Option.{Option, none, some}
-use Prim.Native.Nat.{ℕ, zero, suc, _*_, _^_, _≤_, _<_}
+use Prim.Native.Nat.{ℕ, zero, suc, _*_, _≤_, _<_}
 use native.Mathlib.Omega.{arith}
 use lib.ListN.{length}
 use lib.Dec.{T, ltb→lt}
+use Rattle.wire.specs.Sizes.{planLimit, runLimit, spentPhase}
 use Rattle.crew.specs.declared.Crew.{Crew}
 use Rattle.crew.specs.Thresholds.{classOf}
+use Rattle.crew.proofs.Facts.{accepts}
+use Rattle.message.specs.Layout.{slotSize}
 use Rattle.ballot.specs.Ballot.{Ballot, inbox}
 use Rattle.model.specs.Node as model
 use Rattle.model.specs.Node.{selecting, begin, turn}
-use Rattle.model.specs.Run.{State, Inboxes, start, step, Run, state, Held}
+use Rattle.model.specs.Run.{State, Inboxes, start, step, saying, Run, state, Held}
 use Rattle.model.proofs.Run.{moves}
 use Rattle.node.specs.declared.Node.{Node}
 use Rattle.node.specs.Record.{begun}
 use Rattle.node.specs.Soundness.{sound}
-use Rattle.node.specs.Sending.{comingBytes}
+use Rattle.node.specs.Sending.{comingOf}
 use Rattle.node.proofs.Facts.{Typed, sound-facts}
 use Rattle.node.proofs.StartLaws.{start-accepted, start-sound, start-typed}
 use Rattle.inbox.specs.Inbox.{ballotAt, ballots}
@@ -28,7 +31,7 @@ use Rattle.agreement.specs.Statement.{takenInbox, inboxAt, write, Puts, 
 use Rattle.agreement.proofs.Answers.{take-whole, take-cut, take-spent}
 use Rattle.agreement.proofs.Soundness.{take-sound, take-typed}
 use Rattle.agreement.proofs.Record.{asRecord, take-turns}
-use Rattle.agreement.proofs.Written.{puts-coming}
+use Rattle.agreement.proofs.Written.{forward, coming-said}
 use Rattle.agreement.proofs.Calls.{whole-takes, whole-wrote, refused-keeps}
 use Rattle.agreement.proofs.Starts.{MadeBy, started}
 use Rattle.agreement.proofs.Places.{place-early}
@@ -63,11 +66,12 @@ pub record Follows (l : Listing) (crew : Crew) (run q j : ℕ) (s : State) : Typ
 pub record Took (d : Node) (cs : List Call) : Type 0 where
   pub bytes : List ℕ
   pub taken : takenInbox d cs ≡ some bytes
-  pub long : length bytes ≡ 202 * d .crew .n
+  pub long : length bytes ≡ slotSize * d .crew .n
   pub after : afterCalls d cs ≡ afterRound d (ballots d bytes)
 
 -- a sound, unspent record in a whole round
-module _ (d : Node) (ok : sound d ≡ true) (left : d .phase < 64) (cs : List Call) (whole : Whole (d .crew .n) cs) where
+module _ (d : Node) (ok : sound d ≡ true) (left : d .phase < spentPhase) (cs : List Call)
+    (whole : Whole (d .crew .n) cs) where
   round-took : Took d cs
   round-took =
       let r = whole-takes d (d .crew .n) (λ bytes. afterRound d (ballots d bytes)) (take-whole d ok left)
@@ -88,7 +92,7 @@ opening d crew own run plan e =
 
 module _ (l : Listing) (crew : Crew) (run : ℕ) (pre : Premises l crew run) where
   abbrev Typed-start : Start → Type 0
-  Typed-start s = (s .run < 256 ^ 4) × (s .plan < 256 ^ 2)
+  Typed-start s = (s .run < runLimit) × (s .plan < planLimit)
 
   abbrev Of-crew : Node → Type 0
   Of-crew d = (d .crew ≡ crew) × (d .run ≡ run)
@@ -139,15 +143,15 @@ module _ (l : Listing) (crew : Crew) (run : ℕ) (pre : Premises l crew run) whe
     phase-same : d .phase ≡ s .phase
     phase-same = ap (λ (x : Node). x .phase) (f .is)
 
-    whole : s .phase < 64 → Whole (d .crew .n) (calls l q j)
+    whole : s .phase < spentPhase → Whole (d .crew .n) (calls l q j)
     whole left =
         subst (λ (c : Crew). Whole (c .n) (calls l q j)) (sym crew-same)
         (pre .whole q j h inside (omega (arith, place-early (runOf l crew) j left)))
 
-    took-at : s .phase < 64 → Took d (calls l q j)
+    took-at : s .phase < spentPhase → Took d (calls l q j)
     took-at left = round-took d (f .is-sound) (omega (arith, phase-same)) (calls l q j) (whole left)
 
-    steps : s .phase < 64 → Follows l crew run q (suc j) (step (classOf crew) crew (said l j) s)
+    steps : s .phase < spentPhase → Follows l crew run q (suc j) (step (classOf crew) crew (said l j) s)
     unfolding recordAt
     steps left =
         let t = took-at left in
@@ -167,7 +171,7 @@ module _ (l : Listing) (crew : Crew) (run : ℕ) (pre : Premises l crew run) whe
               (take-typed d (t .bytes) (afterRound d heard) (f .typed) (pre .bytes q j h (t .bytes) (t .taken)) takes);
         }
 
-    stays : 64 ≤ s .phase → Follows l crew run q (suc j) s
+    stays : spentPhase ≤ s .phase → Follows l crew run q (suc j) s
     unfolding recordAt
     stays end =
         let same = refused-keeps d (take-spent d (f .is-sound) (omega (arith, phase-same))) (calls l q j) .0 in
@@ -197,19 +201,26 @@ module _ (l : Listing) (crew : Crew) (run : ℕ) (pre : Premises l crew run) whe
   pub took : (q j : ℕ) → T (honest l q) → Held (runOf l crew) j → Took (recordAt l q j) (calls l q j)
   took q j h held = took-at q j h (held .0) (follows q j h (omega (arith, held .0))) (held .1)
 
-  pub took-none : (q j : ℕ) → T (honest l q) → j ≤ length (l .rounds) → 64 ≤ state (runOf l crew) j .phase
+  pub took-none : (q j : ℕ) → T (honest l q) → j ≤ length (l .rounds) → spentPhase ≤ state (runOf l crew) j .phase
       → inboxAt l q j ≡ none
   took-none q j h inside end =
       let f = follows q j h inside in
-      let spent : 64 ≤ recordAt l q j .phase = omega (arith, ap (λ (x : Node). x .phase) (f .is)) in
+      let spent : spentPhase ≤ recordAt l q j .phase = omega (arith, ap (λ (x : Node). x .phase) (f .is)) in
       refused-keeps (recordAt l q j) (take-spent (recordAt l q j) (f .is-sound) spent) (calls l q j) .1
 
-  -- what an honest node wrote in a round are the bytes of its coming message
-  pub wrote-coming : (q j : ℕ) → T (honest l q) → Held (runOf l crew) j → (written : List ℕ)
-      → Wrote (recordAt l q j) (calls l q j) written → (comingBytes (recordAt l q j) ≡ written) × (0 < length written)
-  wrote-coming q j h held written wrote =
+  -- what an honest node wrote in a round it wrote on the record with which the round begins
+  pub wrote-at : (q j : ℕ) → T (honest l q) → Held (runOf l crew) j → (written : List ℕ)
+      → Wrote (recordAt l q j) (calls l q j) written
+      → (buffer : List ℕ) × Puts (recordAt l q j) (write buffer) written
+  wrote-at q j h held written wrote =
       let f = follows q j h (omega (arith, held .0)) in
-      let left : recordAt l q j .phase < 64 = omega (arith, held .1, phase-same q j h (held .0) f) in
-      let whole-round = whole q j h (held .0) f (held .1) in
-      let puts = round-wrote (recordAt l q j) (f .is-sound) left (calls l q j) whole-round written wrote in
-      (puts-coming (recordAt l q j) (puts .0) written (puts .1), puts .1 .1)
+      let left : recordAt l q j .phase < spentPhase = omega (arith, held .1, phase-same q j h (held .0) f) in
+      round-wrote (recordAt l q j) (f .is-sound) left (calls l q j) (whole q j h (held .0) f (held .1)) written wrote
+
+  -- what its coming message puts forward is what the engine's node says
+  pub coming-is : (q j : ℕ) → T (honest l q) → j ≤ length (l .rounds)
+      → forward (comingOf (recordAt l q j)) ≡ saying (classOf crew) crew (state (runOf l crew) j) q
+  coming-is q j h inside =
+      let s = state (runOf l crew) j in
+      ap (λ (d : Node). forward (comingOf d)) (follows q j h inside .is)
+      ∙ coming-said crew run q (s .phase) (s .round) (s .node q) (accepts crew (pre .crew-accepted))

@@ -4,12 +4,13 @@ use mathlib.Core.Path.{_≡_, refl, ap, subst, _∙_}
 use mathlib.Core.Bool.{Bool, true, false, cond}
 use mathlib.Core.List.{List}
 use mathlib.Core.Logic.{_⊎_, inl, inr, _≢_}
-use Prim.Native.Nat.{ℕ, _+_, _^_, _≤_, _<_}
+use Prim.Native.Nat.{ℕ, _+_, _≤_, _<_}
 use native.Mathlib.Omega.{arith}
 use native.Mathlib.Decide.{ℕ-discrete}
 use lib.ListN.{length, getD, set}
 use lib.Dec.{eqb}
 use borrow.Author.Tests.{eq-eqb, eqb-true, eqb-false}
+use Rattle.wire.specs.Sizes.{planLimit, spentPhase}
 use Rattle.wire.specs.Plan.{ifPlan}
 use Rattle.wire.specs.Outcome.{accepted, refused, valueOr}
 use Rattle.wire.specs.Bytes.{AreBytes}
@@ -74,7 +75,7 @@ unselected-next d late = go (eqb (d .round) 1) refl
     go true e = absurd (omega (arith, eqb-true (d .round) 1 e))
     go false e = refl
 
-module _ (d : Node) (s : Sound d) (left : d .phase < 64) (v : ℕ) where
+module _ (d : Node) (s : Sound d) (left : d .phase < spentPhase) (v : ℕ) where
   selection-sound : d .round ≡ 1 → Sound (afterSelection d v)
   selection-sound one = record {
     crew = s .crew;
@@ -176,11 +177,11 @@ take-sound d inbox e h =
 
 -- Its fields fit their types where the record's do and the inbox holds bytes.
 
-fits-or : (v old : ℕ) → v < 256 ^ 2 → old < 256 ^ 2 → ifPlan v v old < 256 ^ 2
+fits-or : (v old : ℕ) → v < planLimit → old < planLimit → ifPlan v v old < planLimit
 fits-or v old a b = elim (ifPlan-is v v old) [ inl z ↦ omega (arith, z .1) | inr z ↦ omega (arith, z .1) ]
 
-module _ (d : Node) (t : Typed d) (v : ℕ) (fits : v < 256 ^ 2) where
-  entry-fits : d .phase < 64 → (phase : ℕ) → getD (kept (d .history) (d .phase) v) phase 0 < 256 ^ 2
+module _ (d : Node) (t : Typed d) (v : ℕ) (fits : v < planLimit) where
+  entry-fits : d .phase < spentPhase → (phase : ℕ) → getD (kept (d .history) (d .phase) v) phase 0 < planLimit
   entry-fits left phase = elim (ℕ-discrete phase (d .phase)) [
     | no other ↦ rw (kept-other (d .history) (d .phase) v phase other) (t .entries phase)
     | yes same ↦ elim (ifPlan-is v (set (d .history) (d .phase) v) (d .history)) [
@@ -189,7 +190,7 @@ module _ (d : Node) (t : Typed d) (v : ℕ) (fits : v < 256 ^ 2) where
     ]
   ]
 
-  selection-typed : d .phase < 64 → Typed (afterSelection d v)
+  selection-typed : d .phase < spentPhase → Typed (afterSelection d v)
   selection-typed left = record {
     run = t .run;
     vote = fits-or v (d .vote) fits (t .vote);

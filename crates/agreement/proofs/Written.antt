@@ -1,93 +1,89 @@
--- What a node wrote in a round is heard, by a node of the same run and place, as what the abstract engine's node says.
+-- What a slot says, if it counts and begins with bytes that a node wrote: it is read to the node's coming message, and
+-- that puts forward what the abstract engine's node says. That it counts is nowhere supposed of what a node wrote.
 -- Builds on law 3, in crate node. Assumes nothing.
-use mathlib.Core.Path.{_≡_, refl, sym, _∙_}
+use mathlib.Core.Path.{_≡_, refl, sym, ap, _∙_}
 use mathlib.Core.Bool.{Bool, true, false, cond}
 use mathlib.Core.List.{List, _++_}
-use mathlib.Core.Option.{none, some}
-use Prim.Native.Nat.{ℕ, _+_, _<_}
+use mathlib.Core.Option.{Option, none, some}
+use Prim.Native.Nat.{ℕ}
 use native.Mathlib.Omega.{arith}
 use lib.ListN.{length}
-use lib.Dec.{leb, eqb}
+use lib.Dec.{leb}
 use borrow.Author.Tests.{leb-true, leb-false, eq-eqb, ne-eqb}
+use Rattle.wire.specs.Outcome.{accepted}
+use Rattle.wire.proofs.Outcomes.{same-value}
 use Rattle.crew.specs.declared.Crew.{Crew}
-use Rattle.crew.specs.Thresholds.{one, classOf}
-use Rattle.crew.proofs.Facts.{accepts}
+use Rattle.crew.specs.Thresholds.{classOf}
+use Rattle.crew.proofs.Facts.{Accepts}
+use Rattle.message.specs.Fields.{Message}
 use Rattle.message.specs.Reading.{readOf}
-use Rattle.writer.specs.Writing.{listed, selectionOf, validationOf, decisionOf}
+use Rattle.writer.specs.Writing.{validationOf}
+use Rattle.ballot.specs.Ballot.{Ballot}
 use Rattle.model.specs.Node as model
-use Rattle.model.specs.Node.{Round, selecting, validating, deciding, say, number}
+use Rattle.model.specs.Node.{Round, selecting, validating, deciding, say}
 use Rattle.node.specs.declared.Node.{Node}
-use Rattle.node.specs.Soundness.{sound}
-use Rattle.node.specs.Sending.{listedPhases, comingOf, comingBytes}
-use Rattle.node.proofs.Facts.{Typed, sound-facts}
+use Rattle.node.specs.Sending.{comingOf, encoded, comingBytes}
+use Rattle.node.proofs.Facts.{Typed}
+use Rattle.node.proofs.Coming.{Says}
 use Rattle.node.proofs.SendLaws.{write-accepted}
 use Rattle.node.proofs.ReadBack.{read-back}
-use Rattle.inbox.specs.Inbox.{counted}
+use Rattle.inbox.specs.Inbox.{slotAt, ballotOf, isOf, ballotAt}
+use Rattle.inbox.proofs.Counted.{counted-message}
 use Rattle.agreement.specs.Statement.{write, Puts}
 use Rattle.agreement.proofs.Record.{asRecord}
 use Rattle.agreement.proofs.Entries.{listed-said}
 
--- the bytes that a write put are those of the coming message
-pub puts-coming : (d : Node) (buffer bytes : List ℕ) → Puts d (write buffer) bytes → comingBytes d ≡ bytes
-puts-coming d buffer bytes puts = sym (write-accepted d buffer (length bytes) (puts .0) .3) ∙ puts .2
+-- A ballot that counts for the reader comes from the writer: its message is the writer's coming one.
+pub record Heard (writer reader : Node) (m : Ballot) : Type 0 where
+  pub message : Message
+  pub coming : comingOf writer ≡ some message
+  pub says : Says writer message
+  pub counts : isOf (reader .run) (reader .phase) (reader .round) message ≡ true
+  pub ballot : ballotOf (message .body) ≡ m
 
--- The coming message, before any bytes, is heard as what the engine's node says.
+-- a slot that counts, and begins with bytes that a record wrote, holds that record's coming message
+pub slot-heard : (writer reader : Node) (inbox buffer written rest : List ℕ) (q : ℕ) (m : Ballot) → Typed writer
+    → Puts writer (write buffer) written → slotAt inbox q ≡ written ++ rest → ballotAt reader inbox q ≡ some m
+    → Heard writer reader m
+unfolding ballotAt
+slot-heard d reader inbox buffer written rest q m typed puts slot counts = go (comingOf d) refl
+  where
+    bytes : comingBytes d ≡ written
+    bytes = sym (write-accepted d buffer (length written) (puts .0) .3) ∙ puts .2
 
-module _ (crew : Crew) (run q phase : ℕ) (a : model.Node) (rest : List ℕ) where
-  abbrev Heard : Round → Type 0
-  Heard round = let d = asRecord crew run q phase round a in
-      Typed d → sound d ≡ true → phase < 64 → 0 < length (comingBytes d)
-      → counted run phase (number round) (readOf (comingBytes d ++ rest))
-      ≡ say (classOf crew) crew phase round q a
+    go : (o : Option Message) → comingOf d ≡ o → Heard d reader m
+    go none silent = absurd (omega (arith, puts .1, ap length bytes, ap (λ o. length (encoded o)) silent))
+    go (some k) coming =
+        let made = write-accepted d buffer (length written) (puts .0) in
+        let back = read-back d typed (made .0) (made .1) k coming in
+        let read = ap readOf (slot ∙ ap (λ part. part ++ rest) (sym bytes)) ∙ back .2 rest in
+        let c = counted-message (reader .run) (reader .phase) (reader .round) (slotAt inbox q) m counts in
+        let same : c .message ≡ k = same-value (sym (c .read) ∙ read) in
+        record {
+          message = k;
+          coming = coming;
+          says = back .0;
+          counts = ap (isOf (reader .run) (reader .phase) (reader .round)) (sym same) ∙ c .coming;
+          ballot = ap (λ (x : Message). ballotOf (x .body)) (sym same) ∙ c .says;
+        }
 
-  selection-heard : Heard selecting
-  unfolding comingOf
-  selection-heard typed ok left long =
-      let d = asRecord crew run q phase selecting a in
-      let m = selectionOf run phase (a .vote) (a .stamp) (a .history) (listedPhases d) in
-      let read = read-back d typed ok left m refl .2 rest in
-      let entries = listed-said crew (accepts crew (sound-facts d ok .crew)) (a .history) phase in
-      rw read (simp (eq-eqb run run refl, eq-eqb phase phase refl, entries))
+-- what a coming message puts forward; silence puts forward nothing
+abbrev pub forward : Option Message → Option Ballot
+forward none = none
+forward (some m) = some (ballotOf (m .body))
 
-  validation-heard : Heard validating
-  unfolding comingOf
-  validation-heard typed ok left long = go (leb 1 (a .select)) refl
-    where
-      go : (chosen : Bool) → leb 1 (a .select) ≡ chosen
-          → counted run phase 2 (readOf (comingBytes (asRecord crew run q phase validating a) ++ rest))
-          ≡ say (classOf crew) crew phase validating q a
-      go true plan =
-          let d = asRecord crew run q phase validating a in
-          let m = validationOf run phase (a .select) in
-          let coming : comingOf d ≡ some m = simp plan in
-          let read = read-back d typed ok left m coming .2 rest in
-          let some-plan = ne-eqb (a .select) 0 (λ z. omega (arith, leb-true 1 (a .select) plan)) in
-          rw read (simp (eq-eqb run run refl, eq-eqb phase phase refl, some-plan))
-      go false silent = absurd (omega (arith, simp silent at long))
-
-  decision-heard : Heard deciding
-  unfolding comingOf
-  decision-heard typed ok left long =
-      let d = asRecord crew run q phase deciding a in
-      let m = decisionOf run phase (a .vote) (a .stamp) in
-      let read = read-back d typed ok left m refl .2 rest in
-      rw read (simp (eq-eqb run run refl, eq-eqb phase phase refl))
-
-  pub coming-heard : (round : Round) → Heard round
-  coming-heard selecting = selection-heard
-  coming-heard validating = validation-heard
-  coming-heard deciding = decision-heard
-
--- a silent node is one that the engine has silent
-pub silent-is : (crew : Crew) (run q phase : ℕ) (round : Round) (a : model.Node)
-    → comingOf (asRecord crew run q phase round a) ≡ none → say (classOf crew) crew phase round q a ≡ none
+-- a record's coming message puts forward what the engine's node says, and is silence where that node is silent
+pub coming-said : (crew : Crew) (run q phase : ℕ) (round : Round) (a : model.Node) → Accepts crew
+    → forward (comingOf (asRecord crew run q phase round a)) ≡ say (classOf crew) crew phase round q a
 unfolding comingOf
-silent-is crew run q phase selecting a e = absurd (let z : _≡_ {A = ℕ} 0 1 = cc in omega arith)
-silent-is crew run q phase validating a e = go (leb 1 (a .select)) refl e
+coming-said crew run q phase selecting a accepts =
+    ap (λ entries. some (record { vote = a .vote; stamp = a .stamp; entries = entries }))
+    (listed-said crew accepts (a .history) phase)
+coming-said crew run q phase validating a accepts = go (leb 1 (a .select)) refl
   where
     go : (chosen : Bool) → leb 1 (a .select) ≡ chosen
-        → cond chosen (some (validationOf run phase (a .select))) none ≡ none
-        → say (classOf crew) crew phase validating q a ≡ none
-    go true plan e = absurd (let z : _≡_ {A = ℕ} 0 1 = cc in omega arith)
-    go false silent e = simp (eq-eqb (a .select) 0 (omega (arith, leb-false 1 (a .select) silent)))
-silent-is crew run q phase deciding a e = absurd (let z : _≡_ {A = ℕ} 0 1 = cc in omega arith)
+        → forward (cond chosen (some (validationOf run phase (a .select))) none)
+        ≡ say (classOf crew) crew phase validating q a
+    go true plan = simp (ne-eqb (a .select) 0 (λ z. omega (arith, leb-true 1 (a .select) plan)))
+    go false silent = simp (eq-eqb (a .select) 0 (omega (arith, leb-false 1 (a .select) silent)))
+coming-said crew run q phase deciding a accepts = refl

@@ -7,14 +7,16 @@ use mathlib.Core.Bool.{Bool, true, false, not, cond, _&&_}
 use mathlib.Core.List.{List, [], _∷_, _++_}
 use mathlib.Core.Logic.{_⊎_, _≢_, _↔_}
 use mathlib.Core.Option.{Option, none, some}
-use Prim.Native.Nat.{ℕ, zero, suc, _+_, _*_, _/_, _%_, _^_, _≤_, _<_}
+use Prim.Native.Nat.{ℕ, zero, suc, _+_, _*_, _/_, _%_, _≤_, _<_}
 use lib.ListN.{length, getD, take}
 use lib.Dec.{T, ltb, eqb}
+use Rattle.wire.specs.Sizes.{planLimit, runLimit, spentPhase}
 use Rattle.wire.specs.Outcome.{Outcome, accepted, refused, valueOr, isAccepted}
 use Rattle.wire.specs.Bytes.{AreBytes}
 use Rattle.crew.specs.declared.Crew.{Crew}
 use Rattle.crew.specs.Acceptance.{acceptOf}
 use Rattle.crew.specs.Thresholds.{classOf}
+use Rattle.message.specs.Layout.{slotSize}
 use Rattle.ballot.specs.Count.{tally, countIf, holds}
 use Rattle.ballot.specs.Ballot.{Ballot, votes, sameBallot}
 use Rattle.ballot.specs.Decision.{fresh}
@@ -100,7 +102,7 @@ Whole n [] = ⊥
 Whole n (write buffer ∷ cs) = Whole n cs
 Whole n (ask inbox ∷ cs) = Whole n cs
 Whole n (take-round inbox ∷ cs) =
-    ((length inbox ≡ 202 * n) × Asks cs) ⊎ ((length inbox ≢ 202 * n) × Whole n cs)
+    ((length inbox ≡ slotSize * n) × Asks cs) ⊎ ((length inbox ≢ slotSize * n) × Whole n cs)
 
 -- The records, from call to call.
 
@@ -180,7 +182,7 @@ roundAt crew j = roundIf (eqb (crew .class) 1) j
 
 -- 01: "phases 1 to 63"; "Phase 64 means spent."
 abbrev pub Early : Crew → ℕ → Type 0
-Early crew j = phaseAt crew j < 64
+Early crew j = phaseAt crew j < spentPhase
 
 -- Premises.
 
@@ -195,7 +197,7 @@ Hears l p j q inbox m = (inboxAt l p j ≡ some inbox) × (ballotAt (recordAt l 
 
 pub record Premises (l : Listing) (crew : Crew) (run : ℕ) : Type 0 where
   -- what the types of a start's arguments say: a run has four bytes, a plan two
-  pub typed : Every (λ s. (s .run < 256 ^ 4) × (s .plan < 256 ^ 2)) (l .starts)
+  pub typed : Every (λ s. (s .run < runLimit) × (s .plan < planLimit)) (l .starts)
   -- the accepted starts have one accepted crew and one run; a refused one may carry anything
   pub crew-accepted : acceptOf crew ≡ accepted tt
   pub one-crew : Every (λ d. (d .crew ≡ crew) × (d .run ≡ run)) (made (l .starts))
@@ -284,15 +286,15 @@ pub record Unspent (n : ℕ) (d : Node) : Type 0 where
   pub writes : (buffer : List ℕ)
       → (writeOf d buffer ≡ accepted (length (comingBytes d)))
       ⊎ ((writeOf d buffer ≡ refused 9) × (length buffer < length (comingBytes d)))
-  pub takes : (inbox : List ℕ) → length inbox ≡ 202 * n → T (isAccepted (takeOf d inbox))
-  pub takes-not : (inbox : List ℕ) → length inbox ≢ 202 * n → takeOf d inbox ≡ refused 14
-  pub asks : (inbox : List ℕ) → d .round ≡ 1 → length inbox ≡ 202 * n → T (isAccepted (askOf d inbox))
-  pub asks-not : (inbox : List ℕ) → d .round ≡ 1 → length inbox ≢ 202 * n → askOf d inbox ≡ refused 14
+  pub takes : (inbox : List ℕ) → length inbox ≡ slotSize * n → T (isAccepted (takeOf d inbox))
+  pub takes-not : (inbox : List ℕ) → length inbox ≢ slotSize * n → takeOf d inbox ≡ refused 14
+  pub asks : (inbox : List ℕ) → d .round ≡ 1 → length inbox ≡ slotSize * n → T (isAccepted (askOf d inbox))
+  pub asks-not : (inbox : List ℕ) → d .round ≡ 1 → length inbox ≢ slotSize * n → askOf d inbox ≡ refused 14
   pub asks-late : (inbox : List ℕ) → d .round ≢ 1 → askOf d inbox ≡ refused 7
 
 -- 01: "When the records are spent, every call is refused with 8"
 pub record Spent (d : Node) : Type 0 where
-  pub phase : d .phase ≡ 64
+  pub phase : d .phase ≡ spentPhase
   pub round : d .round ≡ 1
   pub writes-not : (buffer : List ℕ) → (writeOf d buffer ≡ refused 8) × (bufferOf d buffer ≡ buffer)
   pub takes-not : (inbox : List ℕ) → takeOf d inbox ≡ refused 8
@@ -311,7 +313,7 @@ pub record Conclusions (l : Listing) (crew : Crew) : Type 0 where
   pub common-start : (v : ℕ) → Every (λ s. T (isAccepted (answerTo s)) → s .plan ≡ v) (l .starts)
       → (p w : ℕ) → T (honest l p) → PlanDecided l crew p w → w ≡ v
   -- every node of a good phase's circle has decided by its round 3
-  pub good-phase : (phase : ℕ) (circle : ℕ → Bool) → 1 ≤ phase → phase < 64 → Good l crew phase circle
+  pub good-phase : (phase : ℕ) (circle : ℕ → Bool) → 1 ≤ phase → phase < spentPhase → Good l crew phase circle
       → (p : ℕ) → T (circle p) → (j : ℕ) × (v : ℕ) × (phaseAt crew j ≤ phase) × Wins l crew p j v
   -- the records stand at the round's place
   pub places : (p j : ℕ) → T (honest l p) → j ≤ length (l .rounds) → Early crew j
@@ -319,7 +321,7 @@ pub record Conclusions (l : Listing) (crew : Crew) : Type 0 where
   pub unspent : (p j : ℕ) → T (honest l p) → j ≤ length (l .rounds) → Early crew j
       → Unspent (crew .n) (recordAt l p j)
   -- 01: "When the records are spent, every call is refused with 8 and the round leaves all as it was."
-  pub spent : (p j : ℕ) → T (honest l p) → j ≤ length (l .rounds) → 64 ≤ phaseAt crew j
+  pub spent : (p j : ℕ) → T (honest l p) → j ≤ length (l .rounds) → spentPhase ≤ phaseAt crew j
       → Spent (recordAt l p j) × (recordAt l p (suc j) ≡ recordAt l p j)
 
 abbrev pub Demand3 : Type 0

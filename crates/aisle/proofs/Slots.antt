@@ -8,10 +8,12 @@ use native.Mathlib.Numerals.{add-one}
 use lib.ListN.{length, take, drop, replicate, length-append, length-replicate, replicate-append-replicate}
 use lib.Seq.{take-at, drop-at}
 use borrow.Author.Tests.{le-leb}
+use Rattle.crew.specs.Parts.{mostNodes}
 use Rattle.message.specs.Fields.{selection}
+use Rattle.message.specs.Layout.{slotSize}
 use Rattle.writer.specs.Writing.{listed, bufferOf, selectionBufferOf}
 use Rattle.aisle.specs.declared.State.{State}
-use Rattle.aisle.specs.Round.{delivered, slotsOf}
+use Rattle.aisle.specs.Round.{delivered, slotsOf, inboxSize}
 
 -- a selection that lists no phase has no entries
 pub selection-said : (phase plan stamp : ℕ) (history slot : List ℕ)
@@ -34,64 +36,74 @@ module _ (front part rest new l : List ℕ) (a k : ℕ) (is : l ≡ front ++ (pa
       rw (back, drop-at part rest k part-long, is, take-at front (part ++ rest) a front-long)
       (sym (append-assoc front new rest))
 
+-- where a sender's slot begins
+abbrev start : ℕ → ℕ
+start s = slotSize * s
+
+-- how many bytes the slots from a sender on have, and those slots, all empty
+abbrev left : ℕ → ℕ
+left s = slotSize * (mostNodes - s)
+
+abbrev empties : ℕ → List ℕ
+empties s = replicate (left s) 0
+
 -- s senders' slots are filled, and all after them is 0
 pub record Laid (st : State) (receiver : ℕ) (inbox : List ℕ) (s : ℕ) : Type 0 where
-  pub within : s ≤ 32
-  pub long : length (slotsOf st receiver s) ≡ 202 * s
-  pub laid : inbox ≡ slotsOf st receiver s ++ replicate (202 * (32 - s)) 0
+  pub within : s ≤ mostNodes
+  pub long : length (slotsOf st receiver s) ≡ start s
+  pub laid : inbox ≡ slotsOf st receiver s ++ empties s
 
 module _ (st : State) (receiver : ℕ) (inbox : List ℕ) where
-  pub laid-none : inbox ≡ replicate 6464 0 → Laid st receiver inbox 0
+  pub laid-none : inbox ≡ replicate inboxSize 0 → Laid st receiver inbox 0
   unfolding slotsOf
   laid-none e = record { within = omega arith; long = refl; laid = e }
 
-  laid-put : (s k : ℕ) (x : List ℕ) → s < 32 → k ≡ 202
-      → x ≡ delivered st s receiver (take k (drop (202 * s) inbox))
-      → length x ≡ length (take k (drop (202 * s) inbox))
+  laid-put : (s k : ℕ) (x : List ℕ) → s < mostNodes → k ≡ slotSize
+      → x ≡ delivered st s receiver (take k (drop (start s) inbox))
+      → length x ≡ length (take k (drop (start s) inbox))
       → Laid st receiver inbox s
-      → Laid st receiver (take (202 * s) inbox ++ (x ++ drop k (drop (202 * s) inbox))) (s + 1)
+      → Laid st receiver (take (start s) inbox ++ (x ++ drop k (drop (start s) inbox))) (s + 1)
   unfolding slotsOf
   laid-put s k x h ek ex lx inv =
       let slots : List ℕ = slotsOf st receiver s in
-      let empty : List ℕ = replicate 202 0 in
-      let rest : List ℕ = replicate (202 * (32 - (s + 1))) 0 in
-      let more : 202 * (32 - s) ≡ 202 + 202 * (32 - (s + 1)) = omega arith in
-      let zeros : replicate (202 * (32 - s)) 0 ≡ empty ++ rest =
-      ap (λ (n : ℕ). replicate n 0) more ∙ sym (replicate-append-replicate {A = ℕ} 202 (202 * (32 - (s + 1))) 0) in
+      let empty : List ℕ = replicate slotSize 0 in
+      let rest : List ℕ = empties (s + 1) in
+      let more : left s ≡ slotSize + left (s + 1) = omega arith in
+      let zeros : empties s ≡ empty ++ rest =
+      ap (λ (n : ℕ). replicate n 0) more ∙ sym (replicate-append-replicate {A = ℕ} slotSize (left (s + 1)) 0) in
       let is : inbox ≡ slots ++ (empty ++ rest) = inv .laid ∙ ap (λ (z : List ℕ). slots ++ z) zeros in
-      let size : length empty ≡ k = length-replicate {A = ℕ} 202 0 ∙ sym ek in
-      let part : take k (drop (202 * s) inbox) ≡ empty =
-      the-part slots empty rest x inbox (202 * s) k is (inv .long) size in
+      let size : length empty ≡ k = length-replicate {A = ℕ} slotSize 0 ∙ sym ek in
+      let part : take k (drop (start s) inbox) ≡ empty =
+      the-part slots empty rest x inbox (start s) k is (inv .long) size in
       let sent : x ≡ delivered st s receiver empty = ex ∙ ap (delivered st s receiver) part in
-      let x-long : length x ≡ 202 = lx ∙ ap length part ∙ length-replicate {A = ℕ} 202 0 in
+      let x-long : length x ≡ slotSize = lx ∙ ap length part ∙ length-replicate {A = ℕ} slotSize 0 in
       let one : s + 1 ≡ suc s = add-one s in
       record {
         within = omega arith;
         long = rw (one, ← sent) (length-append slots x ∙ omega (arith, inv .long));
         laid =
-            put-part slots empty rest x inbox (202 * s) k is (inv .long) size
+            put-part slots empty rest x inbox (start s) k is (inv .long) size
             ∙ rw (one, ← sent);
       }
 
   -- the slot of sender s is lent, and comes back with what is delivered there
   module _ (s : ℕ) where
     abbrev size : ℕ
-    size = 202 * s + 202 - 202 * s
+    size = start s + slotSize - start s
 
-    pub laid-more : (x : List ℕ) → s < 32
-        → x ≡ delivered st s receiver (take size (drop (202 * s) inbox))
-        → length x ≡ length (take size (drop (202 * s) inbox))
+    pub laid-more : (x : List ℕ) → s < mostNodes
+        → x ≡ delivered st s receiver (take size (drop (start s) inbox))
+        → length x ≡ length (take size (drop (start s) inbox))
         → Laid st receiver inbox s
-        → Laid st receiver (take (202 * s) inbox ++ (x ++ drop size (drop (202 * s) inbox))) (s + 1)
-    laid-more x h = laid-put s size x h (add-sub-cancel-left (202 * s) 202)
+        → Laid st receiver (take (start s) inbox ++ (x ++ drop size (drop (start s) inbox))) (s + 1)
+    laid-more x h = laid-put s size x h (add-sub-cancel-left (start s) slotSize)
 
-  pub laid-long : (s : ℕ) → Laid st receiver inbox s → length inbox ≡ 6464
+  pub laid-long : (s : ℕ) → Laid st receiver inbox s → length inbox ≡ inboxSize
   laid-long s inv =
-      let rest : List ℕ = replicate (202 * (32 - s)) 0 in
-      let sizes = length-append (slotsOf st receiver s) rest in
-      rw (inv .laid) (omega (arith, sizes, inv .long, inv .within, length-replicate {A = ℕ} (202 * (32 - s)) 0))
+      let sizes = length-append (slotsOf st receiver s) (empties s) in
+      rw (inv .laid) (omega (arith, sizes, inv .long, inv .within, length-replicate {A = ℕ} (left s) 0))
 
-  pub laid-all : (n s : ℕ) → n ≤ s → s ≤ n → Laid st receiver inbox s → take (202 * n) inbox ≡ slotsOf st receiver n
+  pub laid-all : (n s : ℕ) → n ≤ s → s ≤ n → Laid st receiver inbox s → take (start n) inbox ≡ slotsOf st receiver n
   laid-all n s h k inv =
       let same : n ≡ s = omega arith in
-      rw (same, inv .laid) (take-at (slotsOf st receiver s) (replicate (202 * (32 - s)) 0) (202 * s) (inv .long))
+      rw (same, inv .laid) (take-at (slotsOf st receiver s) (empties s) (start s) (inv .long))

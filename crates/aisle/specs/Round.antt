@@ -1,11 +1,14 @@
 -- What a go does among the nodes: document 01, 'The drill' and 'The list in demand 3'. Every honest node writes its
 -- coming message, then every honest node takes the round, with an inbox of what reaches it.
-use Prim.Native.Nat.{ℕ, zero, suc, _+_}
+use Prim.Native.Nat.{ℕ, zero, suc, _+_, _*_}
 use mathlib.Core.Bool.{Bool, false, cond, _&&_}
 use mathlib.Core.List.{List, [], _∷_, _++_}
 use lib.ListN.{getD, replicate}
 use lib.Dec.{leb, ltb, eqb}
 use Rattle.wire.specs.Outcome.{valueOr}
+use Rattle.wire.specs.Sizes.{spentPhase}
+use Rattle.crew.specs.Parts.{blankCrew, mostNodes}
+use Rattle.message.specs.Layout.{slotSize}
 use Rattle.message.specs.Fields.{Body, selection, validation, decision, Message}
 use Rattle.writer.specs.Writing.{bufferOf as messageBuffer}
 use Rattle.node.specs.declared.Node.{Node}
@@ -22,7 +25,7 @@ table f (suc n) = table f n ++ (f n ∷ [])
 -- what stands at no place of an array of records
 abbrev pub nowhere : Node
 nowhere = record {
-  crew = record { class = 0; n = 0; b = 0; f = 0; d = 0 };
+  crew = blankCrew;
   own = 0;
   run = 0;
   phase = 0;
@@ -67,9 +70,13 @@ delivered st sender receiver slot =
 -- the slots of the first n senders, each empty before
 unfoldable pub slotsOf : State → ℕ → ℕ → List ℕ
 slotsOf st receiver zero = []
-slotsOf st receiver (suc sender) = slotsOf st receiver sender ++ delivered st sender receiver (replicate 202 0)
+slotsOf st receiver (suc sender) = slotsOf st receiver sender ++ delivered st sender receiver (replicate slotSize 0)
 
--- 01: "The drill lends each node an inbox of 6,464 bytes, cut to 202n."
+-- 01: "The drill lends each node an inbox of 6,464 bytes"
+abbrev pub inboxSize : ℕ
+inboxSize = slotSize * mostNodes
+
+-- 01: "cut to 202n"
 abbrev pub inboxOf : State → ℕ → List ℕ
 inboxOf st receiver = slotsOf st receiver (st .crew .n)
 
@@ -94,13 +101,13 @@ goOf st = record {
   phase = phaseAfter (st .phase) (st .round);
   round = roundAfter (st .crew .class) (st .round);
   honest = st .honest;
-  nodes = table (nodeAfter st) 32;
+  nodes = table (nodeAfter st) mostNodes;
   pending = nothing;
 }
 
 -- Whether a round can be run: every node has its place, and the phases are not spent.
 abbrev pub ready : State → Bool
-ready st = leb (st .crew .n) 32 && ltb (st .phase) 64
+ready st = leb (st .crew .n) mostNodes && ltb (st .phase) spentPhase
 
 -- 01: "When the records are spent, every call is refused with 8 and the round leaves all as it was."
 unfoldable pub gone : State → State

@@ -5,6 +5,7 @@ use lib.ListN.{getD}
 use lib.Dec.{leb}
 use Rattle.wire.specs.Outcome.{valueOr}
 use Rattle.crew.specs.declared.Crew.{Crew}
+use Rattle.crew.specs.Parts.{mostNodes}
 use Rattle.node.specs.Record.{blank}
 use Rattle.node.specs.Starting.{startOf}
 use Rattle.pending.specs.Pairs.{nothing}
@@ -18,7 +19,7 @@ begunOf crew plans = record {
   crew = crew;
   phase = 1;
   round = 1;
-  honest = table (λ i. leb 1 (getD plans i 0)) 32;
-  nodes = table (λ i. valueOr blank (startOf crew i 1 (getD plans i 0))) 32;
+  honest = table (λ i. leb 1 (getD plans i 0)) mostNodes;
+  nodes = table (λ i. valueOr blank (startOf crew i 1 (getD plans i 0))) mostNodes;
   pending = nothing;
 }

@@ -1,20 +1,27 @@
 // The nodes of a drill: starting them, and a whole round among them, over the engine's promises alone.
 // specs/Start.antt says what a drill begins with, specs/Round.antt what a go does. Crate drill follows a script.
 use crew::Crew;
-use inbox::SLOT;
+use crew::MOST_NODES;
+use message::SLOT;
 use node::Node;
 use pending::Pending;
+use wire::PHASES;
+use wire::Plan;
 ghost use mathlib.Core.Path.{_≡_};
 ghost use Prim.Native.Nat.{_*_, _<_, _≤_};
 ghost use lib.ListN.{length, getD, take};
 ghost use lib.Dec.{leb};
 ghost use Rattle.wire.specs.Outcome.{valueOr};
+ghost use Rattle.wire.specs.Sizes.{spentPhase};
+ghost use Rattle.crew.specs.Parts.{mostNodes};
+ghost use Rattle.message.specs.Layout.{slotSize};
 ghost use Rattle.node.specs.Record.{blank};
 ghost use Rattle.node.specs.Starting.{startOf};
 ghost use Rattle.aisle.specs.Round.{
   table,
   sayBuffer,
   delivered,
+  inboxSize,
   inboxOf,
   nodeAfter,
   resultAt,
@@ -28,9 +35,7 @@ ghost use Rattle.aisle.specs.Start.{begunOf};
 // A drill is one run of the algorithm.
 const RUN: u32 = 1;
 // The inbox of the largest crew.
-const INBOX: usize = 6464;
-
-const MOST_NODES: usize = 32;
+const INBOX: usize = SLOT * MOST_NODES;
 
 // The drill between two lines.
 pub struct State {
@@ -39,21 +44,21 @@ pub struct State {
     pub phase: u8,
     pub round: u8,
     // Which nodes are honest: those with an initial plan.
-    pub honest: [bool; 32],
+    pub honest: [bool; MOST_NODES],
     // The honest nodes' records; for any other number the blank record of its refused start, which no take changes.
-    pub nodes: [Node; 32],
+    pub nodes: [Node; MOST_NODES],
     pub pending: Pending,
 }
 
 // Writes the message of a say to the front of a slot.
-fn write_say(slot: &mut [u8], phase: u8, round: u8, plan: u16, stamp: u8)
+fn write_say(slot: &mut [u8], phase: u8, round: u8, plan: Plan, stamp: u8)
     ensures { λ _. ⌜ now (slot .exit) ≡ sayBuffer phase round plan stamp (now (slot .entry)) ⌝ }
 {
     if plan == Node::NO_PLAN {
         return;
     }
     if round == Node::SELECTION {
-        writer::write_selection(slot, RUN, phase, plan, stamp, [0u16; 64], 0);
+        writer::write_selection(slot, RUN, phase, plan, stamp, [Node::NO_PLAN; PHASES], 0);
         return;
     }
     if round == Node::VALIDATION {
@@ -65,7 +70,7 @@ fn write_say(slot: &mut [u8], phase: u8, round: u8, plan: u16, stamp: u8)
 
 // Writes what a sender sends a receiver to the front of the receiver's slot for it.
 fn deliver(state: State, sender: usize, receiver: usize, slot: &mut [u8])
-    requires { ⌜ sender < 32 ⌝ }
+    requires { ⌜ sender < mostNodes ⌝ }
     ensures { λ _. ⌜ now (slot .exit) ≡ delivered state sender receiver (now (slot .entry)) ⌝ }
 {
     let pending = state.pending;
@@ -83,9 +88,9 @@ fn deliver(state: State, sender: usize, receiver: usize, slot: &mut [u8])
 }
 
 // A receiver's inbox, made anew for each round: nothing of an earlier one stays behind a shorter message.
-fn inbox_for(state: State, receiver: usize) -> [u8; 6464]
-    requires { ⌜ state .crew .n ≤ 32 ⌝ }
-    ensures { λ r. ⌜ (length r ≡ 6464) × (take (202 * state .crew .n) r ≡ inboxOf state receiver) ⌝ }
+fn inbox_for(state: State, receiver: usize) -> [u8; INBOX]
+    requires { ⌜ state .crew .n ≤ mostNodes ⌝ }
+    ensures { λ r. ⌜ (length r ≡ inboxSize) × (take (slotSize * state .crew .n) r ≡ inboxOf state receiver) ⌝ }
 {
     let mut inbox = [0u8; INBOX];
     let n = state.crew.n as usize;
@@ -101,7 +106,7 @@ fn inbox_for(state: State, receiver: usize) -> [u8; 6464]
 
 // A node's record after it took the round.
 fn take_round(state: State, receiver: usize) -> Node
-    requires { ⌜ (state .crew .n ≤ 32) × (receiver < 32) ⌝ }
+    requires { ⌜ (state .crew .n ≤ mostNodes) × (receiver < mostNodes) ⌝ }
     ensures { λ r. ⌜ r ≡ nodeAfter state receiver ⌝ }
 {
     let inbox = inbox_for(state, receiver);
@@ -118,14 +123,14 @@ fn round_after(class: u8, round: u8) -> u8
     if Node::DECISION <= round {
         return Node::SELECTION;
     }
-    if class == Node::UNVALIDATED_CLASS {
+    if class == Crew::CLASS_ONE {
         return Node::DECISION;
     }
     round + 1
 }
 
 fn phase_after(phase: u8, round: u8) -> u8
-    requires { ⌜ phase < 64 ⌝ }
+    requires { ⌜ phase < spentPhase ⌝ }
     ensures { λ r. ⌜ r ≡ phaseAfter phase round ⌝ }
 {
     if Node::DECISION <= round {
@@ -136,7 +141,7 @@ fn phase_after(phase: u8, round: u8) -> u8
 
 // A whole round: all that is sent in it comes from the records as they are before it.
 fn whole_round(state: State) -> State
-    requires { ⌜ (state .crew .n ≤ 32) × (state .phase < 64) ⌝ }
+    requires { ⌜ (state .crew .n ≤ mostNodes) × (state .phase < spentPhase) ⌝ }
     ensures { λ r. ⌜ r ≡ goOf state ⌝ }
 {
     let crew = state.crew;
@@ -166,7 +171,7 @@ fn whole_round(state: State) -> State
 pub fn go(state: State) -> State
     ensures { λ r. ⌜ r ≡ gone state ⌝ }
 {
-    let ready = (state.crew.n <= Crew::MOST_NODES) & (state.phase < Node::SPENT);
+    let ready = (state.crew.n as usize <= MOST_NODES) & (state.phase < Node::SPENT);
     if ready {
         return whole_round(state);
     }
@@ -174,10 +179,10 @@ pub fn go(state: State) -> State
 }
 
 // The results that the nodes have, 0 where there is none.
-pub fn results_of(state: State) -> [u16; 32]
-    ensures { λ r. ⌜ r ≡ table (resultAt state) 32 ⌝ }
+pub fn results_of(state: State) -> [Plan; MOST_NODES]
+    ensures { λ r. ⌜ r ≡ table (resultAt state) mostNodes ⌝ }
 {
-    let mut results = [0u16; MOST_NODES];
+    let mut results = [Node::NO_PLAN; MOST_NODES];
     let mut i: usize = 0;
     while i < MOST_NODES {
         let node = state.nodes[i];
@@ -187,20 +192,20 @@ pub fn results_of(state: State) -> [u16; 32]
     results
 }
 
-fn honest_of(plans: [u16; 32]) -> [bool; 32]
-    ensures { λ r. ⌜ r ≡ table (λ i. leb 1 (getD plans i 0)) 32 ⌝ }
+fn honest_of(plans: [Plan; MOST_NODES]) -> [bool; MOST_NODES]
+    ensures { λ r. ⌜ r ≡ table (λ i. leb 1 (getD plans i 0)) mostNodes ⌝ }
 {
     let mut honest = [false; MOST_NODES];
     let mut i: usize = 0;
     while i < MOST_NODES {
-        honest[i] = 1 <= plans[i];
+        honest[i] = Node::NO_PLAN < plans[i];
         i = i + 1;
     }
     honest
 }
 
-fn start_node(crew: Crew, i: usize, plan: u16) -> Node
-    requires { ⌜ i < 32 ⌝ }
+fn start_node(crew: Crew, i: usize, plan: Plan) -> Node
+    requires { ⌜ i < mostNodes ⌝ }
     ensures { λ r. ⌜ r ≡ valueOr blank (startOf crew i 1 plan) ⌝ }
 {
     let started = Node::start(crew, i as u8, RUN, plan);
@@ -209,7 +214,7 @@ fn start_node(crew: Crew, i: usize, plan: u16) -> Node
 }
 
 // The aisle before its first round: each node started with its plan.
-pub fn begin(crew: Crew, plans: [u16; 32]) -> State
+pub fn begin(crew: Crew, plans: [Plan; MOST_NODES]) -> State
     ensures { λ r. ⌜ r ≡ begunOf crew plans ⌝ }
 {
     let node = start_node(crew, 0, Node::NO_PLAN);

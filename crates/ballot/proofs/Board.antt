@@ -1,10 +1,13 @@
--- The selection examples on the board of document 01 that are to be proved, and further ones beside them:
--- a table, and one theorem for all of it. Assumes nothing.
+-- The board of document 01: the examples that are to be proved, in its order, as one table with one theorem. Below it a
+-- second table, of what no law of this crate would notice. Assumes nothing.
 use mathlib.Core.Path.{_≡_, refl}
 use mathlib.Core.List.{List, [], _∷_, map}
 use Prim.Native.Nat.{ℕ}
 use Rattle.wire.specs.Entry.{Entry}
+use Rattle.wire.specs.Outcome.{Outcome, accepted, refused}
 use Rattle.crew.specs.declared.Crew.{Crew}
+use Rattle.crew.specs.Parts.{crewOf}
+use Rattle.crew.specs.Acceptance.{acceptOf}
 use Rattle.crew.specs.Thresholds.{classOf}
 use Rattle.ballot.specs.Count.{countIf}
 use Rattle.ballot.specs.Ballot.{Ballot, lists}
@@ -12,20 +15,22 @@ use Rattle.ballot.specs.Least.{least, leastOf}
 use Rattle.ballot.specs.Selection.{possible, backed, backing, enough, selection}
 use Rattle.ballot.specs.Selection.{leading, mostVoted, anyPlan, taken}
 use Rattle.ballot.specs.Selection.{Choice, plan, any, nothing}
-use Rattle.ballot.specs.Validation.{valid, validated}
-use Rattle.ballot.specs.Decision.{decides, decision}
 
--- an inbox put to a rule
+-- a crew put to acceptance, and ballots put to a crew's selection
 data Question : Type 0 where
+  accept : Crew → Question
   select : Crew → List Ballot → Question
-  validate : Crew → List Ballot → Question
-  decide : Crew → ℕ → List Ballot → Question
 
--- what a selection answers, and the plan that is taken; the plan that is validated or decided
+-- what acceptance answers; what selection answers, and the plan that a node takes on it
 data Answer : Type 0 where
-  chosen : Choice → ℕ → Answer
-  settled : ℕ → Answer
+  answers : Outcome (Unit {0}) → Answer
+  chooses : Choice → ℕ → Answer
 
+abbrev answered : Question → Answer
+answered (accept crew) = answers (acceptOf crew)
+answered (select crew ballots) = chooses (selection (classOf crew) crew ballots) (taken (classOf crew) crew ballots)
+
+-- a line of the board
 record Example : Type 0 where
   question : Question
   answer : Answer
@@ -34,18 +39,25 @@ abbrev _gives_ : Question → Answer → Example
 _gives_ q a = record { question = q; answer = a }
 
 infix 20 _gives_
-abbrev crew : ℕ → ℕ → ℕ → ℕ → ℕ → Crew
-crew class n b f d = record { class = class; n = n; b = b; f = f; d = d }
+-- every question of the table has its answer
+abbrev Holds : List Example → Type 0
+Holds table = map (λ e. answered (e .question)) table ≡ map (λ e. e .answer) table
 
--- E is 2 in each of these
-abbrev crew1 : Crew
-crew1 = crew 1 6 1 0 5
+-- the answers in 01's words
+abbrev acceptance : Answer
+acceptance = answers (accepted tt)
 
-abbrev crew2 : Crew
-crew2 = crew 2 5 1 0 4
+abbrev refusal : ℕ → Answer
+refusal number = answers (refused number)
 
-abbrev crew3 : Crew
-crew3 = crew 3 4 1 0 3
+abbrev thePlan : ℕ → Answer
+thePlan v = chooses (plan v) v
+
+abbrev anyTakenAs : ℕ → Answer
+anyTakenAs v = chooses any v
+
+abbrev noPlan : Answer
+noPlan = chooses nothing 0
 
 -- a vote with a stamp and entries, one with a stamp alone, and one alone
 abbrev full : ℕ → ℕ → List Entry → Ballot
@@ -64,59 +76,34 @@ entry t v = record { phase = t; plan = v }
 abbrev phase2 : List Entry → List Ballot
 phase2 entries = full 5 1 (entry 0 5 ∷ entry 1 5 ∷ []) ∷ full 6 0 entries ∷ full 6 0 (entry 0 6 ∷ []) ∷ []
 
+-- 01, 'Board examples (p = to be proved)': those marked p
 abbrev board : List Example
 board =
-    -- 01's board, marked p
-    (select crew1 (map bare (7 ∷ 7 ∷ 7 ∷ 9 ∷ 9 ∷ [])) gives chosen (plan 7) 7)
-    ∷ (select crew1 (map bare (7 ∷ 7 ∷ 9 ∷ 9 ∷ [])) gives chosen nothing 0)
-    ∷ (select crew1 (map bare (7 ∷ 7 ∷ 9 ∷ 9 ∷ 8 ∷ [])) gives chosen any 7)
-    ∷ (select crew3 (map bare (5 ∷ 5 ∷ 6 ∷ [])) gives chosen any 5)
-    ∷ (select crew3 (phase2 (entry 0 6 ∷ entry 1 5 ∷ [])) gives chosen (plan 5) 5)
-    ∷ (select crew3 (phase2 (entry 0 6 ∷ [])) gives chosen nothing 0)
-    ∷ (select crew2 (at 5 1 ∷ at 6 0 ∷ at 6 0 ∷ at 5 1 ∷ []) gives chosen (plan 5) 5)
-    -- Further examples: the bounds, from both sides.
-    -- class 1: E slots back nothing, not even as a majority of what came; 2E slots are too few for 'any'
-    ∷ (select crew1 (map bare (7 ∷ 7 ∷ 9 ∷ [])) gives chosen nothing 0)
-    ∷ (select crew1 (map bare (7 ∷ 7 ∷ 9 ∷ 8 ∷ [])) gives chosen nothing 0)
-    -- class 2: E + 1 slots make a ballot possible, E do not, and a stamp equal to its own does not count among them
-    ∷ (select crew2 (at 5 1 ∷ at 5 1 ∷ at 6 0 ∷ []) gives chosen (plan 5) 5)
-    ∷ (select crew2 (at 5 1 ∷ at 5 1 ∷ at 6 1 ∷ []) gives chosen nothing 0)
-    -- b possible slots back nothing
-    ∷ (select crew2 (at 5 1 ∷ at 6 0 ∷ at 6 0 ∷ []) gives chosen nothing 0)
-    -- E + b slots are too few for 'any', one more is enough
-    ∷ (select crew2 (map bare (5 ∷ 6 ∷ 7 ∷ [])) gives chosen nothing 0)
-    ∷ (select crew2 (map bare (8 ∷ 7 ∷ 5 ∷ 5 ∷ [])) gives chosen any 5)
-    -- class 3: E slots with stamp 0 are too few for 'any', however many count
-    ∷ (select crew3 (at 5 0 ∷ at 6 0 ∷ at 7 1 ∷ at 8 1 ∷ []) gives chosen nothing 0)
-    -- an entry counts by phase and plan together
-    ∷ (select crew3 (phase2 (entry 0 5 ∷ entry 1 6 ∷ [])) gives chosen nothing 0)
-    -- the newest stamp does not win: 5 is listed at phase 2 by b slots, 6 at phase 1 by more
-    ∷ (select crew3
-    (full 5 2 (entry 2 5 ∷ []) ∷ full 6 1 (entry 1 6 ∷ []) ∷ full 6 1 (entry 1 6 ∷ []) ∷ at 6 0 ∷ [])
-    gives chosen (plan 6) 6)
-    -- several backed plans: 'any' over all counting slots, though only E of them have stamp 0
-    ∷ (select crew3
-    (full 5 2 (entry 1 6 ∷ entry 2 5 ∷ []) ∷ full 6 1 (entry 1 6 ∷ entry 2 5 ∷ []) ∷ at 6 0 ∷ at 6 0 ∷ [])
-    gives chosen any 6)
-    -- validation: 2c must pass n + b, whatever came
-    ∷ (validate crew2 (map bare (5 ∷ 5 ∷ 5 ∷ [])) gives settled 0)
-    ∷ (validate crew2 (map bare (5 ∷ 5 ∷ 5 ∷ 5 ∷ 6 ∷ [])) gives settled 5)
-    ∷ (validate crew3 (map bare (6 ∷ 5 ∷ 5 ∷ 5 ∷ [])) gives settled 5)
-    -- decision: D slots, in class 1 with any stamp, in classes 2 and 3 with the phase as stamp; the least of several
-    ∷ (decide crew1 2 (at 7 0 ∷ at 7 1 ∷ at 7 0 ∷ at 7 0 ∷ at 7 0 ∷ []) gives settled 7)
-    ∷ (decide crew1 2 (map bare (7 ∷ 7 ∷ 7 ∷ 7 ∷ 9 ∷ [])) gives settled 0)
-    ∷ (decide crew2 2 (at 5 2 ∷ at 5 2 ∷ at 5 2 ∷ at 5 1 ∷ []) gives settled 0)
-    ∷ (decide crew3 2 (at 5 2 ∷ at 5 2 ∷ at 5 1 ∷ []) gives settled 0)
-    ∷ (decide crew3 2 (at 5 2 ∷ at 5 2 ∷ at 5 2 ∷ at 5 1 ∷ []) gives settled 5)
-    ∷ (decide (crew 3 32 0 0 1) 1 (at 9 1 ∷ at 5 1 ∷ at 6 1 ∷ []) gives settled 5)
+    (accept (crewOf 3 4 1 0 3) gives acceptance)
+    ∷ (accept (crewOf 3 4 1 0 2) gives refusal 4)
+    ∷ (accept (crewOf 3 4 1 0 4) gives refusal 3)
+    ∷ (accept (crewOf 1 6 1 0 5) gives acceptance)
+    ∷ (accept (crewOf 1 5 1 0 4) gives refusal 4)
+    ∷ (accept (crewOf 2 5 1 0 4) gives acceptance)
+    ∷ (select (crewOf 1 6 1 0 5) (map bare (7 ∷ 7 ∷ 7 ∷ 9 ∷ 9 ∷ [])) gives thePlan 7)
+    ∷ (select (crewOf 1 6 1 0 5) (map bare (7 ∷ 7 ∷ 9 ∷ 9 ∷ [])) gives noPlan)
+    ∷ (select (crewOf 1 6 1 0 5) (map bare (7 ∷ 7 ∷ 9 ∷ 9 ∷ 8 ∷ [])) gives anyTakenAs 7)
+    ∷ (select (crewOf 3 4 1 0 3) (map bare (5 ∷ 5 ∷ 6 ∷ [])) gives anyTakenAs 5)
+    ∷ (select (crewOf 3 4 1 0 3) (phase2 (entry 0 6 ∷ entry 1 5 ∷ [])) gives thePlan 5)
+    ∷ (select (crewOf 3 4 1 0 3) (phase2 (entry 0 6 ∷ [])) gives noPlan)
+    ∷ (select (crewOf 2 5 1 0 4) (at 5 1 ∷ at 6 0 ∷ at 6 0 ∷ at 5 1 ∷ []) gives thePlan 5)
     ∷ []
 
-abbrev answered : Question → Answer
-answered (select crew ballots) = chosen (selection (classOf crew) crew ballots) (taken (classOf crew) crew ballots)
-answered (validate crew ballots) = settled (validated crew ballots)
-answered (decide crew phase ballots) = settled (decision (classOf crew) crew phase ballots)
-
-board-holds : map (λ e. answered (e .question)) board ≡ map (λ e. e .answer) board
-unfolding countIf lists least leastOf possible backed backing enough selection leading mostVoted anyPlan taken
-    valid validated decides decision
+board-holds : Holds board
+unfolding acceptOf countIf lists least leastOf possible backed backing enough selection
+    leading mostVoted anyPlan taken
 board-holds = refl
+
+-- The laws of this crate hold for any sense of what a ballot lists. This says that an entry counts by its phase and its
+-- plan together: the second ballot has 5 at another phase and another plan at phase 1, and so does not list 5 at 1.
+abbrev listings : List Example
+listings = (select (crewOf 3 4 1 0 3) (phase2 (entry 0 5 ∷ entry 1 6 ∷ [])) gives noPlan) ∷ []
+
+listings-hold : Holds listings
+unfolding countIf lists least possible backed backing enough selection taken
+listings-hold = refl

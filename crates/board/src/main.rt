@@ -1,152 +1,376 @@
-// The board examples of document 01 that are not proved as theorems: each is put to the engine, and what it answers is
-// compared with the file stdout beside this folder.
+// The board examples of document 01 that are not proved as theorems, and further ones, which go to the bounds of each
+// rule from both sides. Each is put to the engine, and what it answers is compared with the file stdout beside this
+// folder.
 use crew::Acceptance;
 use crew::Crew;
+use crew::MOST_NODES;
 use crew::Refusal;
 use libc::STDOUT_FILENO;
+use message::SLOT;
 use node::Node;
-use rounds::Asked;
 use rounds::Asking;
+use rounds::Taken;
+use rounds::Taking;
+use wire::PHASES;
+use wire::Plan;
 
-// 01: "An inbox is n slots of 202 bytes"
-const SLOT: usize = 202;
+// Room for the inbox of any crew, which is lent the front that it needs.
+const INBOX: usize = SLOT * MOST_NODES;
 
-// 01's number of a refusal, in one digit.
-fn digit(why: Refusal) -> u8 {
-    match why {
-        Refusal::Class => b'1',
-        Refusal::Size => b'2',
-        Refusal::QuorumTooHigh => b'3',
-        Refusal::QuorumTooLow => b'4',
+// The run of all records and messages here.
+const RUN: u32 = 1;
+
+// What the records here began with: a plan that no example has in a slot.
+const FIRST_PLAN: Plan = 4;
+
+// What a slot says: of its history only what it lists at phases 1 and 2.
+struct Ballot {
+    plan: Plan,
+    stamp: u8,
+    first: Plan,
+    second: Plan,
+}
+
+fn show(text: &[u8]) {
+    io::write_all(STDOUT_FILENO, text);
+}
+
+// A number, after some text.
+fn show_number(text: &[u8], number: u64) {
+    show(text);
+    io::print_decimal(STDOUT_FILENO, number);
+}
+
+// The end of a line: a plan, or none.
+fn show_plan(plan: Plan) {
+    if plan == Node::NO_PLAN {
+        show(b"none\n");
+    } else {
+        show_number(b"", plan as u64);
+        show(b"\n");
     }
 }
 
-fn show_refusal(why: Refusal) {
-    let line = [digit(why), b'\n'];
-    io::write_all(STDOUT_FILENO, &line);
+// A crew in 01's order of its numbers.
+fn crew_of(class: u8, n: u8, b: u8, f: u8, d: u8) -> Crew {
+    Crew {
+        class: class,
+        n: n,
+        b: b,
+        f: f,
+        d: d,
+    }
 }
 
-// One line: the crew as 01 writes it, and what accepting it answers.
-fn show_crew(text: &[u8], crew: Crew) {
-    io::write_all(STDOUT_FILENO, text);
+// The start of a line: a crew as 01 writes it.
+fn show_crew(crew: Crew) {
+    show_number(b"crew ", crew.class as u64);
+    show_number(b",", crew.n as u64);
+    show_number(b",", crew.b as u64);
+    show_number(b",", crew.f as u64);
+    show_number(b",", crew.d as u64);
+}
+
+// 01's number of a refusal.
+fn number_of(why: Refusal) -> u64 {
+    match why {
+        Refusal::Class => boundary::CLASS,
+        Refusal::Size => boundary::SIZE,
+        Refusal::QuorumTooHigh => boundary::QUORUM_TOO_HIGH,
+        Refusal::QuorumTooLow => boundary::QUORUM_TOO_LOW,
+    }
+}
+
+// One line: what accepting a crew answers.
+fn accept(crew: Crew) {
+    show_crew(crew);
     let answer = crew::accept(crew);
     match answer {
         Acceptance::Accepted => {
-            io::write_all(STDOUT_FILENO, b"accepted\n");
+            show(b": accepted\n");
         }
         Acceptance::Refused(why) => {
-            show_refusal(why);
+            show_number(b": ", number_of(why));
+            show(b"\n");
         }
     }
 }
 
-// A selection of run 1 with no entries, in slot q.
-fn put_vote(inbox: &mut [u8], q: usize, phase: u8, vote: u16, stamp: u8) {
-    if q < 32 {
+// An entry as 01 writes it, where there is one.
+fn show_entry(phase: u64, plan: Plan) {
+    if Node::NO_PLAN < plan {
+        show_number(b" ", phase);
+        show_number(b":", plan as u64);
+    }
+}
+
+// A ballot as 01 writes it: in phase 1 and in validations, where nothing has a stamp, its plan alone.
+fn show_ballot(ballot: Ballot, stamped: bool) {
+    if stamped {
+        show_number(b" (", ballot.plan as u64);
+        show_number(b",", ballot.stamp as u64);
+        show_entry(1, ballot.first);
+        show_entry(2, ballot.second);
+        show(b")");
+    } else {
+        show_number(b" ", ballot.plan as u64);
+    }
+}
+
+// The message that a ballot is in a round.
+fn put_message(slot: &mut [u8], phase: u8, round: u8, ballot: Ballot) {
+    if round == Node::SELECTION {
+        let mut history = [Node::NO_PLAN; PHASES];
+        history[1] = ballot.first;
+        history[2] = ballot.second;
+        writer::write_selection(slot, RUN, phase, ballot.plan, ballot.stamp, history, phase);
+    } else if round == Node::VALIDATION {
+        writer::write_validation(slot, RUN, phase, ballot.plan);
+    } else {
+        writer::write_decision(slot, RUN, phase, ballot.plan, ballot.stamp);
+    }
+}
+
+fn put_in_slot(inbox: &mut [u8], q: usize, phase: u8, round: u8, ballot: Ballot) {
+    if q < MOST_NODES {
         let start = SLOT * q;
         let end = start + SLOT;
         if end <= inbox.len() {
-            writer::write_selection(&mut inbox[start..end], 1, phase, vote, stamp, [0u16; 64], 0);
+            put_message(&mut inbox[start..end], phase, round, ballot);
         }
     }
 }
 
-// What asking for the selection answers, with the first `end` bytes for an inbox.
-fn ask_front(node: Node, inbox: &[u8], end: usize) -> Asked {
-    if end <= inbox.len() {
-        rounds::ask(node, &inbox[..end])
+// An example has its ballots in columns, with a place for each slot. A column may be short: after its end all is 0.
+
+fn plan_at(column: &[Plan], q: usize) -> Plan {
+    if q < column.len() {
+        column[q]
     } else {
-        rounds::ask(node, inbox)
+        Node::NO_PLAN
     }
 }
 
-// A plan in decimal: its last five digits, of which a plan has no more.
-fn show_plan(plan: u16) {
-    let line = [
-        b'0' + (plan / 10000 % 10) as u8,
-        b'0' + (plan / 1000 % 10) as u8,
-        b'0' + (plan / 100 % 10) as u8,
-        b'0' + (plan / 10 % 10) as u8,
-        b'0' + (plan % 10) as u8,
-        b'\n',
-    ];
-    io::write_all(STDOUT_FILENO, &line);
+fn stamp_at(column: &[u8], q: usize) -> u8 {
+    if q < column.len() {
+        column[q]
+    } else {
+        Node::UNSTAMPED
+    }
 }
 
-// One line: the votes as 01 writes them, and what asking for the selection answers.
-fn show_selection(text: &[u8], node: Node, inbox: &[u8]) {
-    io::write_all(STDOUT_FILENO, text);
-    let asked = ask_front(node, inbox, SLOT * (node.crew.n as usize));
+// Each ballot in its slot, and shown.
+fn fill(
+    inbox: &mut [u8],
+    phase: u8,
+    round: u8,
+    plans: &[Plan],
+    stamps: &[u8],
+    firsts: &[Plan],
+    seconds: &[Plan],
+) {
+    let mut q: usize = 0;
+    while q < plans.len() {
+        let ballot = Ballot {
+            plan: plan_at(plans, q),
+            stamp: stamp_at(stamps, q),
+            first: plan_at(firsts, q),
+            second: plan_at(seconds, q),
+        };
+        put_in_slot(inbox, q, phase, round, ballot);
+        show_ballot(ballot, 0 < stamps.len());
+        q = q + 1;
+    }
+}
+
+// The inbox of n slots.
+fn front(inbox: &[u8], n: u8) -> &[u8] {
+    let end = SLOT * (n as usize);
+    if end <= inbox.len() {
+        &inbox[..end]
+    } else {
+        inbox
+    }
+}
+
+// A node of the crew, for which this round comes next.
+fn node_at(crew: Crew, phase: u8, round: u8) -> Node {
+    let started = Node::start(crew, 0, RUN, FIRST_PLAN);
+    let mut node = started.node;
+    node.phase = phase;
+    node.round = round;
+    node
+}
+
+// What asking for the selection answers; for 'any' also the plan that the node takes.
+fn show_asked(node: Node, inbox: &[u8]) {
+    show(b": ");
+    let asked = rounds::ask(node, inbox);
     let answer = asked.answer;
     match answer {
         Asking::Plan(plan) => {
             show_plan(plan);
         }
         Asking::Any => {
-            io::write_all(STDOUT_FILENO, b"any\n");
+            show(b"any, taken as ");
+            let taken = rounds::take(node, inbox);
+            show_plan(taken.node.select);
         }
         Asking::Nothing => {
-            io::write_all(STDOUT_FILENO, b"none\n");
+            show(b"none\n");
         }
         Asking::Refused(_) => {
-            io::write_all(STDOUT_FILENO, b"refused\n");
+            show(b"refused\n");
         }
     }
 }
 
-// Crew 3,4,1,0,3, phase 1: votes 5 5.
-fn show_two_votes() {
-    let crew = Crew {
-        class: 3,
-        n: 4,
-        b: 1,
-        f: 0,
-        d: 3,
-    };
-    let started = Node::start(crew, 0, 1, 5);
-    let node = started.node;
-    let mut inbox = [0u8; 6464];
-    put_vote(&mut inbox, 0, 1, 5, 0);
-    put_vote(&mut inbox, 1, 1, 5, 0);
-    show_selection(b"crew 3,4,1,0,3, votes 5 5: ", node, &inbox);
+// One line: what these ballots select.
+fn select_in(
+    crew: Crew,
+    phase: u8,
+    votes: &[Plan],
+    stamps: &[u8],
+    firsts: &[Plan],
+    seconds: &[Plan],
+) {
+    let mut inbox = [0u8; INBOX];
+    fill(
+        &mut inbox,
+        phase,
+        Node::SELECTION,
+        votes,
+        stamps,
+        firsts,
+        seconds,
+    );
+    show_asked(node_at(crew, phase, Node::SELECTION), front(&inbox, crew.n));
 }
 
-// Crew 2,5,1,0,4, phase 2: (5,1) (6,0) (6,0).
-fn show_one_stamp() {
-    let crew = Crew {
-        class: 2,
-        n: 5,
-        b: 1,
-        f: 0,
-        d: 4,
-    };
-    let started = Node::start(crew, 0, 1, 5);
-    let mut node = started.node;
-    node.phase = 2;
-    let mut inbox = [0u8; 6464];
-    put_vote(&mut inbox, 0, 2, 5, 1);
-    put_vote(&mut inbox, 1, 2, 6, 0);
-    put_vote(&mut inbox, 2, 2, 6, 0);
-    show_selection(b"crew 2,5,1,0,4, (5,1) (6,0) (6,0): ", node, &inbox);
+// In phase 1 votes have no stamps.
+fn select(crew: Crew, votes: &[Plan]) {
+    show_crew(crew);
+    show(b", votes");
+    select_in(crew, 1, votes, &[], &[], &[]);
+}
+
+fn select_stamped(crew: Crew, votes: &[Plan], stamps: &[u8]) {
+    show_crew(crew);
+    show(b",");
+    select_in(crew, 2, votes, stamps, &[], &[]);
+}
+
+fn select_listed(crew: Crew, votes: &[Plan], stamps: &[u8], firsts: &[Plan], seconds: &[Plan]) {
+    show_crew(crew);
+    show(b",");
+    select_in(crew, 3, votes, stamps, firsts, seconds);
+}
+
+// The plan that a round came to, where it was taken.
+fn show_taken(taken: Taken, plan: Plan) {
+    show(b": ");
+    let answer = taken.answer;
+    match answer {
+        Taking::Accepted => {
+            show_plan(plan);
+        }
+        Taking::Refused(_) => {
+            show(b"refused\n");
+        }
+    }
+}
+
+// The plan that was validated in this phase.
+fn validated_in(node: Node, phase: u8) -> Plan {
+    if node.stamp == phase {
+        node.base
+    } else {
+        Node::NO_PLAN
+    }
+}
+
+// One line: which of these plans is validated, in phase 1.
+fn validate(crew: Crew, plans: &[Plan]) {
+    show_crew(crew);
+    show(b", validating");
+    let mut inbox = [0u8; INBOX];
+    fill(&mut inbox, 1, Node::VALIDATION, plans, &[], &[], &[]);
+    let taken = rounds::take(node_at(crew, 1, Node::VALIDATION), front(&inbox, crew.n));
+    show_taken(taken, validated_in(taken.node, 1));
+}
+
+// One line: which of these votes is decided.
+fn decide(crew: Crew, phase: u8, votes: &[Plan], stamps: &[u8]) {
+    show_crew(crew);
+    show_number(b", deciding in phase ", phase as u64);
+    let mut inbox = [0u8; INBOX];
+    fill(&mut inbox, phase, Node::DECISION, votes, stamps, &[], &[]);
+    let taken = rounds::take(node_at(crew, phase, Node::DECISION), front(&inbox, crew.n));
+    show_taken(taken, taken.node.result);
+}
+
+// 01's board, but for what is proved.
+fn show_board() {
+    accept(crew_of(1, 4, 0, 1, 3));
+    accept(crew_of(9, 0, 0, 0, 0));
+    select(crew_of(3, 4, 1, 0, 3), &[5, 5]);
+    select_stamped(crew_of(2, 5, 1, 0, 4), &[5, 6, 6], &[1, 0, 0]);
+}
+
+// The bounds of selection, from both sides. E is 2 in each of these crews.
+fn show_selections(one: Crew, two: Crew, three: Crew) {
+    // Class 1: E slots back nothing, not even as a majority of what came; 2E slots are too few for 'any'.
+    select(one, &[7, 7, 9]);
+    select(one, &[7, 7, 9, 8]);
+    // Class 2: E + 1 slots make a ballot possible, E do not, and a stamp equal to its own does not count among them.
+    select_stamped(two, &[5, 5, 6], &[1, 1, 0]);
+    select_stamped(two, &[5, 5, 6], &[1, 1, 1]);
+    // E + b slots are too few for 'any', one more is enough.
+    select(two, &[5, 6, 7]);
+    select(two, &[8, 7, 5, 5]);
+    // Class 3: E slots with stamp 0 are too few for 'any', however many count.
+    select_stamped(three, &[5, 6, 7, 8], &[0, 0, 1, 1]);
+    // The newest stamp does not win: 5 is listed at phase 2 by b slots, 6 at phase 1 by more.
+    select_listed(
+        three,
+        &[5, 6, 6, 6],
+        &[2, 1, 1, 0],
+        &[0, 6, 6, 0],
+        &[5, 0, 0, 0],
+    );
+    // Several backed plans: 'any' over all counting slots, though only E of them have stamp 0.
+    select_listed(
+        three,
+        &[5, 6, 6, 6],
+        &[2, 1, 0, 0],
+        &[6, 6, 0, 0],
+        &[5, 5, 0, 0],
+    );
+}
+
+// 2c must pass n + b, whatever came.
+fn show_validations(two: Crew, three: Crew) {
+    validate(two, &[5, 5, 5]);
+    validate(two, &[5, 5, 5, 5, 6]);
+    validate(three, &[6, 5, 5, 5]);
+}
+
+// D slots, in class 1 with any stamp, in classes 2 and 3 with the phase as stamp; the least of several.
+fn show_decisions(one: Crew, two: Crew, three: Crew) {
+    decide(one, 2, &[7, 7, 7, 7, 7], &[0, 1, 0, 0, 0]);
+    decide(one, 2, &[7, 7, 7, 7, 9], &[0, 0, 0, 0, 0]);
+    decide(two, 2, &[5, 5, 5, 5], &[2, 2, 2, 1]);
+    decide(three, 2, &[5, 5, 5], &[2, 2, 1]);
+    decide(three, 2, &[5, 5, 5, 5], &[2, 2, 2, 1]);
+    decide(crew_of(3, 32, 0, 0, 1), 1, &[9, 5, 6], &[1, 1, 1]);
 }
 
 fn main() {
-    let one_third_rule = Crew {
-        class: 1,
-        n: 4,
-        b: 0,
-        f: 1,
-        d: 3,
-    };
-    let no_such_class = Crew {
-        class: 9,
-        n: 0,
-        b: 0,
-        f: 0,
-        d: 0,
-    };
-    show_crew(b"crew 1,4,0,1,3: ", one_third_rule);
-    show_crew(b"crew 9,0,0,0,0: ", no_such_class);
-    show_two_votes();
-    show_one_stamp();
+    show_board();
+    let one = crew_of(1, 6, 1, 0, 5);
+    let two = crew_of(2, 5, 1, 0, 4);
+    let three = crew_of(3, 4, 1, 0, 3);
+    show_selections(one, two, three);
+    show_validations(two, three);
+    show_decisions(one, two, three);
 }

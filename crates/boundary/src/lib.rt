@@ -1,9 +1,12 @@
 // The engine for C and Rust: functions on numbers and lent bytes, each the engine's own operation on the record whose
 // image (crate image) it is lent. docs/LINKING.md says how to link and call it, rail.h declares it for C.
-// An answer is one number: a value below 16,777,216, or 16,777,216 times the number of a refusal. specs/Answers.antt
+// An answer is one number of eight bytes: a value below 2^56, or 2^56 times the number of a refusal. specs/Answers.antt
 // says what each function answers and leaves in what it is lent.
 use crew::Acceptance;
 use crew::Crew;
+use message::Body;
+use message::ENTRY_SIZE;
+use message::Message;
 use message::Reading;
 use node::Node;
 use node::Sending;
@@ -11,24 +14,29 @@ use node::StartRefusal;
 use node::Starting;
 use rounds::Asking;
 use rounds::Taking;
+use wire::PLAN_SIZE;
+use wire::Plan;
+use wire::RUN_SIZE;
 ghost use mathlib.Core.Path.{_≡_};
-ghost use Prim.Native.Nat.{_*_, _<_};
+ghost use mathlib.Core.List.{List};
+ghost use Prim.Native.Nat.{ℕ, _*_, _<_};
 ghost use lib.ListN.{length};
 ghost use Rattle.wire.specs.Outcome.{valueOr};
+ghost use Rattle.crew.specs.Parts.{crewOf};
 ghost use Rattle.crew.specs.Acceptance.{acceptOf, answered as acceptedAs, number as crewNumber};
-ghost use Rattle.message.specs.Reading.{number as readNumber};
+ghost use Rattle.message.specs.Reading.{bodyAs, number as readNumber};
 ghost use Rattle.node.specs.Starting.{number as startNumber};
 ghost use Rattle.node.specs.Sending.{number as sendNumber, answered as sentAs};
 ghost use Rattle.rounds.specs.Taking.{number as roundNumber};
 ghost use Rattle.rounds.specs.Asking.{answered as askedAs};
 ghost use Rattle.boundary.specs.Answers.{
+  refusalUnit,
   done,
   itself,
   choiceNumber,
   entryNumber,
   answerOf,
   Apart,
-  crewOf,
   startInto,
   recordAfter,
   writeFrom,
@@ -36,87 +44,148 @@ ghost use Rattle.boundary.specs.Answers.{
   takeFrom,
   askFrom,
   resultFrom,
+  fieldsSize,
   fieldBytes,
+  fieldsOf,
   readInto,
   fieldsAfter,
   entryIn,
   entryFrom,
 };
 
-// The numbers of what only this boundary refuses, after the engine's own and those kept for it.
-const WRONG_IMAGE: u32 = 25;
+// 01's numbers of the refusals. The engine below answers by name, so this is the one place where its code has them.
+// 01: "Accepting a crew: 1 class not 1 to 3; 2 n not 1 to 32; 3 D + b + f > n; 4 D too low for the class."
+pub const CLASS: u64 = 1;
 
-const WRONG_FIELDS: u32 = 26;
+pub const SIZE: u64 = 2;
 
-const NO_ENTRY: u32 = 27;
-// How many bytes the fields of a message take.
-const FIELDS: usize = 10;
-// A refusal's number stands above every value.
-const REFUSAL: u32 = 16777216;
-// What asking answers for 'any', which is no plan's number.
-const ANY: u32 = 65536;
+pub const QUORUM_TOO_HIGH: u64 = 3;
+
+pub const QUORUM_TOO_LOW: u64 = 4;
+
+// 01: "Starting a node: 1 to 4; 5 own number not below n; 6 plan 0."
+const OWN: u64 = 5;
+
+const NO_PLAN: u64 = 6;
+
+// 01: "Writing the coming message: 7 record not sound; 8 spent; 9 buffer shorter than the message."
+const UNSOUND: u64 = 7;
+
+const SPENT: u64 = 8;
+
+const SHORT: u64 = 9;
+
+// 01: "Reading: 10 slice under 9 bytes, length under 9, or length beyond the slice; 11 kind not 1 to 3; 12 length not
+// that of the kind ..; 13 a bound broken, or k above 63."
+const CUT: u64 = 10;
+
+const KIND: u64 = 11;
+
+const LENGTH: u64 = 12;
+
+const BOUND: u64 = 13;
+
+// 01: "Taking a round, or only asking for the coming selection ..: 7; 8; 14 inbox length not 202n."
+const INBOX: u64 = 14;
+
+// What only this boundary refuses: after the engine's own numbers and those kept for it.
+const WRONG_IMAGE: u64 = 25;
+
+const WRONG_FIELDS: u64 = 26;
+
+const NO_ENTRY: u64 = 27;
+
+// The number of a refusal is the top byte of an answer: above every value, which has the seven bytes below it.
+const REFUSAL: u64 = 1 << 56;
+
+// A plan has room for four bytes in a value, though it takes fewer: with wider plans no answer is laid out anew.
+const PLAN_ROOM: u64 = 1 << 32;
+// What asking answers for 'any': one past what a plan has room for.
+const ANY: u64 = PLAN_ROOM;
+
+// Where the fields of a message that is read stand, and how many bytes they take.
+const KIND_AT: usize = 0;
+
+const RUN_AT: usize = KIND_AT + 1;
+
+const PHASE_AT: usize = RUN_AT + RUN_SIZE;
+
+const PLAN_AT: usize = PHASE_AT + 1;
+
+const STAMP_AT: usize = PLAN_AT + PLAN_SIZE;
+
+const COUNT_AT: usize = STAMP_AT + 1;
+
+const FIELDS: usize = COUNT_AT + 1;
+
+// The kinds of messages, as the fields have them: in one byte.
+const SELECTION: u8 = message::SELECTION as u8;
+
+const VALIDATION: u8 = message::VALIDATION as u8;
+
+const DECISION: u8 = message::DECISION as u8;
 
 // An answer that refuses.
-fn refusal(number: u32) -> u32
+fn refusal(number: u64) -> u64
     requires { ⌜ number < 256 ⌝ }
-    ensures { λ r. ⌜ r ≡ 16777216 * number ⌝ }
+    ensures { λ r. ⌜ r ≡ refusalUnit * number ⌝ }
 {
     REFUSAL * number
 }
 
-fn crew_number(why: crew::Refusal) -> u32
+fn crew_number(why: crew::Refusal) -> u64
     ensures { λ r. ⌜ (r ≡ crewNumber why) × (0 < r) × (r < 256) ⌝ }
 {
     match why {
-        crew::Refusal::Class => 1,
-        crew::Refusal::Size => 2,
-        crew::Refusal::QuorumTooHigh => 3,
-        crew::Refusal::QuorumTooLow => 4,
+        crew::Refusal::Class => CLASS,
+        crew::Refusal::Size => SIZE,
+        crew::Refusal::QuorumTooHigh => QUORUM_TOO_HIGH,
+        crew::Refusal::QuorumTooLow => QUORUM_TOO_LOW,
     }
 }
 
-fn start_number(why: StartRefusal) -> u32
+fn start_number(why: StartRefusal) -> u64
     ensures { λ r. ⌜ (r ≡ startNumber why) × (0 < r) × (r < 256) ⌝ }
 {
     match why {
         StartRefusal::Crew(reason) => crew_number(reason),
-        StartRefusal::Own => 5,
-        StartRefusal::NoPlan => 6,
+        StartRefusal::Own => OWN,
+        StartRefusal::NoPlan => NO_PLAN,
     }
 }
 
-fn send_number(why: node::SendRefusal) -> u32
+fn send_number(why: node::SendRefusal) -> u64
     ensures { λ r. ⌜ (r ≡ sendNumber why) × (0 < r) × (r < 256) ⌝ }
 {
     match why {
-        node::SendRefusal::Unsound => 7,
-        node::SendRefusal::Spent => 8,
-        node::SendRefusal::Short => 9,
+        node::SendRefusal::Unsound => UNSOUND,
+        node::SendRefusal::Spent => SPENT,
+        node::SendRefusal::Short => SHORT,
     }
 }
 
-fn read_number(why: message::Refusal) -> u32
+fn read_number(why: message::Refusal) -> u64
     ensures { λ r. ⌜ (r ≡ readNumber why) × (0 < r) × (r < 256) ⌝ }
 {
     match why {
-        message::Refusal::Cut => 10,
-        message::Refusal::Kind => 11,
-        message::Refusal::Length => 12,
-        message::Refusal::Bound => 13,
+        message::Refusal::Cut => CUT,
+        message::Refusal::Kind => KIND,
+        message::Refusal::Length => LENGTH,
+        message::Refusal::Bound => BOUND,
     }
 }
 
-fn round_number(why: rounds::Refusal) -> u32
+fn round_number(why: rounds::Refusal) -> u64
     ensures { λ r. ⌜ (r ≡ roundNumber why) × (0 < r) × (r < 256) ⌝ }
 {
     match why {
-        rounds::Refusal::Unsound => 7,
-        rounds::Refusal::Spent => 8,
-        rounds::Refusal::Inbox => 14,
+        rounds::Refusal::Unsound => UNSOUND,
+        rounds::Refusal::Spent => SPENT,
+        rounds::Refusal::Inbox => INBOX,
     }
 }
 
-fn accepting_answer(answer: Acceptance) -> u32
+fn accepting_answer(answer: Acceptance) -> u64
     ensures { λ r. ⌜ (r ≡ answerOf done (acceptedAs answer)) × Apart done (acceptedAs answer) ⌝ }
 {
     match answer {
@@ -125,13 +194,20 @@ fn accepting_answer(answer: Acceptance) -> u32
     }
 }
 
+// The crew of the five bytes that a call from C hands over.
+fn crew_of(class: u8, n: u8, b: u8, f: u8, d: u8) -> Crew
+    ensures { λ r. ⌜ r ≡ crewOf class n b f d ⌝ }
+{
+    Crew { class, n, b, f, d }
+}
+
 // Accepts a crew.
 #[no_mangle]
-pub extern "C" fn rail_accept(class: u8, n: u8, b: u8, f: u8, d: u8) -> u32
+pub extern "C" fn rail_accept(class: u8, n: u8, b: u8, f: u8, d: u8) -> u64
     ensures { λ r. ⌜ (r ≡ answerOf done (acceptOf (crewOf class n b f d)))
         × Apart done (acceptOf (crewOf class n b f d)) ⌝ }
 {
-    accepting_answer(crew::accept(Crew { class, n, b, f, d }))
+    accepting_answer(crew::accept(crew_of(class, n, b, f, d)))
 }
 
 // Starts a node and writes its record's image.
@@ -144,16 +220,16 @@ pub extern "C" fn rail_start(
     d: u8,
     own: u8,
     run: u32,
-    plan: u16,
+    plan: Plan,
     image: &mut [u8],
-) -> u32
+) -> u64
     ensures { λ r. ⌜ (r ≡ answerOf done (startInto (now (image .entry)) (crewOf class n b f d) own run plan))
         × Apart done (startInto (now (image .entry)) (crewOf class n b f d) own run plan)
         × (now (image .exit)
         ≡ recordAfter (now (image .entry)) (startInto (now (image .entry)) (crewOf class n b f d) own run plan)) ⌝ }
 {
     if image::fits(image) {
-        let started = Node::start(Crew { class, n, b, f, d }, own, run, plan);
+        let started = Node::start(crew_of(class, n, b, f, d), own, run, plan);
         let answer = started.answer;
         match answer {
             Starting::Accepted => {
@@ -169,19 +245,19 @@ pub extern "C" fn rail_start(
 }
 
 // What writing the coming message answers, as a number.
-fn sending_answer(answer: Sending) -> u32
-    requires { ⌜ valueOr 0 (sentAs answer) < 16777216 ⌝ }
+fn sending_answer(answer: Sending) -> u64
+    requires { ⌜ valueOr 0 (sentAs answer) < refusalUnit ⌝ }
     ensures { λ r. ⌜ (r ≡ answerOf itself (sentAs answer)) × Apart itself (sentAs answer) ⌝ }
 {
     match answer {
-        Sending::Bytes(size) => size as u32,
+        Sending::Bytes(size) => size as u64,
         Sending::Refused(why) => refusal(send_number(why)),
     }
 }
 
 // Writes the coming message to the front of a buffer; the value is its length, 0 for silence.
 #[no_mangle]
-pub extern "C" fn rail_write(image: &[u8], buffer: &mut [u8]) -> u32
+pub extern "C" fn rail_write(image: &[u8], buffer: &mut [u8]) -> u64
     ensures { λ r. ⌜ (r ≡ answerOf itself (writeFrom (now (image .entry)) (now (buffer .entry))))
         × Apart itself (writeFrom (now (image .entry)) (now (buffer .entry)))
         × (now (buffer .exit) ≡ bufferFrom (now (image .entry)) (now (buffer .entry))) ⌝ }
@@ -197,7 +273,7 @@ pub extern "C" fn rail_write(image: &[u8], buffer: &mut [u8]) -> u32
 
 // Takes a round: the image becomes the next record's.
 #[no_mangle]
-pub extern "C" fn rail_take(image: &mut [u8], inbox: &[u8]) -> u32
+pub extern "C" fn rail_take(image: &mut [u8], inbox: &[u8]) -> u64
     ensures { λ r. ⌜ (r ≡ answerOf done (takeFrom (now (image .entry)) (now (inbox .entry))))
         × Apart done (takeFrom (now (image .entry)) (now (inbox .entry)))
         × (now (image .exit)
@@ -220,12 +296,12 @@ pub extern "C" fn rail_take(image: &mut [u8], inbox: &[u8]) -> u32
     refusal(WRONG_IMAGE)
 }
 
-// What asking answers, as a number: a plan, 0 for 'none', 65,536 for 'any'.
-fn asking_answer(answer: Asking) -> u32
+// What asking answers, as a number: a plan, 0 for 'none', 2^32 for 'any'.
+fn asking_answer(answer: Asking) -> u64
     ensures { λ r. ⌜ (r ≡ answerOf choiceNumber (askedAs answer)) × Apart choiceNumber (askedAs answer) ⌝ }
 {
     match answer {
-        Asking::Plan(plan) => plan as u32,
+        Asking::Plan(plan) => plan as u64,
         Asking::Any => ANY,
         Asking::Nothing => 0,
         Asking::Refused(why) => refusal(round_number(why)),
@@ -234,7 +310,7 @@ fn asking_answer(answer: Asking) -> u32
 
 // Asks for the coming selection.
 #[no_mangle]
-pub extern "C" fn rail_ask(image: &[u8], inbox: &[u8]) -> u32
+pub extern "C" fn rail_ask(image: &[u8], inbox: &[u8]) -> u64
     ensures { λ r. ⌜ (r ≡ answerOf choiceNumber (askFrom (now (image .entry)) (now (inbox .entry))))
         × Apart choiceNumber (askFrom (now (image .entry)) (now (inbox .entry))) ⌝ }
 {
@@ -249,7 +325,7 @@ pub extern "C" fn rail_ask(image: &[u8], inbox: &[u8]) -> u32
 
 // The record's standing result, 0 before it has one.
 #[no_mangle]
-pub extern "C" fn rail_result(image: &[u8]) -> u32
+pub extern "C" fn rail_result(image: &[u8]) -> u64
     ensures { λ r. ⌜ (r ≡ answerOf itself (resultFrom (now (image .entry))))
         × Apart itself (resultFrom (now (image .entry))) ⌝ }
 {
@@ -257,33 +333,49 @@ pub extern "C" fn rail_result(image: &[u8]) -> u32
     if loaded.fits {
         let node = loaded.node;
         if node.is_sound() {
-            return node.result as u32;
+            return node.result as u64;
         }
-        return refusal(7);
+        return refusal(UNSOUND);
     }
     refusal(WRONG_IMAGE)
 }
 
 // Lays a message's fields out: kind, run, phase, plan, stamp, count.
-fn put_fields(fields: &mut [u8], kind: u8, run: u32, phase: u8, plan: u16, stamp: u8, count: u8)
-    requires { ⌜ length (now fields) ≡ 10 ⌝ }
+fn put_fields(fields: &mut [u8], kind: u8, run: u32, phase: u8, plan: Plan, stamp: u8, count: u8)
+    requires { ⌜ length (now fields) ≡ fieldsSize ⌝ }
     ensures { λ _. ⌜ now (fields .exit) ≡ fieldBytes kind run phase plan stamp count ⌝ }
 {
-    fields[0] = kind;
-    fields[1] = (run % 256) as u8;
-    fields[2] = (run / 256 % 256) as u8;
-    fields[3] = (run / 256 / 256 % 256) as u8;
-    fields[4] = (run / 256 / 256 / 256 % 256) as u8;
-    fields[5] = phase;
-    fields[6] = (plan % 256) as u8;
-    fields[7] = (plan / 256 % 256) as u8;
-    fields[8] = stamp;
-    fields[9] = count;
+    fields[KIND_AT] = kind;
+    wire::put_u32(fields, RUN_AT, run);
+    fields[PHASE_AT] = phase;
+    wire::put_plan(fields, PLAN_AT, plan);
+    fields[STAMP_AT] = stamp;
+    fields[COUNT_AT] = count;
+}
+
+// Lays a message's fields out, by its kind. What a kind does not have is 0.
+fn put_message(fields: &mut [u8], message: Message)
+    requires { ⌜ length (now fields) ≡ fieldsSize ⌝ }
+    ensures { λ _. ⌜ ((bytes : List ℕ)
+        → now (fields .exit) ≡ fieldsOf (message .run) (message .phase) (bodyAs (message .body) bytes)) ⌝ }
+{
+    let run = message.run;
+    let phase = message.phase;
+    let body = message.body;
+    match body {
+        Body::Selection { vote, stamp, count } => {
+            put_fields(fields, SELECTION, run, phase, vote, stamp, count)
+        }
+        Body::Validation { plan } => put_fields(fields, VALIDATION, run, phase, plan, 0, 0),
+        Body::Decision { vote, stamp } => {
+            put_fields(fields, DECISION, run, phase, vote, stamp, 0)
+        }
+    }
 }
 
 // Reads the message at the front of a slice and lays its fields out.
 #[no_mangle]
-pub extern "C" fn rail_read(bytes: &[u8], fields: &mut [u8]) -> u32
+pub extern "C" fn rail_read(bytes: &[u8], fields: &mut [u8]) -> u64
     ensures { λ r. ⌜ (r ≡ answerOf done (readInto (now (bytes .entry)) (now (fields .entry))))
         × Apart done (readInto (now (bytes .entry)) (now (fields .entry)))
         × (now (fields .exit)
@@ -292,27 +384,8 @@ pub extern "C" fn rail_read(bytes: &[u8], fields: &mut [u8]) -> u32
     if fields.len() == FIELDS {
         let reading = message::read(bytes);
         match reading {
-            Reading::Selection {
-                run,
-                phase,
-                vote,
-                stamp,
-                count,
-            } => {
-                put_fields(fields, 1, run, phase, vote, stamp, count);
-                return 0;
-            }
-            Reading::Validation { run, phase, plan } => {
-                put_fields(fields, 2, run, phase, plan, 0, 0);
-                return 0;
-            }
-            Reading::Decision {
-                run,
-                phase,
-                vote,
-                stamp,
-            } => {
-                put_fields(fields, 3, run, phase, vote, stamp, 0);
+            Reading::Message(message) => {
+                put_message(fields, message);
                 return 0;
             }
             Reading::Refused(why) => {
@@ -324,43 +397,26 @@ pub extern "C" fn rail_read(bytes: &[u8], fields: &mut [u8]) -> u32
 }
 
 // Entry i of the part that shows a message's entries.
-fn entry_in(part: &[u8], i: usize) -> u32
+fn entry_in(part: &[u8], i: usize) -> u64
     ensures { λ r. ⌜ (r ≡ answerOf entryNumber (entryIn (now (part .entry)) i))
         × Apart entryNumber (entryIn (now (part .entry)) i) ⌝ }
 {
-    if i < part.len() / 3 {
+    if i < part.len() / ENTRY_SIZE {
         let entry = message::entry_at(part, i);
-        return 65536 * (entry.phase as u32) + (entry.plan as u32);
+        return PLAN_ROOM * (entry.phase as u64) + (entry.plan as u64);
     }
     refusal(NO_ENTRY)
 }
 
-// Entry i of the message at the front of a slice: its phase times 65,536, and its plan.
+// Entry i of the message at the front of a slice: its phase times 2^32, and its plan.
 #[no_mangle]
-pub extern "C" fn rail_entry(bytes: &[u8], i: usize) -> u32
+pub extern "C" fn rail_entry(bytes: &[u8], i: usize) -> u64
     ensures { λ r. ⌜ (r ≡ answerOf entryNumber (entryFrom (now (bytes .entry)) i))
         × Apart entryNumber (entryFrom (now (bytes .entry)) i) ⌝ }
 {
     let reading = message::read(bytes);
     match reading {
-        Reading::Selection {
-            run: _,
-            phase: _,
-            vote: _,
-            stamp: _,
-            count: _,
-        } => entry_in(message::entries(bytes), i),
-        Reading::Validation {
-            run: _,
-            phase: _,
-            plan: _,
-        } => refusal(NO_ENTRY),
-        Reading::Decision {
-            run: _,
-            phase: _,
-            vote: _,
-            stamp: _,
-        } => refusal(NO_ENTRY),
+        Reading::Message(_) => entry_in(message::entries(bytes), i),
         Reading::Refused(why) => refusal(read_number(why)),
     }
 }

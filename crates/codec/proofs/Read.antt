@@ -14,6 +14,7 @@ use Rattle.wire.specs.Outcome.{accepted}
 use Rattle.wire.specs.Bytes.{numberAt, bytesOf, AreBytes}
 use Rattle.wire.proofs.Tests.{both-true}
 use Rattle.wire.proofs.Numbers.{bytes-of-number, number-small}
+use Rattle.wire.specs.Sizes.{planSize, runSize}
 use Rattle.message.specs.Fields.{Body, selection, validation, decision, Message}
 use Rattle.message.specs.Bounds.{within, PlansFit, BodyFits, Fits}
 use Rattle.message.specs.Encoding.{kindOf, sizeOf, entryBytes, bodyBytes, header, encode}
@@ -32,37 +33,44 @@ use Rattle.message.specs.Reading.{
 }
 use Rattle.message.proofs.EntryLaws.{entries-count}
 use Rattle.message.proofs.ReadLaws.{read-passes, framed-long}
+use Rattle.message.specs.Layout.{lengthPlace, kindPlace, runPlace, phasePlace, headerSize}
+use Rattle.message.specs.Layout.{planPlace, stampPlace, countPlace, entriesPlace, entrySize}
 
 module _ (s : List ℕ) (bytes : AreBytes s) where
   -- the header's bytes are those of its fields
-  header-is : 9 ≤ length s → s ≡ header (lengthAt s) (kindAt s) (numberAt 4 s 4) (getD s 8 0) ++ drop 9 s
+  header-is : headerSize ≤ length s
+      → s ≡ header (lengthAt s) (kindAt s) (numberAt runSize s runPlace) (getD s phasePlace 0) ++ drop headerSize s
   header-is long =
-      bytes-of-number 2 s 0 bytes (omega arith)
+      bytes-of-number 2 s lengthPlace bytes (omega arith)
       ∙ ap (λ rest. bytesOf 2 (lengthAt s) ++ rest)
-      (bytes-of-number 2 s 2 bytes (omega arith)
+      (bytes-of-number 2 s kindPlace bytes (omega arith)
       ∙ ap (λ rest. bytesOf 2 (kindAt s) ++ rest)
-      (bytes-of-number 4 s 4 bytes (omega arith)
-      ∙ ap (λ rest. bytesOf 4 (numberAt 4 s 4) ++ rest) (drop-cons s 8 0 (omega arith))))
+      (bytes-of-number runSize s runPlace bytes (omega arith)
+      ∙ ap (λ rest. bytesOf runSize (numberAt runSize s runPlace) ++ rest) (drop-cons s phasePlace 0 (omega arith))))
 
 -- the bytes of k entries are those of the entries read there
-entries-are : (k : ℕ) (s : List ℕ) → AreBytes s → 3 * k ≤ length s → s ≡ entryBytes (entriesIn k s) ++ drop (3 * k) s
+entries-are : (k : ℕ) (s : List ℕ) → AreBytes s → entrySize * k ≤ length s
+    → s ≡ entryBytes (entriesIn k s) ++ drop (entrySize * k) s
 unfolding entriesIn entryBytes
 entries-are zero s bytes long = refl
 entries-are (suc k) s bytes long =
-    let rest = drop 3 s in
-    let rest-bytes : AreBytes rest = λ place. rw (getD-drop 3 s place 0) (bytes (3 + place)) in
-    let rest-long : 3 * k ≤ length rest = rw (length-drop 3 s) (omega arith) in
-    let step : 3 * suc k ≡ 3 + 3 * k = omega arith in
+    let rest = drop entrySize s in
+    let rest-bytes : AreBytes rest = λ place. rw (getD-drop entrySize s place 0) (bytes (entrySize + place)) in
+    let rest-long : entrySize * k ≤ length rest = rw (length-drop entrySize s) (omega arith) in
+    let step : entrySize * suc k ≡ entrySize + entrySize * k = omega arith in
     drop-cons s 0 0 (omega arith)
-    ∙ ap (λ others. getD s 0 0 ∷ others) (bytes-of-number 2 s 1 bytes (omega arith))
-    ∙ ap (λ others. getD s 0 0 ∷ (bytesOf 2 (numberAt 2 s 1) ++ others)) (entries-are k rest rest-bytes rest-long)
+    ∙ ap (λ others. getD s 0 0 ∷ others) (bytes-of-number planSize s 1 bytes (omega arith))
+    ∙ ap (λ others. getD s 0 0 ∷ (bytesOf planSize (numberAt planSize s 1) ++ others))
+    (entries-are k rest rest-bytes rest-long)
     ∙ rw (drop-drop, step)
 
 plans-fit : (k : ℕ) (s : List ℕ) → AreBytes s → PlansFit (entriesIn k s)
 unfolding entriesIn
 plans-fit zero s bytes = tt
 plans-fit (suc k) s bytes =
-    (number-small 2 s 1 bytes, plans-fit k (drop 3 s) (λ place. rw (getD-drop 3 s place 0) (bytes (3 + place))))
+    let rest-bytes : AreBytes (drop entrySize s) =
+    λ place. rw (getD-drop entrySize s place 0) (bytes (entrySize + place)) in
+    (number-small planSize s 1 bytes, plans-fit k (drop entrySize s) rest-bytes)
 
 -- a kind from 1 to 3 is one of three
 kind-cases : (kind : ℕ) → leb 1 kind && leb kind 3 ≡ true → (kind ≡ 1) ⊎ ((kind ≡ 2) ⊎ (kind ≡ 3))
@@ -76,39 +84,41 @@ kind-cases kind e =
     go (suc (suc zero)) low high = inr (inl refl)
     go (suc (suc (suc kind))) low high = inr (inr (omega arith))
 
-module _ (s : List ℕ) (bytes : AreBytes s) (long : 9 ≤ length s) (within-slice : lengthAt s ≤ length s) where
+module _ (s : List ℕ) (bytes : AreBytes s) (long : headerSize ≤ length s) (within-slice : lengthAt s ≤ length s) where
   -- A body stands after the header: its kind is the header's, its length the message's.
   record Stands (body : Body) : Type 0 where
     kind : kindAt s ≡ kindOf body
     size : lengthAt s ≡ sizeOf body
-    body-is : drop 9 s ≡ bodyBytes body ++ drop (sizeOf body) s
+    body-is : drop headerSize s ≡ bodyBytes body ++ drop (sizeOf body) s
     fits : BodyFits body
 
   selection-stands : kindAt s ≡ 1 → lengthAt s ≡ sizeOf (selectionAt s) → Stands (selectionAt s)
   selection-stands kind size =
-      let k = getD s 12 0 in
-      let count = entries-count k (drop 13 s) in
-      let rest-bytes : AreBytes (drop 13 s) = λ place. rw (getD-drop 13 s place 0) (bytes (13 + place)) in
-      let rest-long : 3 * k ≤ length (drop 13 s) = rw (length-drop 13 s) (omega arith) in
+      let k = getD s countPlace 0 in
+      let count = entries-count k (drop entriesPlace s) in
+      let rest-bytes : AreBytes (drop entriesPlace s) =
+      λ place. rw (getD-drop entriesPlace s place 0) (bytes (entriesPlace + place)) in
+      let rest-long : entrySize * k ≤ length (drop entriesPlace s) = rw (length-drop entriesPlace s) (omega arith) in
       record {
         kind = kind;
         size = size;
         body-is =
-            bytes-of-number 2 s 9 bytes (omega arith)
-            ∙ ap (λ rest. bytesOf 2 (numberAt 2 s 9) ++ rest)
-            (drop-cons s 11 0 (omega arith)
-            ∙ ap (λ rest. getD s 11 0 ∷ rest)
-            (drop-cons s 12 0 (omega arith)
-            ∙ rw count (ap (λ rest. k ∷ rest) (entries-are k (drop 13 s) rest-bytes rest-long ∙ rw drop-drop))));
-        fits = (number-small 2 s 9 bytes, plans-fit k (drop 13 s) rest-bytes);
+            bytes-of-number planSize s planPlace bytes (omega arith)
+            ∙ ap (λ rest. bytesOf planSize (numberAt planSize s planPlace) ++ rest)
+            (drop-cons s stampPlace 0 (omega arith)
+            ∙ ap (λ rest. getD s stampPlace 0 ∷ rest)
+            (drop-cons s countPlace 0 (omega arith)
+            ∙ rw count (ap (λ rest. k ∷ rest)
+            (entries-are k (drop entriesPlace s) rest-bytes rest-long ∙ rw drop-drop))));
+        fits = (number-small planSize s planPlace bytes, plans-fit k (drop entriesPlace s) rest-bytes);
       }
 
   validation-stands : kindAt s ≡ 2 → lengthAt s ≡ sizeOf (validationAt s) → Stands (validationAt s)
   validation-stands kind size = record {
     kind = kind;
     size = size;
-    body-is = bytes-of-number 2 s 9 bytes (omega arith);
-    fits = number-small 2 s 9 bytes;
+    body-is = bytes-of-number planSize s planPlace bytes (omega arith);
+    fits = number-small planSize s planPlace bytes;
   }
 
   decision-stands : kindAt s ≡ 3 → lengthAt s ≡ sizeOf (decisionAt s) → Stands (decisionAt s)
@@ -116,9 +126,10 @@ module _ (s : List ℕ) (bytes : AreBytes s) (long : 9 ≤ length s) (within-sli
     kind = kind;
     size = size;
     body-is =
-        bytes-of-number 2 s 9 bytes (omega arith)
-        ∙ ap (λ rest. bytesOf 2 (numberAt 2 s 9) ++ rest) (drop-cons s 11 0 (omega arith));
-    fits = number-small 2 s 9 bytes;
+        bytes-of-number planSize s planPlace bytes (omega arith)
+        ∙ ap (λ rest. bytesOf planSize (numberAt planSize s planPlace) ++ rest)
+        (drop-cons s stampPlace 0 (omega arith));
+    fits = number-small planSize s planPlace bytes;
   }
 
   body-stands : kindKnown s ≡ true → lengthAt s ≡ sizeOf (bodyAt s) → Stands (bodyAt s)
@@ -138,7 +149,8 @@ module _ (s : List ℕ) (bytes : AreBytes s) (long : 9 ≤ length s) (within-sli
   slice-is body stands =
       header-is s bytes long
       ∙ rw (stands .kind, stands .size)
-      (ap (λ rest. header (sizeOf body) (kindOf body) (numberAt 4 s 4) (getD s 8 0) ++ rest) (stands .body-is))
+      (ap (λ rest. header (sizeOf body) (kindOf body) (numberAt runSize s runPlace) (getD s phasePlace 0) ++ rest)
+      (stands .body-is))
 
 -- For every slice that is read to a message: the slice begins with that message's encoding, and the message keeps the
 -- bounds. That the slice holds bytes is the only premise.
@@ -152,5 +164,5 @@ encode-of-read s m bytes e =
     subst (λ (k : Message). (s ≡ encode k ++ drop (sizeOf (k .body)) s) × (within k ≡ true) × Fits k) (p .fields) (
       slice-is s bytes (long .0) (long .1) (bodyAt s) stands,
       ap within (p .fields) ∙ p .in-bounds,
-      (number-small 4 s 4 bytes, stands .fits),
+      (number-small runSize s runPlace bytes, stands .fits),
     )

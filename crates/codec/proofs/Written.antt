@@ -3,7 +3,7 @@
 use mathlib.Core.Path.{_≡_, refl, ap}
 use mathlib.Core.Bool.{true, _&&_}
 use mathlib.Core.List.{List, [], _∷_, _++_}
-use Prim.Native.Nat.{ℕ, _+_, _^_, _≤_, _<_}
+use Prim.Native.Nat.{ℕ, _+_, _≤_, _<_}
 use native.Mathlib.Omega.{arith}
 use lib.Dec.{leb, ltb}
 use lib.ListN.{length, length-append}
@@ -12,35 +12,37 @@ use Rattle.wire.specs.Outcome.{accepted}
 use Rattle.wire.specs.Entry.{Entry}
 use Rattle.wire.proofs.Tests.{both-true}
 use Rattle.wire.proofs.Numbers.{number-of-bytes}
+use Rattle.wire.specs.Sizes.{planSize, runSize, runLimit, lastPhase}
 use Rattle.message.specs.Fields.{Body, selection, validation, decision, Message}
 use Rattle.message.specs.Bounds.{phaseOk, planOk, bodyOk, entriesOk, within, PlansFit, BodyFits, Fits}
 use Rattle.message.specs.Encoding.{sizeOf, entryBytes, encode}
 use Rattle.message.specs.Reading.{lengthAt, entriesIn, bodyAt, framed, readOf}
 use Rattle.message.proofs.ReadLaws.{Passes, passes-read}
 use Rattle.message.proofs.EncodeLaws.{encode-length}
+use Rattle.message.specs.Layout.{headerSize}
 
 -- entries that are written are read to themselves
 entries-written : (es : List Entry) (tail : List ℕ) → PlansFit es → entriesIn (length es) (entryBytes es ++ tail) ≡ es
 unfolding entriesIn entryBytes
 entries-written [] tail fits = refl
 entries-written (e ∷ es) tail fits =
-    let plan = number-of-bytes 2 (e .plan) [] (fits .0) in
+    let plan = number-of-bytes planSize (e .plan) [] (fits .0) in
     let others = entries-written es tail (fits .1) in
     λ i. record { phase = e .phase; plan = plan i } ∷ others i
 
-framed-intro : (s : List ℕ) (size : ℕ) → lengthAt s ≡ size → 9 ≤ size → size ≤ length s → framed s ≡ true
+framed-intro : (s : List ℕ) (size : ℕ) → lengthAt s ≡ size → headerSize ≤ size → size ≤ length s → framed s ≡ true
 framed-intro s size e low high =
-    let long : 9 ≤ length s = omega arith in
+    let long : headerSize ≤ length s = omega arith in
     simp (e, le-leb _ _ long, le-leb _ _ low, le-leb _ _ high)
 
 few-entries : (phase vote stamp : ℕ) (entries : List Entry) → bodyOk phase (selection vote stamp entries) ≡ true
-    → length entries ≤ 63
+    → length entries ≤ lastPhase
 few-entries phase vote stamp entries ok =
     let scalars = planOk vote && ltb stamp phase in
-    let few = both-true (scalars && leb (length entries) 63) (entriesOk 0 phase entries) ok .0 in
-    leb-true _ _ (both-true scalars (leb (length entries) 63) few .1)
+    let few = both-true (scalars && leb (length entries) lastPhase) (entriesOk 0 phase entries) ok .0 in
+    leb-true _ _ (both-true scalars (leb (length entries) lastPhase) few .1)
 
-module _ (run phase : ℕ) (tail : List ℕ) (run-fits : run < 256 ^ 4) where
+module _ (run phase : ℕ) (tail : List ℕ) (run-fits : run < runLimit) where
   abbrev message : Body → Message
   message body = record { run = run; phase = phase; body = body }
 
@@ -56,8 +58,8 @@ module _ (run phase : ℕ) (tail : List ℕ) (run-fits : run < 256 ^ 4) where
       let body = selection vote stamp entries in
       let few = few-entries phase vote stamp entries (both-true (phaseOk phase) (bodyOk phase body) ok .1) in
       let size = number-of-bytes 2 (sizeOf body) [] (omega arith) in
-      let run-is = number-of-bytes 4 run [] run-fits in
-      let vote-is = number-of-bytes 2 vote [] (fits .0) in
+      let run-is = number-of-bytes runSize run [] run-fits in
+      let vote-is = number-of-bytes planSize vote [] (fits .0) in
       let entries-are = entries-written entries tail (fits .1) in
       record {
         is-framed = framed-intro (bytes body) (sizeOf body) size (omega arith) (long body);
@@ -68,8 +70,8 @@ module _ (run phase : ℕ) (tail : List ℕ) (run-fits : run < 256 ^ 4) where
       }
   passes (validation plan) fits ok =
       let body = validation plan in
-      let run-is = number-of-bytes 4 run [] run-fits in
-      let plan-is = number-of-bytes 2 plan [] fits in
+      let run-is = number-of-bytes runSize run [] run-fits in
+      let plan-is = number-of-bytes planSize plan [] fits in
       record {
         is-framed = framed-intro (bytes body) (sizeOf body) refl (omega arith) (long body);
         of-a-kind = refl;
@@ -79,8 +81,8 @@ module _ (run phase : ℕ) (tail : List ℕ) (run-fits : run < 256 ^ 4) where
       }
   passes (decision vote stamp) fits ok =
       let body = decision vote stamp in
-      let run-is = number-of-bytes 4 run [] run-fits in
-      let vote-is = number-of-bytes 2 vote [] fits in
+      let run-is = number-of-bytes runSize run [] run-fits in
+      let vote-is = number-of-bytes planSize vote [] fits in
       record {
         is-framed = framed-intro (bytes body) (sizeOf body) refl (omega arith) (long body);
         of-a-kind = refl;

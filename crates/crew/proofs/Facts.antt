@@ -5,11 +5,12 @@ use mathlib.Core.Bool.{Bool, true, false, cond}
 use Prim.Native.Nat.{_+_, _-_, _*_, _≤_, _<_}
 use native.Mathlib.Omega.{arith}
 use lib.Dec.{leb, ltb, eqb}
-use borrow.Author.Tests.{leb-true, ltb-true}
+use borrow.Author.Tests.{leb-true, ltb-true, le-leb, lt-ltb}
 use Rattle.wire.specs.Outcome.{accepted}
 use Rattle.wire.proofs.Tests.{both-true}
 use Rattle.wire.proofs.Outcomes.{passed}
 use Rattle.crew.specs.declared.Crew.{Crew}
+use Rattle.crew.specs.Parts.{mostNodes}
 use Rattle.crew.specs.Acceptance.{acceptOf, classKnown, sizeKnown, reachable, highEnough}
 use Rattle.crew.specs.Thresholds.{Class, one, two, three, classOf, E, anyAbove, validAbove}
 
@@ -24,7 +25,7 @@ pub record Accepts (crew : Crew) : Type 0 where
   pub class-from : 1 ≤ crew .class
   pub class-to : crew .class ≤ 3
   pub size-from : 1 ≤ crew .n
-  pub size-to : crew .n ≤ 32
+  pub size-to : crew .n ≤ mostNodes
   pub reach : crew .d + crew .b + crew .f ≤ crew .n
   pub high : High (classOf crew) crew
 
@@ -47,7 +48,7 @@ accepts crew e =
     let sum = passed (reachable crew) 3 _ (size .1) in
     let quorum = passed (highEnough crew) 4 _ (sum .1) in
     let classes = both-true (leb 1 (crew .class)) (leb (crew .class) 3) (class .0) in
-    let sizes = both-true (leb 1 (crew .n)) (leb (crew .n) 32) (size .0) in
+    let sizes = both-true (leb 1 (crew .n)) (leb (crew .n) mostNodes) (size .0) in
     record {
       class-from = leb-true _ _ (classes .0);
       class-to = leb-true _ _ (classes .1);
@@ -56,6 +57,29 @@ accepts crew e =
       reach = leb-true _ _ (sum .0);
       high = high-is crew (quorum .0);
     }
+
+-- what a class asks of D, as the test of acceptance
+high-from : (crew : Crew) → High (classOf crew) crew → highEnough crew ≡ true
+high-from crew h = go (eqb (crew .class) 1) (eqb (crew .class) 2) h
+  where
+    go : (first second : Bool) → High (cond first one (cond second two three)) crew
+        → cond first (ltb (crew .n + 3 * crew .b + crew .f) (2 * crew .d))
+        (cond second (ltb (3 * crew .b + crew .f) (crew .d)) (ltb (2 * crew .b + crew .f) (crew .d))) ≡ true
+    go true second h = lt-ltb _ _ h
+    go false true h = lt-ltb _ _ h
+    go false false h = lt-ltb _ _ h
+
+-- and the other way: a crew of which the four conditions hold is accepted
+pub accepted-from : (crew : Crew) → Accepts crew → acceptOf crew ≡ accepted tt
+unfolding acceptOf
+accepted-from crew a = simp (
+  le-leb _ _ (a .class-from),
+  le-leb _ _ (a .class-to),
+  le-leb _ _ (a .size-from),
+  le-leb _ _ (a .size-to),
+  le-leb _ _ (a .reach),
+  high-from crew (a .high),
+)
 
 -- In any class D passes 2b + f: class 1 has 2D > n + 3b + f ≥ D + 4b + 2f.
 pub quorum-high : {crew : Crew} → Accepts crew → 2 * crew .b + crew .f < crew .d

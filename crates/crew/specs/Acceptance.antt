@@ -3,6 +3,7 @@ use Prim.Native.Nat.{ℕ, _+_, _*_}
 use mathlib.Core.Bool.{Bool, cond, _&&_}
 use lib.Dec.{leb, ltb, eqb}
 use Rattle.wire.specs.Outcome.{Outcome, accepted, refused, require}
+use Rattle.crew.specs.Parts.{mostNodes}
 use Rattle.crew.specs.declared.Crew.{Crew}
 use Rattle.crew.specs.declared.Refusal.{Refusal}
 use Rattle.crew.specs.declared.Refusal.the-variants.{Class, Size, QuorumTooHigh, QuorumTooLow}
@@ -15,7 +16,7 @@ classKnown crew = leb 1 (crew .class) && leb (crew .class) 3
 
 -- 01: "n is 1 to 32"
 abbrev pub sizeKnown : Crew → Bool
-sizeKnown crew = leb 1 (crew .n) && leb (crew .n) 32
+sizeKnown crew = leb 1 (crew .n) && leb (crew .n) mostNodes
 
 -- 01: "D + b + f ≤ n"
 abbrev pub reachable : Crew → Bool

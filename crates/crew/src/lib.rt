@@ -1,7 +1,12 @@
 // A crew: how many nodes agree, how many of them may lie or be out of reach, and how many votes decide.
 // Accepting one is the ground of every other promise; specs/Acceptance.antt says when, proofs/Facts.antt what follows.
 ghost use mathlib.Core.Path.{_≡_};
+ghost use Rattle.wire.specs.Outcome.{isAccepted};
+ghost use Rattle.crew.specs.Parts.{blankCrew};
 ghost use Rattle.crew.specs.Acceptance.{acceptOf, answered, classKnown, sizeKnown, reachable, highEnough};
+
+// No aisle has more controllers: columns and tables have a place for each of so many.
+pub const MOST_NODES: usize = 32;
 
 // 01's crew: the controllers of one aisle that agree on a plan.
 pub struct Crew {
@@ -38,22 +43,37 @@ fn wide(x: u8) -> u32
 }
 
 impl Crew {
-    // The classes are 1 to this one.
-    pub const CLASSES: u8 = 3;
-    // No aisle has more controllers: an inbox has room for as many slots.
-    pub const MOST_NODES: u8 = 32;
+    // The algorithm's three classes. Class 1 has no validation: its stamps stay 0.
+    pub const CLASS_ONE: u8 = 1;
+
+    pub const CLASS_TWO: u8 = 2;
+    // Only class 3 selects by what nodes list of their histories.
+    pub const CLASS_THREE: u8 = 3;
+}
+
+// The crew of a record that belongs to none: all 0, and never accepted.
+pub fn blank_crew() -> Crew
+    ensures { λ r. ⌜ r ≡ blankCrew ⌝ }
+{
+    Crew {
+        class: 0,
+        n: 0,
+        b: 0,
+        f: 0,
+        d: 0,
+    }
 }
 
 fn is_class(crew: Crew) -> bool
     ensures { λ r. ⌜ r ≡ classKnown crew ⌝ }
 {
-    (1 <= crew.class) & (crew.class <= Crew::CLASSES)
+    (Crew::CLASS_ONE <= crew.class) & (crew.class <= Crew::CLASS_THREE)
 }
 
 fn is_size(crew: Crew) -> bool
     ensures { λ r. ⌜ r ≡ sizeKnown crew ⌝ }
 {
-    (1 <= crew.n) & (crew.n <= Crew::MOST_NODES)
+    (1 <= crew.n) & (crew.n as usize <= MOST_NODES)
 }
 
 // D votes can be had with b + f nodes missing.
@@ -70,10 +90,10 @@ fn is_high_enough(crew: Crew) -> bool
     let d = wide(crew.d);
     let b = wide(crew.b);
     let f = wide(crew.f);
-    if crew.class == 1 {
+    if crew.class == Crew::CLASS_ONE {
         return wide(crew.n) + 3 * b + f < 2 * d;
     }
-    if crew.class == 2 {
+    if crew.class == Crew::CLASS_TWO {
         return 3 * b + f < d;
     }
     2 * b + f < d
@@ -96,4 +116,14 @@ pub fn accept(crew: Crew) -> Acceptance
         return Acceptance::Refused(Refusal::Size);
     }
     Acceptance::Refused(Refusal::Class)
+}
+
+// Whether a crew is accepted, where it does not matter why not.
+pub fn is_accepted(crew: Crew) -> bool
+    ensures { λ r. ⌜ r ≡ isAccepted (acceptOf crew) ⌝ }
+{
+    match accept(crew) {
+        Acceptance::Accepted => true,
+        Acceptance::Refused(_) => false,
+    }
 }

@@ -1,5 +1,5 @@
--- How long the output of a script can be. Every go does one of at most 189 rounds, three for each of 63 phases, and
--- prints one line; beside these lines there is one more at most.
+-- How long the output of a script can be. Every go does one of at most three rounds of a phase, and prints one line;
+-- beside these lines there is one more at most.
 use mathlib.Core.Path.{_≡_, refl, ap}
 use mathlib.Core.Bool.{Bool, true, false, cond}
 use mathlib.Core.List.{List, [], _∷_, _++_}
@@ -9,36 +9,39 @@ use lib.ListN.{length, drop, length-append}
 use lib.Seq.{sets}
 use lib.Dec.{ltb, leb, eqb}
 use borrow.Author.Tests.{ltb-true, leb-true, leb-false}
+use Rattle.wire.specs.Outcome.{isAccepted}
+use Rattle.wire.specs.Sizes.{spentPhase}
 use Rattle.wire.proofs.Stores.{sets-front}
 use Rattle.crew.specs.declared.Crew.{Crew}
-use Rattle.node.specs.Soundness.{crewAccepted}
-use Rattle.script.specs.Lines.{split}
+use Rattle.crew.specs.Parts.{mostNodes}
+use Rattle.crew.specs.Acceptance.{acceptOf}
+use Rattle.script.specs.Lines.{newline, split}
 use Rattle.script.specs.Fields.{numbersOn}
-use Rattle.script.specs.Commands.{commandOf, crewOf, plansOf}
+use Rattle.script.specs.Commands.{commandOf, crewLineOf, plansOf}
 use Rattle.script.specs.declared.Command.{Command}
 use Rattle.script.specs.declared.Command.the-variants.{Cut, Say, Go, BadLine}
 use Rattle.script.specs.declared.CrewLine.{CrewLine}
 use Rattle.script.specs.declared.CrewLine.the-variants.{Crew as CrewRead, NoCrew}
-use Rattle.print.specs.Texts.{badLine, endLine, longLine}
+use Rattle.print.specs.Texts.{resultMost, badLine, badMost, endLine, longLine}
 use Rattle.print.proofs.Lengths.{result-most, bad-most}
 use Rattle.aisle.specs.declared.State.{State}
 use Rattle.aisle.specs.Round.{table, resultAt, roundAfter, phaseAfter, goOf}
 use Rattle.aisle.specs.Start.{begunOf}
 use Rattle.drill.specs.Steps.{allowed, after, text}
-use Rattle.drill.specs.Run.{isLast, follow, second, crewed, first, drillOf}
+use Rattle.drill.specs.Run.{mostBytes, mostPrinted, isLast, follow, second, crewed, first, drillOf}
 
 -- how many rounds are left before a drill is spent, at most
 abbrev roundsLeft : ℕ → ℕ → ℕ
-roundsLeft phase round = 3 * (64 - phase) + 1 - round
+roundsLeft phase round = 3 * (spentPhase - phase) + 1 - round
 
 -- a drill's own phase and round
 record Placed (phase round : ℕ) : Type 0 where
-  last : phase ≤ 64
+  last : phase ≤ spentPhase
   from : 1 ≤ round
   to : round ≤ 3
 
 -- a round that is done is one less that is left
-round-done : (class phase round : ℕ) → Placed phase round → phase < 64
+round-done : (class phase round : ℕ) → Placed phase round → phase < spentPhase
     → Placed (phaseAfter phase round) (roundAfter class round)
     × (roundsLeft (phaseAfter phase round) (roundAfter class round) + 1 ≤ roundsLeft phase round)
 round-done class phase round p h = go (leb 3 round) (eqb class 1) refl
@@ -61,7 +64,7 @@ round-done class phase round p h = go (leb 3 round) (eqb class 1) refl
 
 -- what may still be printed: a line for each round that is left, and one more
 abbrev most : State → ℕ
-most st = 204 * roundsLeft (st .phase) (st .round) + 10
+most st = resultMost * roundsLeft (st .phase) (st .round) + badMost
 
 -- a good line prints no more than it takes from that
 record Steps (st : State) (command : Command) : Type 0 where
@@ -73,8 +76,8 @@ unfolding goOf
 step st (Cut sender receiver) p h = record { placed = p; fits = omega arith }
 step st (Say sender receiver plan stamp) p h = record { placed = p; fits = omega arith }
 step st Go p h =
-    let done = round-done (st .crew .class) (st .phase) (st .round) p (ltb-true (st .phase) 64 h) in
-    let line = result-most (st .phase) (st .round) (st .crew .n) (table (resultAt (goOf st)) 32) (st .honest) in
+    let done = round-done (st .crew .class) (st .phase) (st .round) p (ltb-true (st .phase) spentPhase h) in
+    let line = result-most (st .phase) (st .round) (st .crew .n) (table (resultAt (goOf st)) mostNodes) (st .honest) in
     record { placed = done .0; fits = omega (arith, done .1, line) }
 step st BadLine p h = record { placed = p; fits = omega arith }
 
@@ -99,56 +102,59 @@ follow-most st l (w ∷ ws) p =
     line-most st (commandOf w) l p (isLast ws) (eqb (length w) 0) (allowed st (commandOf w)) refl
     (follow next (l + 1) ws) (follow-most next (l + 1) ws)
 
--- a drill begins with 189 rounds left
+-- a drill begins with all its rounds left
 begun-most : (crew : Crew) (plans : List ℕ) (l : ℕ) (ws : List (List ℕ))
-    → length (follow (begunOf crew plans) l ws) ≤ 38566
+    → length (follow (begunOf crew plans) l ws) ≤ mostPrinted
 unfolding begunOf
 begun-most crew plans l ws =
     follow-most (begunOf crew plans) l ws (record { last = omega arith; from = omega arith; to = omega arith })
 
-second-go : (last good : Bool) (begun : List ℕ) → length begun ≤ 38566
-    → length (cond last (badLine 2) (cond good begun (badLine 2))) ≤ 38566
+second-go : (last good : Bool) (begun : List ℕ) → length begun ≤ mostPrinted
+    → length (cond last (badLine 2) (cond good begun (badLine 2))) ≤ mostPrinted
 second-go true good begun h = omega (arith, bad-most 2)
 second-go false true begun h = h
 second-go false false begun h = omega (arith, bad-most 2)
 
-second-most : (crew : Crew) (ws : List (List ℕ)) → length (second crew ws) ≤ 38566
+second-most : (crew : Crew) (ws : List (List ℕ)) → length (second crew ws) ≤ mostPrinted
 unfolding second
 second-most crew [] = omega arith
 second-most crew (w ∷ ws) =
     let line = plansOf (numbersOn w) (crew .n) in
     second-go (isLast ws) (line .good) (follow (begunOf crew (line .plans)) 3 ws) (begun-most crew (line .plans) 3 ws)
 
-accepted-go : (good : Bool) (rest : List ℕ) → length rest ≤ 38566 → length (cond good rest (badLine 1)) ≤ 38566
+accepted-go : (good : Bool) (rest : List ℕ) → length rest ≤ mostPrinted
+    → length (cond good rest (badLine 1)) ≤ mostPrinted
 accepted-go true rest h = h
 accepted-go false rest h = omega (arith, bad-most 1)
 
-crewed-most : (line : CrewLine) (ws : List (List ℕ)) → length (crewed line ws) ≤ 38566
-crewed-most (CrewRead class n b f d) ws =
-    let crew : Crew = record { class = class; n = n; b = b; f = f; d = d } in
-    accepted-go (crewAccepted crew) (second crew ws) (second-most crew ws)
+crewed-most : (line : CrewLine) (ws : List (List ℕ)) → length (crewed line ws) ≤ mostPrinted
+crewed-most (CrewRead crew) ws = accepted-go (isAccepted (acceptOf crew)) (second crew ws) (second-most crew ws)
 crewed-most NoCrew ws = omega (arith, bad-most 1)
 
-first-go : (last : Bool) (rest : List ℕ) → length rest ≤ 38566 → length (cond last (badLine 1) rest) ≤ 38566
+first-go : (last : Bool) (rest : List ℕ) → length rest ≤ mostPrinted → length (cond last (badLine 1) rest) ≤ mostPrinted
 first-go true rest h = omega (arith, bad-most 1)
 first-go false rest h = h
 
-first-most : (ws : List (List ℕ)) → length (first ws) ≤ 38566
+first-most : (ws : List (List ℕ)) → length (first ws) ≤ mostPrinted
 unfolding first
 first-most [] = omega arith
-first-most (w ∷ ws) = first-go (isLast ws) (crewed (crewOf (numbersOn w)) ws) (crewed-most (crewOf (numbersOn w)) ws)
+first-most (w ∷ ws) =
+    let line = crewLineOf (numbersOn w) in
+    first-go (isLast ws) (crewed line ws) (crewed-most line ws)
 
-whole-go : (long : Bool) (rest : List ℕ) → length rest ≤ 38566 → length (cond long longLine rest) ≤ 38566
+whole-go : (long : Bool) (rest : List ℕ) → length rest ≤ mostPrinted → length (cond long longLine rest) ≤ mostPrinted
 whole-go true rest h = omega arith
 whole-go false rest h = h
 
 -- No output is longer than this, whatever is read: a buffer of so many bytes holds every output whole.
-pub output-most : (input : List ℕ) → length (drillOf input) ≤ 38566
+pub output-most : (input : List ℕ) → length (drillOf input) ≤ mostPrinted
 unfolding drillOf
-output-most input = whole-go (ltb 65536 (length input)) (first (split 10 input)) (first-most (split 10 input))
+output-most input =
+    let lines = split newline input in
+    whole-go (ltb mostBytes (length input)) (first lines) (first-most lines)
 
 -- So in such a buffer the whole output stands at the front, and what was behind it is as it was: nothing is left out.
-pub output-whole : (input out : List ℕ) → 38566 ≤ length out
+pub output-whole : (input out : List ℕ) → mostPrinted ≤ length out
     → sets out 0 (drillOf input) ≡ drillOf input ++ drop (length (drillOf input)) out
 output-whole input out h =
     let fits : length (drillOf input) ≤ length out = omega (arith, output-most input) in

@@ -20,7 +20,7 @@ use Rattle.node.specs.Sending.{comingOf, writeOf as sendOf}
 use Rattle.inbox.specs.Inbox.{ballotAt}
 use Rattle.rounds.specs.Taking.{afterRound, takeOf}
 use Rattle.script.specs.Commands.{commandOf}
-use Rattle.script.specs.Lines.{until, onto, split}
+use Rattle.script.specs.Lines.{space, newline, until, onto, split}
 use Rattle.script.specs.Fields.{valueFrom, numberOf, numbersFrom, starts}
 use Rattle.print.specs.Texts.{decimalOf, fieldOf, fieldsFrom, resultLine, badLine}
 use Rattle.pending.specs.Pairs.{nothing, withCut, withSay, isCut, saidOf}
@@ -31,12 +31,12 @@ use Rattle.aisle.specs.Round.{table, sayBuffer, delivered, slotsOf, nodeAfter, 
 -- `3 4 1 0 3` and `5 5 5 0`
 abbrev beginning : List ℕ
 beginning =
-    51 ∷ 32 ∷ 52 ∷ 32 ∷ 49 ∷ 32 ∷ 48 ∷ 32 ∷ 51 ∷ 10 ∷
-    53 ∷ 32 ∷ 53 ∷ 32 ∷ 53 ∷ 32 ∷ 48 ∷ 10 ∷ []
+    51 ∷ space ∷ 52 ∷ space ∷ 49 ∷ space ∷ 48 ∷ space ∷ 51 ∷ newline ∷
+    53 ∷ space ∷ 53 ∷ space ∷ 53 ∷ space ∷ 48 ∷ newline ∷ []
 
 -- `go`
 abbrev goLine : List ℕ
-goLine = 103 ∷ 111 ∷ 10 ∷ []
+goLine = 103 ∷ 111 ∷ newline ∷ []
 
 -- 01: "Input `3 4 1 0 3`, `5 5 5 0`, three `go`."
 abbrev script : List ℕ
@@ -45,10 +45,10 @@ script = beginning ++ goLine ++ goLine ++ goLine
 -- 01: "Whole output": `1 1 0 0 0 -`, `1 2 0 0 0 -`, `1 3 5 5 5 -` and `end`
 abbrev output : List ℕ
 output =
-    49 ∷ 32 ∷ 49 ∷ 32 ∷ 48 ∷ 32 ∷ 48 ∷ 32 ∷ 48 ∷ 32 ∷ 45 ∷ 10 ∷
-    49 ∷ 32 ∷ 50 ∷ 32 ∷ 48 ∷ 32 ∷ 48 ∷ 32 ∷ 48 ∷ 32 ∷ 45 ∷ 10 ∷
-    49 ∷ 32 ∷ 51 ∷ 32 ∷ 53 ∷ 32 ∷ 53 ∷ 32 ∷ 53 ∷ 32 ∷ 45 ∷ 10 ∷
-    101 ∷ 110 ∷ 100 ∷ 10 ∷ []
+    49 ∷ space ∷ 49 ∷ space ∷ 48 ∷ space ∷ 48 ∷ space ∷ 48 ∷ space ∷ 45 ∷ newline ∷
+    49 ∷ space ∷ 50 ∷ space ∷ 48 ∷ space ∷ 48 ∷ space ∷ 48 ∷ space ∷ 45 ∷ newline ∷
+    49 ∷ space ∷ 51 ∷ space ∷ 53 ∷ space ∷ 53 ∷ space ∷ 53 ∷ space ∷ 45 ∷ newline ∷
+    101 ∷ 110 ∷ 100 ∷ newline ∷ []
 
 pub example : drillOf script ≡ output
 unfolding
@@ -59,18 +59,22 @@ unfolding
     withSay isCut saidOf follow second first drillOf begunOf table sayBuffer delivered slotsOf nodeAfter goOf
 example = refl
 
+-- `say 0 1 6 0`
+abbrev sayLine : List ℕ
+sayLine = 115 ∷ 97 ∷ 121 ∷ space ∷ 48 ∷ space ∷ 49 ∷ space ∷ 54 ∷ space ∷ 48 ∷ newline ∷ []
+
 -- `bad L`, for a line below 10
 abbrev badAt : ℕ → List ℕ
-badAt l = 98 ∷ 97 ∷ 100 ∷ 32 ∷ (48 + l) ∷ 10 ∷ []
+badAt l = 98 ∷ 97 ∷ 100 ∷ space ∷ (48 + l) ∷ newline ∷ []
 
 -- 01: "A bad line L (also a missing, empty or unended one ..)": no input, line 2 missing, an empty line 3, a `go`
 -- that is not ended, and `say 0 1 6 0` from an honest node
 pub bad-lines :
     (drillOf [] ≡ badAt 1)
-    × (drillOf (51 ∷ 32 ∷ 52 ∷ 32 ∷ 49 ∷ 32 ∷ 48 ∷ 32 ∷ 51 ∷ 10 ∷ []) ≡ badAt 2)
-    × (drillOf (beginning ++ (10 ∷ [])) ≡ badAt 3)
+    × (drillOf (51 ∷ space ∷ 52 ∷ space ∷ 49 ∷ space ∷ 48 ∷ space ∷ 51 ∷ newline ∷ []) ≡ badAt 2)
+    × (drillOf (beginning ++ (newline ∷ [])) ≡ badAt 3)
     × (drillOf (beginning ++ (103 ∷ 111 ∷ [])) ≡ badAt 3)
-    × (drillOf (beginning ++ (115 ∷ 97 ∷ 121 ∷ 32 ∷ 48 ∷ 32 ∷ 49 ∷ 32 ∷ 54 ∷ 32 ∷ 48 ∷ 10 ∷ [])) ≡ badAt 3)
+    × (drillOf (beginning ++ sayLine) ≡ badAt 3)
 unfolding
     acceptOf writeOf listed entriesIn bodyAt tested readOf entryBytes encode entriesOk decides decision tally
     countIf gather valid validated lists possible backed backing enough selection leading mostVoted anyPlan taken least

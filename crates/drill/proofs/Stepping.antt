@@ -5,11 +5,12 @@ use mathlib.Core.List.{List}
 use Prim.Native.Nat.{ℕ, _<_, _≤_}
 use borrow.Author.Tests.{ltb-true}
 use Rattle.wire.proofs.Outcomes.{accepted-is}
-use Rattle.wire.specs.Outcome.{accepted}
+use Rattle.wire.specs.Outcome.{isAccepted}
+use Rattle.wire.specs.Sizes.{spentPhase}
 use Rattle.crew.specs.declared.Crew.{Crew}
+use Rattle.crew.specs.Parts.{mostNodes}
 use Rattle.crew.specs.Acceptance.{acceptOf}
 use Rattle.crew.proofs.Facts.{accepts}
-use Rattle.node.specs.Soundness.{crewAccepted}
 use Rattle.script.specs.declared.Command.{Command}
 use Rattle.script.specs.declared.Command.the-variants.{Cut, Say, Go, BadLine}
 use Rattle.aisle.specs.declared.State.{State}
@@ -25,19 +26,19 @@ same-crew st (Say sender receiver plan stamp) = refl
 same-crew st Go = refl
 same-crew st BadLine = refl
 
-pub still-small : (st next : State) (command : Command) → next ≡ after st command → st .crew .n ≤ 32
-    → next .crew .n ≤ 32
+pub still-small : (st next : State) (command : Command) → next ≡ after st command → st .crew .n ≤ mostNodes
+    → next .crew .n ≤ mostNodes
 still-small st next command e h = rw (e, same-crew st command) h
 
-pub begun-small : (crew : Crew) (plans : List ℕ) (st : State) → st ≡ begunOf crew plans → crew .n ≤ 32
-    → st .crew .n ≤ 32
+pub begun-small : (crew : Crew) (plans : List ℕ) (st : State) → st ≡ begunOf crew plans → crew .n ≤ mostNodes
+    → st .crew .n ≤ mostNodes
 unfolding begunOf
 begun-small crew plans st e h = rw e h
 
 -- a go that is no bad line has a coming round
-pub go-unspent : (st : State) (command : Command) → command ≡ Go → allowed st command ≡ true → st .phase < 64
-go-unspent st command e h = ltb-true (st .phase) 64 (rw e at h)
+pub go-unspent : (st : State) (command : Command) → command ≡ Go → allowed st command ≡ true → st .phase < spentPhase
+go-unspent st command e h = ltb-true (st .phase) spentPhase (rw e at h)
 
--- an accepted crew has at most 32 nodes
-pub crew-small : (crew : Crew) → crewAccepted crew ≡ true → crew .n ≤ 32
+-- an accepted crew has no more nodes than the largest
+pub crew-small : (crew : Crew) → isAccepted (acceptOf crew) ≡ true → crew .n ≤ mostNodes
 crew-small crew e = accepts crew (accepted-is (acceptOf crew) e) .size-to

@@ -1,20 +1,30 @@
 -- What a whole script prints, from its bytes to the output's bytes: document 01, 'The drill'.
-use Prim.Native.Nat.{ℕ, _+_}
+use Prim.Native.Nat.{ℕ, _+_, _*_}
 use mathlib.Core.Bool.{Bool, true, false, cond}
 use mathlib.Core.List.{List, [], _∷_, _++_}
 use lib.ListN.{length, drop, replicate}
 use lib.Dec.{ltb, eqb}
-use Rattle.script.specs.Lines.{split}
+use Rattle.wire.specs.Outcome.{isAccepted}
+use Rattle.wire.specs.Sizes.{lastPhase}
+use Rattle.crew.specs.declared.Crew.{Crew}
+use Rattle.crew.specs.Acceptance.{acceptOf}
+use Rattle.script.specs.Lines.{newline, split}
 use Rattle.script.specs.Fields.{numbersOn}
-use Rattle.script.specs.Commands.{commandOf, crewOf, plansOf}
+use Rattle.script.specs.Commands.{commandOf, crewLineOf, plansOf}
 use Rattle.script.specs.declared.CrewLine.{CrewLine}
 use Rattle.script.specs.declared.CrewLine.the-variants.{Crew as CrewRead, NoCrew}
-use Rattle.print.specs.Texts.{badLine, endLine, longLine}
-use Rattle.crew.specs.declared.Crew.{Crew}
-use Rattle.node.specs.Soundness.{crewAccepted}
+use Rattle.print.specs.Texts.{resultMost, badLine, badMost, endLine, longLine}
 use Rattle.aisle.specs.declared.State.{State}
 use Rattle.aisle.specs.Start.{begunOf}
 use Rattle.drill.specs.Steps.{allowed, after, text}
+
+-- a script has at most so many bytes
+abbrev pub mostBytes : ℕ
+mostBytes = 65536
+
+-- No output is longer: a line for each of the three rounds of each phase, and one more. proofs/Bound.antt proves it.
+abbrev pub mostPrinted : ℕ
+mostPrinted = resultMost * (3 * lastPhase) + badMost
 
 -- Of the pieces that a script has between its bytes 10 the last is not a line: it is empty, or an unended line.
 abbrev pub isLast : List (List ℕ) → Bool
@@ -40,20 +50,18 @@ second crew (w ∷ ws) =
 
 -- the rest of a script by what its line 1 says
 abbrev pub crewed : CrewLine → List (List ℕ) → List ℕ
-crewed (CrewRead class n b f d) ws =
-    let crew : Crew = record { class = class; n = n; b = b; f = f; d = d } in
-    cond (crewAccepted crew) (second crew ws) (badLine 1)
+crewed (CrewRead crew) ws = cond (isAccepted (acceptOf crew)) (second crew ws) (badLine 1)
 crewed NoCrew ws = badLine 1
 
 unfoldable pub first : List (List ℕ) → List ℕ
 first [] = []
-first (w ∷ ws) = cond (isLast ws) (badLine 1) (crewed (crewOf (numbersOn w)) ws)
+first (w ∷ ws) = cond (isLast ws) (badLine 1) (crewed (crewLineOf (numbersOn w)) ws)
 
 -- The whole output.
 -- 01: "It reads standard input (over 65,536 bytes: prints `long` only)."
 unfoldable pub drillOf : List ℕ → List ℕ
-drillOf input = cond (ltb 65536 (length input)) longLine (first (split 10 input))
+drillOf input = cond (ltb mostBytes (length input)) longLine (first (split newline input))
 
 -- The output in a buffer that every output fits into, with zeros after it.
 abbrev pub wholeOf : List ℕ → List ℕ
-wholeOf input = drillOf input ++ drop (length (drillOf input)) (replicate 38566 0)
+wholeOf input = drillOf input ++ drop (length (drillOf input)) (replicate mostPrinted 0)

@@ -3,6 +3,8 @@ use Prim.Native.Nat.{ℕ}
 use mathlib.Core.Bool.{Bool, false, not, cond, _&&_}
 use mathlib.Core.List.{List, []}
 use lib.Dec.{ltb, leb, eqb}
+use Rattle.wire.specs.Sizes.{spentPhase}
+use Rattle.crew.specs.Parts.{mostNodes}
 use Rattle.script.specs.declared.Command.{Command}
 use Rattle.script.specs.declared.Command.the-variants.{Cut, Say, Go, BadLine}
 use Rattle.print.specs.Texts.{resultLine, nodesShown}
@@ -26,8 +28,8 @@ allowed st (Say sender receiver plan stamp) =
     && leb 1 plan
     && not (isHonest st sender)
     && stampFits (st .round) (st .phase) stamp
-    && ltb (st .phase) 64
-allowed st Go = ltb (st .phase) 64
+    && ltb (st .phase) spentPhase
+allowed st Go = ltb (st .phase) spentPhase
 allowed st BadLine = false
 
 -- the state with other cuts and says
@@ -54,5 +56,5 @@ abbrev pub text : State → Command → List ℕ
 text st (Cut sender receiver) = []
 text st (Say sender receiver plan stamp) = []
 text st Go =
-    resultLine (st .phase) (st .round) (nodesShown (st .crew .n)) (table (resultAt (goOf st)) 32) (st .honest)
+    resultLine (st .phase) (st .round) (nodesShown (st .crew .n)) (table (resultAt (goOf st)) mostNodes) (st .honest)
 text st BadLine = []

@@ -2,29 +2,35 @@
 // specs/Run.antt says what a whole script prints, specs/Steps.antt what each line may ask for and changes; what a go
 // does among the nodes is crate aisle's. proofs/Bound.antt bounds the output of every script.
 use aisle::State;
-use crew::Acceptance;
 use crew::Crew;
+use crew::MOST_NODES;
 use libc::STDOUT_FILENO;
 use node::Node;
+use print::MOST_BAD;
+use print::MOST_RESULT;
 use script::Command;
 use script::CrewLine;
+use wire::LAST_PHASE;
 ghost use mathlib.Core.Path.{_≡_};
 ghost use mathlib.Core.Bool.{true, false};
 ghost use Prim.Native.Nat.{_+_, _<_, _≤_};
 ghost use lib.ListN.{length, getD, drop};
-ghost use Rattle.script.specs.Lines.{split};
-ghost use Rattle.print.specs.Texts.{Wrote, badLine, endLine, longLine};
-ghost use Rattle.node.specs.Soundness.{crewAccepted};
+ghost use Rattle.wire.specs.Sizes.{spentPhase};
+ghost use Rattle.crew.specs.Parts.{mostNodes};
+ghost use Rattle.script.specs.Lines.{newline, split};
+ghost use Rattle.print.specs.Texts.{Wrote, resultMost, badLine, endLine, longLine};
 ghost use Rattle.aisle.specs.Round.{goOf};
 ghost use Rattle.drill.specs.Steps.{stampFits, allowed, after, text};
-ghost use Rattle.drill.specs.Run.{follow, second, drillOf, wholeOf};
+ghost use Rattle.drill.specs.Run.{mostBytes, follow, second, drillOf, wholeOf};
 
-// No output is longer.
-const MOST_PRINTED: usize = 38566;
 // A script has at most so many bytes.
-const MOST_BYTES: usize = 65536;
-
-const MOST_NODES: usize = 32;
+pub const MOST_BYTES: usize = 65536;
+// A program reads so many: one byte more is enough for the drill to see that a script is too long.
+pub const MOST_READ: usize = MOST_BYTES + 1;
+// A phase has at most so many rounds: the decision is its last.
+const ROUNDS: usize = Node::DECISION as usize;
+// No output is longer: each go prints a line and does one of the rounds of a phase, and one line more may come.
+const MOST_PRINTED: usize = MOST_RESULT * (ROUNDS * (LAST_PHASE as usize)) + MOST_BAD;
 
 // A state, and the place where the output goes on.
 pub struct Step {
@@ -32,7 +38,7 @@ pub struct Step {
     pub next: usize,
 }
 
-fn is_honest(honest: [bool; 32], i: u8) -> bool
+fn is_honest(honest: [bool; MOST_NODES], i: u8) -> bool
     ensures { λ r. ⌜ r ≡ getD honest i false ⌝ }
 {
     let place = i as usize;
@@ -70,7 +76,7 @@ fn is_allowed(state: State, command: Command) -> bool
             let honest = state.honest;
             (sender < state.crew.n)
                 & (receiver < state.crew.n)
-                & (1 <= plan)
+                & (Node::NO_PLAN < plan)
                 & !is_honest(honest, sender)
                 & stamp_fits(state.round, state.phase, stamp)
                 & (state.phase < Node::SPENT)
@@ -119,10 +125,10 @@ fn put_long(out: &mut [u8], at: u32) -> usize
 
 // A go and its line.
 fn perform_go(state: State, out: &mut [u8], at: u32) -> Step
-    requires { ⌜ (state .crew .n ≤ 32) × (state .phase < 64) ⌝ }
+    requires { ⌜ (state .crew .n ≤ mostNodes) × (state .phase < spentPhase) ⌝ }
     ensures { λ r. ⌜ (r .state ≡ goOf state)
         × Wrote (now (out .entry)) at (text state Command.Go) (now (out .exit)) (r .next)
-        × (r .next ≤ at + 204) ⌝ }
+        × (r .next ≤ at + resultMost) ⌝ }
 {
     let after = aisle::go(state);
     let results = aisle::results_of(after);
@@ -138,10 +144,10 @@ fn perform_go(state: State, out: &mut [u8], at: u32) -> Step
 
 // What a good line changes and prints.
 fn perform(state: State, command: Command, out: &mut [u8], at: u32) -> Step
-    requires { ⌜ (state .crew .n ≤ 32) × (allowed state command ≡ true) ⌝ }
+    requires { ⌜ (state .crew .n ≤ mostNodes) × (allowed state command ≡ true) ⌝ }
     ensures { λ r. ⌜ (r .state ≡ after state command)
         × Wrote (now (out .entry)) at (text state command) (now (out .exit)) (r .next)
-        × (r .next ≤ at + 204) ⌝ }
+        × (r .next ≤ at + resultMost) ⌝ }
 {
     match command {
         Command::Cut { sender, receiver } => {
@@ -179,8 +185,8 @@ fn perform(state: State, command: Command, out: &mut [u8], at: u32) -> Step
 
 // The lines from line 3 on.
 fn follow_lines(begun: State, input: &[u8], from: usize, out: &mut [u8]) -> usize
-    requires { ⌜ (begun .crew .n ≤ 32) × (from ≤ length (now input)) × (length (now input) ≤ 65536) ⌝ }
-    ensures { λ r. ⌜ Wrote (now (out .entry)) 0 (follow begun 3 (split 10 (drop from (now (input .entry)))))
+    requires { ⌜ (begun .crew .n ≤ mostNodes) × (from ≤ length (now input)) × (length (now input) ≤ mostBytes) ⌝ }
+    ensures { λ r. ⌜ Wrote (now (out .entry)) 0 (follow begun 3 (split newline (drop from (now (input .entry)))))
         (now (out .exit)) r ⌝ }
 {
     let mut state = begun;
@@ -211,8 +217,8 @@ fn follow_lines(begun: State, input: &[u8], from: usize, out: &mut [u8]) -> usiz
 
 // The lines from line 2 on.
 fn follow_crew(crew: Crew, input: &[u8], at: usize, out: &mut [u8]) -> usize
-    requires { ⌜ (crew .n ≤ 32) × (at ≤ length (now input)) × (length (now input) ≤ 65536) ⌝ }
-    ensures { λ r. ⌜ Wrote (now (out .entry)) 0 (second crew (split 10 (drop at (now (input .entry)))))
+    requires { ⌜ (crew .n ≤ mostNodes) × (at ≤ length (now input)) × (length (now input) ≤ mostBytes) ⌝ }
+    ensures { λ r. ⌜ Wrote (now (out .entry)) 0 (second crew (split newline (drop at (now (input .entry)))))
         (now (out .exit)) r ⌝ }
 {
     let end = script::find(input, script::NEWLINE, at);
@@ -228,15 +234,6 @@ fn follow_crew(crew: Crew, input: &[u8], at: usize, out: &mut [u8]) -> usize
     put_bad(out, 0, 2)
 }
 
-fn is_accepted(crew: Crew) -> bool
-    ensures { λ r. ⌜ r ≡ crewAccepted crew ⌝ }
-{
-    match crew::accept(crew) {
-        Acceptance::Accepted => true,
-        Acceptance::Refused(_) => false,
-    }
-}
-
 // The whole drill. Each line of the output goes out as it comes; the buffer keeps all of them.
 pub fn run(input: &[u8], out: &mut [u8]) -> usize
     ensures { λ r. ⌜ Wrote (now (out .entry)) 0 (drillOf (now (input .entry))) (now (out .exit)) r ⌝ }
@@ -249,9 +246,8 @@ pub fn run(input: &[u8], out: &mut [u8]) -> usize
         return put_bad(out, 0, 1);
     }
     match script::crew_line(&input[..end]) {
-        CrewLine::Crew { class, n, b, f, d } => {
-            let crew = Crew { class, n, b, f, d };
-            if is_accepted(crew) {
+        CrewLine::Crew(crew) => {
+            if crew::is_accepted(crew) {
                 return follow_crew(crew, input, end + 1, out);
             }
             put_bad(out, 0, 1)
@@ -262,7 +258,7 @@ pub fn run(input: &[u8], out: &mut [u8]) -> usize
 
 // The whole output of a script: no script prints more than the text has room for (proofs/Bound.antt).
 pub struct Output {
-    pub text: [u8; 38566],
+    pub text: [u8; MOST_PRINTED],
     pub size: usize,
 }
 

@@ -9,11 +9,13 @@ use lib.ListN.{length, getD, set, drop, replicate, drop-of-length-le}
 use lib.Seq.{sets, drop-cons}
 use Rattle.wire.specs.Bytes.{numberAt, bytesOf}
 use Rattle.wire.proofs.Stores.{sets-append, sets-whole}
+use Rattle.wire.specs.Sizes.{planSize, historySize}
 use Rattle.node.specs.declared.Node.{Node}
+use Rattle.image.specs.Layout.{crewPlace, historyPlace, imageSize}
 use Rattle.image.specs.Layout.{historyBytes, scalarBytes, imageOf, plansIn}
 
 -- two bytes each
-pub history-bytes-length : (plans : List ℕ) → length (historyBytes plans) ≡ 2 * length plans
+pub history-bytes-length : (plans : List ℕ) → length (historyBytes plans) ≡ planSize * length plans
 unfolding historyBytes
 history-bytes-length [] = refl
 history-bytes-length (plan ∷ plans) = omega (arith, history-bytes-length plans)
@@ -21,53 +23,57 @@ history-bytes-length (plan ∷ plans) = omega (arith, history-bytes-length plans
 pub plans-length : (s : List ℕ) (place count : ℕ) → length (plansIn s place count) ≡ count
 unfolding plansIn
 plans-length s place zero = refl
-plans-length s place (suc count) = omega (arith, plans-length s (place + 2) count)
+plans-length s place (suc count) = omega (arith, plans-length s (place + planSize) count)
 
 -- the plans laid over an empty history are the history
-pub read-start : (s : List ℕ) → sets (replicate 64 0) 0 (plansIn s 21 64) ≡ plansIn s 21 64
+pub read-start : (s : List ℕ)
+    → sets (replicate historySize 0) 0 (plansIn s historyPlace historySize) ≡ plansIn s historyPlace historySize
 read-start s =
-    let long : length (plansIn s 21 64) ≡ length (replicate {A = ℕ} 64 0) = omega (arith, plans-length s 21 64) in
-    sets-whole (plansIn s 21 64) (replicate 64 0) long
+    let plans = plansIn s historyPlace historySize in
+    let long : length plans ≡ length (replicate {A = ℕ} historySize 0) =
+    omega (arith, plans-length s historyPlace historySize) in
+    sets-whole plans (replicate historySize 0) long
 
 -- A turn of the loop that reads the plans: those left, laid over what is there, end in the same plans.
-pub read-turn : (s history whole : List ℕ) (i plan : ℕ) → i < 64 → plan ≡ numberAt 2 s (21 + 2 * i)
-    → sets history i (plansIn s (21 + 2 * i) (64 - i)) ≡ whole
-    → sets (set history i plan) (i + 1) (plansIn s (21 + 2 * (i + 1)) (64 - (i + 1))) ≡ whole
+pub read-turn : (s history whole : List ℕ) (i plan : ℕ) → i < historySize
+    → plan ≡ numberAt planSize s (historyPlace + planSize * i)
+    → sets history i (plansIn s (historyPlace + planSize * i) (historySize - i)) ≡ whole
+    → sets (set history i plan) (i + 1) (plansIn s (historyPlace + planSize * (i + 1)) (historySize - (i + 1))) ≡ whole
 unfolding plansIn
 read-turn s history whole i plan more is e =
-    let left : 64 - i ≡ suc (64 - suc i) = omega arith in
-    let next : 21 + 2 * i + 2 ≡ 21 + 2 * (i + 1) = omega arith in
+    let left : historySize - i ≡ suc (historySize - suc i) = omega arith in
+    let next : historyPlace + planSize * i + planSize ≡ historyPlace + planSize * (i + 1) = omega arith in
     rw (is, ← next, add-one i) (rw left at e)
 
 -- none is left
-pub read-end : (s history whole : List ℕ) (i : ℕ) → 64 ≤ i
-    → sets history i (plansIn s (21 + 2 * i) (64 - i)) ≡ whole → history ≡ whole
+pub read-end : (s history whole : List ℕ) (i : ℕ) → historySize ≤ i
+    → sets history i (plansIn s (historyPlace + planSize * i) (historySize - i)) ≡ whole → history ≡ whole
 unfolding plansIn
 read-end s history whole i done e =
-    let left : 64 - i ≡ 0 = omega arith in
+    let left : historySize - i ≡ 0 = omega arith in
     rw left at e
 
 -- A turn of the loop that lays the plans: those left end in the same bytes.
 pub lay-turn : (history image next whole : List ℕ) (i : ℕ) → i < length history
-    → next ≡ sets image (21 + 2 * i) (bytesOf 2 (getD history i 0))
-    → sets image (21 + 2 * i) (historyBytes (drop i history)) ≡ whole
-    → sets next (21 + 2 * (i + 1)) (historyBytes (drop (i + 1) history)) ≡ whole
+    → next ≡ sets image (historyPlace + planSize * i) (bytesOf planSize (getD history i 0))
+    → sets image (historyPlace + planSize * i) (historyBytes (drop i history)) ≡ whole
+    → sets next (historyPlace + planSize * (i + 1)) (historyBytes (drop (i + 1) history)) ≡ whole
 unfolding historyBytes
 lay-turn history image next whole i more is e =
-    let place : 21 + 2 * (i + 1) ≡ 21 + 2 * i + 2 = omega arith in
-    let first = bytesOf 2 (getD history i 0) in
-    let split = sets-append first (historyBytes (drop (suc i) history)) image (21 + 2 * i) in
+    let place : historyPlace + planSize * (i + 1) ≡ historyPlace + planSize * i + planSize = omega arith in
+    let first = bytesOf planSize (getD history i 0) in
+    let split = sets-append first (historyBytes (drop (suc i) history)) image (historyPlace + planSize * i) in
     rw (is, place, add-one i, ← split) (rw (drop-cons history i 0 more) at e)
 
 -- none is left
 pub lay-end : (history image whole : List ℕ) (i : ℕ) → length history ≤ i
-    → sets image (21 + 2 * i) (historyBytes (drop i history)) ≡ whole → image ≡ whole
+    → sets image (historyPlace + planSize * i) (historyBytes (drop i history)) ≡ whole → image ≡ whole
 unfolding historyBytes
 lay-end history image whole i done e = rw (drop-of-length-le history done) at e
 
 -- the scalars and then the plans fill an image whole
-pub image-laid : (d : Node) (image : List ℕ) → length image ≡ 149 → length (d .history) ≡ 64
-    → sets (sets image 0 (scalarBytes d)) 21 (historyBytes (d .history)) ≡ imageOf d
+pub image-laid : (d : Node) (image : List ℕ) → length image ≡ imageSize → length (d .history) ≡ historySize
+    → sets (sets image crewPlace (scalarBytes d)) historyPlace (historyBytes (d .history)) ≡ imageOf d
 image-laid d image long plans =
     let bytes = scalarBytes d in
     let rest = historyBytes (d .history) in

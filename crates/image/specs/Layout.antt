@@ -3,28 +3,71 @@
 --   place 0      1  2  3  4  5    6    10     11     12    14    16     17      19      21
 --   field class  n  b  f  D  own  run  phase  round  vote  base  stamp  select  result  history
 --   bytes 1      1  1  1  1  1    4    1      1      2     2     1      2       2       64 times 2, from phase 0 on
-use Prim.Native.Nat.{ℕ, zero, suc, _+_}
+use Prim.Native.Nat.{ℕ, zero, suc, _+_, _*_}
 use mathlib.Core.Bool.{Bool, cond}
 use mathlib.Core.List.{List, [], _∷_, _++_}
 use lib.ListN.{length, getD}
 use lib.Dec.{eqb}
 use Rattle.wire.specs.Bytes.{numberAt, bytesOf}
+use Rattle.wire.specs.Sizes.{planSize, runSize, historySize}
 use Rattle.crew.specs.declared.Crew.{Crew}
+use Rattle.crew.specs.Parts.{crewOf}
 use Rattle.node.specs.declared.Node.{Node}
 use Rattle.node.specs.Record.{blank}
+
+-- the places, each where the field before it ends; the code has them as constants in src/lib.rt
+abbrev pub crewPlace : ℕ
+crewPlace = 0
+
+-- class, n, b, f and D
+abbrev pub crewSize : ℕ
+crewSize = 5
+
+abbrev pub ownPlace : ℕ
+ownPlace = crewPlace + crewSize
+
+abbrev pub runPlace : ℕ
+runPlace = ownPlace + 1
+
+abbrev pub phasePlace : ℕ
+phasePlace = runPlace + runSize
+
+abbrev pub roundPlace : ℕ
+roundPlace = phasePlace + 1
+
+abbrev pub votePlace : ℕ
+votePlace = roundPlace + 1
+
+abbrev pub basePlace : ℕ
+basePlace = votePlace + planSize
+
+abbrev pub stampPlace : ℕ
+stampPlace = basePlace + planSize
+
+abbrev pub selectPlace : ℕ
+selectPlace = stampPlace + 1
+
+abbrev pub resultPlace : ℕ
+resultPlace = selectPlace + planSize
+
+abbrev pub historyPlace : ℕ
+historyPlace = resultPlace + planSize
+
+abbrev pub imageSize : ℕ
+imageSize = historyPlace + planSize * historySize
 
 abbrev pub crewBytes : Crew → List ℕ
 crewBytes c = c .class ∷ c .n ∷ c .b ∷ c .f ∷ c .d ∷ []
 
 -- own number, run and coming round
 abbrev pub placeBytes : Node → List ℕ
-placeBytes d = d .own ∷ (bytesOf 4 (d .run) ++ (d .phase ∷ d .round ∷ []))
+placeBytes d = d .own ∷ (bytesOf runSize (d .run) ++ (d .phase ∷ d .round ∷ []))
 
 -- vote, base, stamp, select and result
 abbrev pub planBytes : Node → List ℕ
 planBytes d =
-    bytesOf 2 (d .vote)
-    ++ (bytesOf 2 (d .base) ++ (d .stamp ∷ (bytesOf 2 (d .select) ++ bytesOf 2 (d .result))))
+    bytesOf planSize (d .vote)
+    ++ (bytesOf planSize (d .base) ++ (d .stamp ∷ (bytesOf planSize (d .select) ++ bytesOf planSize (d .result))))
 
 -- the fields before the history
 abbrev pub scalarBytes : Node → List ℕ
@@ -33,7 +76,7 @@ scalarBytes d = crewBytes (d .crew) ++ (placeBytes d ++ planBytes d)
 -- the history's plans one after the other
 unfoldable pub historyBytes : List ℕ → List ℕ
 historyBytes [] = []
-historyBytes (plan ∷ plans) = bytesOf 2 plan ++ historyBytes plans
+historyBytes (plan ∷ plans) = bytesOf planSize plan ++ historyBytes plans
 
 abbrev pub imageOf : Node → List ℕ
 imageOf d = scalarBytes d ++ historyBytes (d .history)
@@ -41,27 +84,33 @@ imageOf d = scalarBytes d ++ historyBytes (d .history)
 -- `count` plans from a place on
 unfoldable pub plansIn : List ℕ → ℕ → ℕ → List ℕ
 plansIn s place zero = []
-plansIn s place (suc count) = numberAt 2 s place ∷ plansIn s (place + 2) count
+plansIn s place (suc count) = numberAt planSize s place ∷ plansIn s (place + planSize) count
+
+-- the crew that stands in an image
+abbrev pub crewIn : List ℕ → Crew
+crewIn s =
+    crewOf (getD s crewPlace 0) (getD s (crewPlace + 1) 0) (getD s (crewPlace + 2) 0) (getD s (crewPlace + 3) 0)
+    (getD s (crewPlace + 4) 0)
 
 -- the record that stands in an image
 abbrev pub recordIn : List ℕ → Node
 recordIn s = record {
-  crew = record { class = getD s 0 0; n = getD s 1 0; b = getD s 2 0; f = getD s 3 0; d = getD s 4 0 };
-  own = getD s 5 0;
-  run = numberAt 4 s 6;
-  phase = getD s 10 0;
-  round = getD s 11 0;
-  vote = numberAt 2 s 12;
-  base = numberAt 2 s 14;
-  stamp = getD s 16 0;
-  select = numberAt 2 s 17;
-  result = numberAt 2 s 19;
-  history = plansIn s 21 64;
+  crew = crewIn s;
+  own = getD s ownPlace 0;
+  run = numberAt runSize s runPlace;
+  phase = getD s phasePlace 0;
+  round = getD s roundPlace 0;
+  vote = numberAt planSize s votePlace;
+  base = numberAt planSize s basePlace;
+  stamp = getD s stampPlace 0;
+  select = numberAt planSize s selectPlace;
+  result = numberAt planSize s resultPlace;
+  history = plansIn s historyPlace historySize;
 }
 
 -- whether a slice is as long as an image
 abbrev pub imageFits : List ℕ → Bool
-imageFits s = eqb (length s) 149
+imageFits s = eqb (length s) imageSize
 
 -- the record that a slice is the image of, or a blank one where it has another length
 abbrev pub loadOf : List ℕ → Node

@@ -3,101 +3,100 @@
 // proofs/RoundTrip.antt.
 use crew::Crew;
 use node::Node;
+use wire::PHASES;
+use wire::PLAN_SIZE;
+use wire::Plan;
+use wire::RUN_SIZE;
 ghost use mathlib.Core.Path.{_≡_};
-ghost use Prim.Native.Nat.{_+_, _<_, _≤_};
+ghost use Prim.Native.Nat.{_+_, _≤_};
 ghost use lib.ListN.{length};
 ghost use lib.Seq.{sets};
-ghost use Rattle.wire.specs.Bytes.{numberAt, bytesOf};
+ghost use Rattle.wire.specs.Bytes.{numberAt};
+ghost use Rattle.wire.specs.Sizes.{planSize, runSize, historySize};
 ghost use Rattle.image.specs.Layout.{
+  crewPlace,
+  ownPlace,
+  runPlace,
+  votePlace,
+  historyPlace,
+  imageSize,
   crewBytes,
   placeBytes,
   planBytes,
   scalarBytes,
   historyBytes,
   plansIn,
+  crewIn,
   recordIn,
   imageFits,
   loadOf,
   imageAfter,
 };
 
+// Where the fields stand: each where the one before it ends. A crew is five bytes.
+const CREW_AT: usize = 0;
+
+const CREW_SIZE: usize = 5;
+
+const OWN_AT: usize = CREW_AT + CREW_SIZE;
+
+const RUN_AT: usize = OWN_AT + 1;
+
+const PHASE_AT: usize = RUN_AT + RUN_SIZE;
+
+const ROUND_AT: usize = PHASE_AT + 1;
+
+const VOTE_AT: usize = ROUND_AT + 1;
+
+const BASE_AT: usize = VOTE_AT + PLAN_SIZE;
+
+const STAMP_AT: usize = BASE_AT + PLAN_SIZE;
+
+const SELECT_AT: usize = STAMP_AT + 1;
+
+const RESULT_AT: usize = SELECT_AT + PLAN_SIZE;
+
+const HISTORY_AT: usize = RESULT_AT + PLAN_SIZE;
 // How many bytes an image has.
-const LENGTH: usize = 149;
-// Where the fields stand, in the order of the layout.
-const CLASS_AT: usize = 0;
+const LENGTH: usize = HISTORY_AT + PLAN_SIZE * PHASES;
 
-const N_AT: usize = 1;
-
-const B_AT: usize = 2;
-
-const F_AT: usize = 3;
-
-const D_AT: usize = 4;
-
-const OWN_AT: usize = 5;
-
-const RUN_AT: usize = 6;
-
-const PHASE_AT: usize = 10;
-
-const ROUND_AT: usize = 11;
-
-const VOTE_AT: usize = 12;
-
-const BASE_AT: usize = 14;
-
-const STAMP_AT: usize = 16;
-
-const SELECT_AT: usize = 17;
-
-const RESULT_AT: usize = 19;
-
-const HISTORY_AT: usize = 21;
-
-fn wide(x: u8) -> u16
-    ensures { λ r. ⌜ (r ≡ x) × (r < 256) ⌝ }
+// The plan that stands from a place on.
+fn plan_at(s: &[u8], place: usize) -> Plan
+    requires { ⌜ place + planSize ≤ length (now s) ⌝ }
+    ensures { λ r. ⌜ r ≡ numberAt planSize (now (s .entry)) place ⌝ }
 {
-    x as u16
+    wire::plan_of(s[place], s[place + 1])
 }
 
-// The little-endian number of two bytes from a place on.
-fn u16_at(s: &[u8], place: usize) -> u16
-    requires { ⌜ place + 1 < length (now s) ⌝ }
-    ensures { λ r. ⌜ r ≡ numberAt 2 (now (s .entry)) place ⌝ }
+fn run_in(s: &[u8]) -> u32
+    requires { ⌜ imageSize ≤ length (now s) ⌝ }
+    ensures { λ r. ⌜ r ≡ numberAt runSize (now (s .entry)) runPlace ⌝ }
 {
-    wide(s[place]) + 256 * wide(s[place + 1])
-}
-
-// The run, the one number of four bytes.
-fn run_at(s: &[u8]) -> u32
-    requires { ⌜ 149 ≤ length (now s) ⌝ }
-    ensures { λ r. ⌜ r ≡ numberAt 4 (now (s .entry)) 6 ⌝ }
-{
-    (u16_at(s, RUN_AT) as u32) + 65536 * (u16_at(s, RUN_AT + 2) as u32)
+    wire::u32_of(s[RUN_AT], s[RUN_AT + 1], s[RUN_AT + 2], s[RUN_AT + 3])
 }
 
 fn crew_in(s: &[u8]) -> Crew
-    requires { ⌜ 149 ≤ length (now s) ⌝ }
-    ensures { λ r. ⌜ r ≡ recordIn (now (s .entry)) .crew ⌝ }
+    requires { ⌜ imageSize ≤ length (now s) ⌝ }
+    ensures { λ r. ⌜ r ≡ crewIn (now (s .entry)) ⌝ }
 {
     Crew {
-        class: s[CLASS_AT],
-        n: s[N_AT],
-        b: s[B_AT],
-        f: s[F_AT],
-        d: s[D_AT],
+        class: s[CREW_AT],
+        n: s[CREW_AT + 1],
+        b: s[CREW_AT + 2],
+        f: s[CREW_AT + 3],
+        d: s[CREW_AT + 4],
     }
 }
 
 // The plans of the history, the last bytes of an image.
-fn history_in(s: &[u8]) -> [u16; 64]
-    requires { ⌜ 149 ≤ length (now s) ⌝ }
-    ensures { λ r. ⌜ r ≡ plansIn (now (s .entry)) 21 64 ⌝ }
+fn history_in(s: &[u8]) -> [Plan; PHASES]
+    requires { ⌜ imageSize ≤ length (now s) ⌝ }
+    ensures { λ r. ⌜ r ≡ plansIn (now (s .entry)) historyPlace historySize ⌝ }
 {
-    let mut history = [Node::NO_PLAN; Node::PHASES];
+    let mut history = [Node::NO_PLAN; PHASES];
     let mut phase = 0;
-    while phase < Node::PHASES {
-        history[phase] = u16_at(s, HISTORY_AT + 2 * phase);
+    while phase < PHASES {
+        history[phase] = plan_at(s, HISTORY_AT + PLAN_SIZE * phase);
         phase = phase + 1;
     }
     history
@@ -112,20 +111,20 @@ pub fn fits(s: &[u8]) -> bool
 
 // The record that 149 bytes are the image of.
 fn record_in(s: &[u8]) -> Node
-    requires { ⌜ 149 ≤ length (now s) ⌝ }
+    requires { ⌜ imageSize ≤ length (now s) ⌝ }
     ensures { λ r. ⌜ r ≡ recordIn (now (s .entry)) ⌝ }
 {
     Node {
         crew: crew_in(s),
         own: s[OWN_AT],
-        run: run_at(s),
+        run: run_in(s),
         phase: s[PHASE_AT],
         round: s[ROUND_AT],
-        vote: u16_at(s, VOTE_AT),
-        base: u16_at(s, BASE_AT),
+        vote: plan_at(s, VOTE_AT),
+        base: plan_at(s, BASE_AT),
         stamp: s[STAMP_AT],
-        select: u16_at(s, SELECT_AT),
-        result: u16_at(s, RESULT_AT),
+        select: plan_at(s, SELECT_AT),
+        result: plan_at(s, RESULT_AT),
         history: history_in(s),
     }
 }
@@ -152,76 +151,58 @@ pub fn load(s: &[u8]) -> Loaded
     }
 }
 
-fn put16(image: &mut [u8], place: usize, number: u16)
-    requires { ⌜ place + 1 < length (now image) ⌝ }
-    ensures { λ _. ⌜ now (image .exit) ≡ sets (now (image .entry)) place (bytesOf 2 number) ⌝ }
-{
-    image[place] = (number % 256) as u8;
-    image[place + 1] = (number / 256 % 256) as u8;
-}
-
-fn put_run(image: &mut [u8], run: u32)
-    requires { ⌜ 149 ≤ length (now image) ⌝ }
-    ensures { λ _. ⌜ now (image .exit) ≡ sets (now (image .entry)) 6 (bytesOf 4 run) ⌝ }
-{
-    image[RUN_AT] = (run % 256) as u8;
-    image[RUN_AT + 1] = (run / 256 % 256) as u8;
-    image[RUN_AT + 2] = (run / 256 / 256 % 256) as u8;
-    image[RUN_AT + 3] = (run / 256 / 256 / 256 % 256) as u8;
-}
-
 fn put_crew(image: &mut [u8], crew: Crew)
-    requires { ⌜ 149 ≤ length (now image) ⌝ }
-    ensures { λ _. ⌜ now (image .exit) ≡ sets (now (image .entry)) 0 (crewBytes crew) ⌝ }
+    requires { ⌜ imageSize ≤ length (now image) ⌝ }
+    ensures { λ _. ⌜ now (image .exit) ≡ sets (now (image .entry)) crewPlace (crewBytes crew) ⌝ }
 {
-    image[CLASS_AT] = crew.class;
-    image[N_AT] = crew.n;
-    image[B_AT] = crew.b;
-    image[F_AT] = crew.f;
-    image[D_AT] = crew.d;
+    image[CREW_AT] = crew.class;
+    image[CREW_AT + 1] = crew.n;
+    image[CREW_AT + 2] = crew.b;
+    image[CREW_AT + 3] = crew.f;
+    image[CREW_AT + 4] = crew.d;
 }
 
 // The own number, the run and the coming round.
 fn put_place(image: &mut [u8], node: Node)
-    requires { ⌜ 149 ≤ length (now image) ⌝ }
-    ensures { λ _. ⌜ now (image .exit) ≡ sets (now (image .entry)) 5 (placeBytes node) ⌝ }
+    requires { ⌜ imageSize ≤ length (now image) ⌝ }
+    ensures { λ _. ⌜ now (image .exit) ≡ sets (now (image .entry)) ownPlace (placeBytes node) ⌝ }
 {
     image[OWN_AT] = node.own;
-    put_run(image, node.run);
+    wire::put_u32(image, RUN_AT, node.run);
     image[PHASE_AT] = node.phase;
     image[ROUND_AT] = node.round;
 }
 
 // The plans that the node votes for, falls back to, selected and decided, and the stamp.
 fn put_plans(image: &mut [u8], node: Node)
-    requires { ⌜ 149 ≤ length (now image) ⌝ }
-    ensures { λ _. ⌜ now (image .exit) ≡ sets (now (image .entry)) 12 (planBytes node) ⌝ }
+    requires { ⌜ imageSize ≤ length (now image) ⌝ }
+    ensures { λ _. ⌜ now (image .exit) ≡ sets (now (image .entry)) votePlace (planBytes node) ⌝ }
 {
-    put16(image, VOTE_AT, node.vote);
-    put16(image, BASE_AT, node.base);
+    wire::put_plan(image, VOTE_AT, node.vote);
+    wire::put_plan(image, BASE_AT, node.base);
     image[STAMP_AT] = node.stamp;
-    put16(image, SELECT_AT, node.select);
-    put16(image, RESULT_AT, node.result);
+    wire::put_plan(image, SELECT_AT, node.select);
+    wire::put_plan(image, RESULT_AT, node.result);
 }
 
 // The fields before the history.
 fn put_scalars(image: &mut [u8], node: Node)
-    requires { ⌜ 149 ≤ length (now image) ⌝ }
-    ensures { λ _. ⌜ now (image .exit) ≡ sets (now (image .entry)) 0 (scalarBytes node) ⌝ }
+    requires { ⌜ imageSize ≤ length (now image) ⌝ }
+    ensures { λ _. ⌜ now (image .exit) ≡ sets (now (image .entry)) crewPlace (scalarBytes node) ⌝ }
 {
     put_crew(image, node.crew);
     put_place(image, node);
     put_plans(image, node);
 }
 
-fn put_history(image: &mut [u8], history: [u16; 64])
-    requires { ⌜ 149 ≤ length (now image) ⌝ }
-    ensures { λ _. ⌜ (length history ≡ 64)
-        × (now (image .exit) ≡ sets (now (image .entry)) 21 (historyBytes history)) ⌝ }
+fn put_history(image: &mut [u8], history: [Plan; PHASES])
+    requires { ⌜ imageSize ≤ length (now image) ⌝ }
+    ensures { λ _. ⌜ (length history ≡ historySize)
+        × (now (image .exit) ≡ sets (now (image .entry)) historyPlace (historyBytes history)) ⌝ }
 {
     let mut phase = 0;
-    while phase < Node::PHASES {
-        put16(image, HISTORY_AT + 2 * phase, history[phase]);
+    while phase < PHASES {
+        wire::put_plan(image, HISTORY_AT + PLAN_SIZE * phase, history[phase]);
         phase = phase + 1;
     }
 }

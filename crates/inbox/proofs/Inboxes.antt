@@ -7,8 +7,10 @@ use mathlib.Core.Option.{Option, some}
 use Prim.Native.Nat.{ℕ, _*_, _/_, _≤_, _<_}
 use native.Mathlib.Omega.{arith}
 use lib.ListN.{length, getD}
+use Rattle.crew.specs.Parts.{mostNodes}
 use Rattle.message.specs.Reading.{readOf}
 use Rattle.wire.specs.Entry.{Entry}
+use Rattle.message.specs.Layout.{slotSize}
 use Rattle.ballot.specs.Count.{gather}
 use Rattle.ballot.specs.Ballot.{Ballot}
 use Rattle.inbox.specs.Inbox.{slotAt, counted}
@@ -28,14 +30,14 @@ use Rattle.inbox.proofs.Selections.{selection-shown}
 use Rattle.inbox.proofs.Meaning.{Histories, columns-mean, gather-same}
 
 -- an inbox of n slots has n slots to read
-slots-in : (bytes n : ℕ) → n ≤ 32 → bytes ≡ 202 * n → slotsIn bytes ≡ n
+slots-in : (bytes n : ℕ) → n ≤ mostNodes → bytes ≡ slotSize * n → slotsIn bytes ≡ n
 slots-in bytes n room long =
-    let whole : bytes / 202 ≡ n = omega arith in
+    let whole : bytes / slotSize ≡ n = omega arith in
     rw whole (omega arith)
 
 -- Columns that the slots of a whole inbox were read into.
-module _ (slots : ℕ → Option Ballot) (bytes : List ℕ) (n : ℕ) (read : Columns) (room : n ≤ 32)
-    (long : length bytes ≡ 202 * n) (is : read ≡ filled empty slots (slotsIn (length bytes))) where
+module _ (slots : ℕ → Option Ballot) (bytes : List ℕ) (n : ℕ) (read : Columns) (room : n ≤ mostNodes)
+    (long : length bytes ≡ slotSize * n) (is : read ≡ filled empty slots (slotsIn (length bytes))) where
   whole : read ≡ filled empty slots n
   whole = is ∙ ap (filled empty slots) (slots-in (length bytes) n room long)
 
@@ -62,7 +64,7 @@ module _ (run phase : ℕ) (bytes : List ℕ) where
   selections-list q m e = selection-shown run phase (slotAt bytes q) m e .same
 
   -- a slot that is present can be looked up in
-  pub selections-listable : (n : ℕ) (read : Columns) → n ≤ 32 → length bytes ≡ 202 * n
+  pub selections-listable : (n : ℕ) (read : Columns) → n ≤ mostNodes → length bytes ≡ slotSize * n
       → read ≡ filled empty selections (slotsIn (length bytes)) → (q : ℕ) → q < n
       → getD (read .present) q false ≡ true
       → Listable (slotAt bytes q)

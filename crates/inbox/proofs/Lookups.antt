@@ -12,9 +12,11 @@ use lib.ListN.{length, getD, drop}
 use borrow.Author.Tests.{leb-true, leb-false, ne-eqb}
 use Rattle.wire.specs.Entry.{Entry}
 use Rattle.wire.specs.Bytes.{numberAt}
+use Rattle.wire.specs.Sizes.{planSize, historySize}
 use Rattle.message.specs.Bounds.{entriesOk}
 use Rattle.message.specs.Reading.{entriesIn, listedAt}
 use Rattle.message.proofs.EntryLaws.{entries-next}
+use Rattle.message.specs.Layout.{countPlace, entriesPlace, entrySize}
 use Rattle.ballot.specs.Count.{bit, countIf}
 use Rattle.ballot.specs.Ballot.{isEntry}
 use Rattle.inbox.specs.Columns.{historyIn}
@@ -23,17 +25,21 @@ use Rattle.inbox.proofs.Rising.{first-kept}
 
 -- entry i of those from a place on; from place 13 on it is `listedAt`
 abbrev at : List ℕ → ℕ → ℕ → Entry
-at s place i = record { phase = getD s (place + 3 * i) 0; plan = numberAt 2 s (place + 3 * i + 1) }
+at s place i = record {
+  phase = getD s (place + entrySize * i) 0;
+  plan = numberAt planSize s (place + entrySize * i + 1);
+}
 
 -- entry i from the next place on is entry i + 1 from this one
-at-next : (s : List ℕ) (place i : ℕ) → at s (place + 3) i ≡ at s place (suc i)
+at-next : (s : List ℕ) (place i : ℕ) → at s (place + entrySize) i ≡ at s place (suc i)
 at-next s place i =
-    let same : place + 3 + 3 * i ≡ place + 3 * suc i = omega arith in
+    let same : place + entrySize + entrySize * i ≡ place + entrySize * suc i = omega arith in
     rw same
 
-at-first : (s : List ℕ) (place : ℕ) → at s place 0 ≡ record { phase = getD s place 0; plan = numberAt 2 s (place + 1) }
+at-first : (s : List ℕ) (place : ℕ)
+    → at s place 0 ≡ record { phase = getD s place 0; plan = numberAt planSize s (place + 1) }
 at-first s place =
-    let same : place + 3 * 0 ≡ place = omega arith in
+    let same : place + entrySize * 0 ≡ place = omega arith in
     rw same
 
 abbrev phase-of : Entry → ℕ
@@ -46,21 +52,21 @@ module _ (s : List ℕ) where
   count-none p place = refl
 
   count-first : (p : Entry → Bool) (k place : ℕ) → countIf p (entriesIn (suc k) (drop place s))
-      ≡ bit (p (at s place 0)) + countIf p (entriesIn k (drop (place + 3) s))
+      ≡ bit (p (at s place 0)) + countIf p (entriesIn k (drop (place + entrySize) s))
   unfolding countIf
   count-first p k place =
       ap (countIf p) (entries-next k place s)
-      ∙ ap (λ e. bit (p e) + countIf p (entriesIn k (drop (place + 3) s))) (sym (at-first s place))
+      ∙ ap (λ e. bit (p e) + countIf p (entriesIn k (drop (place + entrySize) s))) (sym (at-first s place))
 
   -- one entry more, at the end
   count-more : (p : Entry → Bool) (k place : ℕ) → countIf p (entriesIn (suc k) (drop place s))
       ≡ countIf p (entriesIn k (drop place s)) + bit (p (at s place k))
-  count-more p zero place = omega (arith, count-first p 0 place, count-none p place, count-none p (place + 3))
+  count-more p zero place = omega (arith, count-first p 0 place, count-none p place, count-none p (place + entrySize))
   count-more p (suc k) place = omega (
     arith,
     count-first p (suc k) place,
     count-first p k place,
-    count-more p k (place + 3),
+    count-more p k (place + entrySize),
     ap (λ e. bit (p e)) (at-next s place k),
   )
 
@@ -73,7 +79,7 @@ module _ (s : List ℕ) where
       omega (arith, r .from, ap phase-of (at-first s place))
   phase-from least phase (suc k) place (suc i) ok less =
       let r = first-kept least phase _ _ (rw (entries-next k place s) at ok) in
-      let later = phase-from (getD s place 0 + 1) phase k (place + 3) i (r .rest) (omega arith) in
+      let later = phase-from (getD s place 0 + 1) phase k (place + entrySize) i (r .rest) (omega arith) in
       omega (arith, r .from, later, ap phase-of (at-next s place i))
 
   -- an earlier entry is of an earlier phase
@@ -83,23 +89,24 @@ module _ (s : List ℕ) where
   phases-rise least phase (suc k) place i zero ok before less = absurd (omega arith)
   phases-rise least phase (suc k) place zero (suc j) ok before less =
       let r = first-kept least phase _ _ (rw (entries-next k place s) at ok) in
-      let later = phase-from (getD s place 0 + 1) phase k (place + 3) j (r .rest) (omega arith) in
+      let later = phase-from (getD s place 0 + 1) phase k (place + entrySize) j (r .rest) (omega arith) in
       omega (arith, later, ap phase-of (at-first s place), ap phase-of (at-next s place j))
   phases-rise least phase (suc k) place (suc i) (suc j) ok before less =
       let r = first-kept least phase _ _ (rw (entries-next k place s) at ok) in
-      let earlier = phases-rise (getD s place 0 + 1) phase k (place + 3) i j (r .rest) (omega arith) (omega arith) in
+      let earlier = phases-rise (getD s place 0 + 1) phase k (place + entrySize) i j (r .rest)
+      (omega arith) (omega arith) in
       omega (arith, earlier, ap phase-of (at-next s place i), ap phase-of (at-next s place j))
 
 module _ (slot : List ℕ) (plan phase : ℕ) where
   -- how often the first i entries list the plan at the phase
   abbrev times : ℕ → ℕ
-  times i = countIf (isEntry phase plan) (entriesIn i (drop 13 slot))
+  times i = countIf (isEntry phase plan) (entriesIn i (drop entriesPlace slot))
 
   -- an entry of another phase adds nothing
   other-adds : (i : ℕ) → listedAt slot i .phase ≢ phase → times (suc i) ≡ times i
   other-adds i other =
       let none : bit (isEntry phase plan (listedAt slot i)) ≡ 0 = rw (ne-eqb _ _ other) in
-      omega (arith, count-more slot (isEntry phase plan) i 13, none)
+      omega (arith, count-more slot (isEntry phase plan) i entriesPlace, none)
 
   none-listed : (i : ℕ) → ((j : ℕ) → j < i → listedAt slot j .phase ≢ phase) → times i ≡ 0
   unfolding countIf entriesIn
@@ -117,9 +124,9 @@ module _ (slot : List ℕ) (plan phase : ℕ) where
       rw next (other-adds (i + more) (others (i + more) (omega arith) (omega arith))
       ∙ others-add i more (λ j from less. others j from (omega arith)))
 
-  module _ (ok : entriesOk 0 64 (historyIn slot) ≡ true) where
+  module _ (ok : entriesOk 0 historySize (historyIn slot) ≡ true) where
     abbrev count : ℕ
-    count = getD slot 12 0
+    count = getD slot countPlace 0
 
     -- the last of the first i entries that is not after the phase tells whether one of them lists the plan
     lookup-first : (i : ℕ) → i ≤ count → lookedUp slot plan phase i ≡ ltb 0 (times i)
@@ -139,17 +146,17 @@ module _ (slot : List ℕ) (plan phase : ℕ) where
               arith,
               at-most,
               same,
-              phases-rise slot 0 64 count 13 j i ok less (omega arith),
+              phases-rise slot 0 historySize count entriesPlace j i ok less (omega arith),
             )) in
             let sum : bit (isEntry phase plan (listedAt slot i)) ≡ times (suc i) =
-            omega (arith, count-more slot (isEntry phase plan) i 13, before) in
+            omega (arith, count-more slot (isEntry phase plan) i entriesPlace, before) in
             positive (isEntry phase plan (listedAt slot i)) ∙ ap (ltb 0) sum
         go earlier false after =
             let above : phase < listedAt slot i .phase = leb-false _ _ after in
             earlier ∙ ap (ltb 0) (sym (other-adds i (λ same. omega (arith, above, same))))
 
     -- and no entry after those that can be of the phase does
-    pub lookup-listed : 13 + 3 * count ≤ length slot
+    pub lookup-listed : entriesPlace + entrySize * count ≤ length slot
         → listsIn slot plan phase ≡ ltb 0 (countIf (isEntry phase plan) (historyIn slot))
     lookup-listed fits =
         let k = entriesUntil slot phase in
@@ -159,6 +166,6 @@ module _ (slot : List ℕ) (plan phase : ℕ) where
         ∙ ap (ltb 0) (sym (others-add k more (λ j from less same. omega (
           arith,
           same,
-          phase-from slot 0 64 count 13 j ok (omega arith),
+          phase-from slot 0 historySize count entriesPlace j ok (omega arith),
         )))
         ∙ ap times all)

@@ -11,15 +11,16 @@ use lib.ListN.{length, getD, set, replicate, length-set}
 use lib.Seq.{getD-set-same, getD-set-other}
 use Rattle.wire.specs.Entry.{Entry}
 use Rattle.wire.proofs.Tests.{by-equality}
+use Rattle.crew.specs.Parts.{mostNodes}
 use Rattle.ballot.specs.Count.{gather, push}
 use Rattle.ballot.specs.Ballot.{Ballot}
 use Rattle.inbox.specs.Columns.{Columns, put, filled, slotOf, empty}
 
 -- Columns of n slots: every column has its places, and later slots are absent.
 record Shape (read : Columns) (n : ℕ) : Type 0 where
-  present-long : length (read .present) ≡ 32
-  votes-long : length (read .votes) ≡ 32
-  stamps-long : length (read .stamps) ≡ 32
+  present-long : length (read .present) ≡ mostNodes
+  votes-long : length (read .votes) ≡ mostNodes
+  stamps-long : length (read .stamps) ≡ mostNodes
   absent : (q : ℕ) → n ≤ q → getD (read .present) q false ≡ false
 
 empty-shape : Shape empty 0
@@ -27,7 +28,7 @@ empty-shape = record {
   present-long = refl;
   votes-long = refl;
   stamps-long = refl;
-  absent = λ q more. all-same 32 q false;
+  absent = λ q more. all-same mostNodes q false;
 }
   where
     all-same : {A : Type 0} (n i : ℕ) (a : A) → getD (replicate n a) i a ≡ a
@@ -35,7 +36,8 @@ empty-shape = record {
     all-same (suc n) zero a = refl
     all-same (suc n) (suc i) a = all-same n i a
 
-put-shape : (read : Columns) (n : ℕ) (slot : Option Ballot) → Shape read n → n < 32 → Shape (put read n slot) (suc n)
+put-shape : (read : Columns) (n : ℕ) (slot : Option Ballot) → Shape read n → n < mostNodes
+    → Shape (put read n slot) (suc n)
 put-shape read n none shape room = record {
   present-long = shape .present-long;
   votes-long = shape .votes-long;
@@ -55,14 +57,14 @@ abbrev pub Histories : (ℕ → List Entry) → (ℕ → Option Ballot) → Type
 Histories histories slots = (q : ℕ) (m : Ballot) → slots q ≡ some m → histories q ≡ m .entries
 
 module _ (slots : ℕ → Option Ballot) (histories : ℕ → List Entry) (are : Histories histories slots) where
-  filled-shape : (n : ℕ) → n ≤ 32 → Shape (filled empty slots n) n
+  filled-shape : (n : ℕ) → n ≤ mostNodes → Shape (filled empty slots n) n
   unfolding filled
   filled-shape zero room = empty-shape
   filled-shape (suc n) room =
       put-shape (filled empty slots n) n (slots n) (filled-shape n (omega arith)) (omega arith)
 
   -- the slot that was put says its ballot
-  put-new : (read : Columns) (n : ℕ) → Shape read n → n < 32 → (slot : Option Ballot) → slots n ≡ slot
+  put-new : (read : Columns) (n : ℕ) → Shape read n → n < mostNodes → (slot : Option Ballot) → slots n ≡ slot
       → slotOf (put read n slot) histories n ≡ slot
   put-new read n shape room none e = rw (shape .absent n (omega arith))
   put-new read n shape room (some m) e =
@@ -84,7 +86,7 @@ module _ (slots : ℕ → Option Ballot) (histories : ℕ → List Entry) (are :
       )
 
   -- what the columns say of each slot is its ballot
-  pub columns-mean : (n : ℕ) → n ≤ 32 → (q : ℕ) → q < n → slotOf (filled empty slots n) histories q ≡ slots q
+  pub columns-mean : (n : ℕ) → n ≤ mostNodes → (q : ℕ) → q < n → slotOf (filled empty slots n) histories q ≡ slots q
   unfolding filled
   columns-mean zero room q less = absurd (omega arith)
   columns-mean (suc n) room q less =

@@ -5,7 +5,7 @@ use mathlib.Core.Bool.{Bool, true, _&&_}
 use mathlib.Core.List.{List}
 use mathlib.Core.Logic.{inl, inr}
 use mathlib.Core.Option.{none, some}
-use Prim.Native.Nat.{ℕ, _+_, _*_, _^_, _≤_, _<_}
+use Prim.Native.Nat.{ℕ, _+_, _*_, _≤_, _<_}
 use native.Mathlib.Omega.{arith}
 use native.Mathlib.Decide.{decLt}
 use lib.ListN.{length, getD, take, drop, length-take, List·getD-eq-default}
@@ -14,9 +14,11 @@ use lib.Dec.{leb, ltb, eqb→eq}
 use borrow.Author.Tests.{leb-true}
 use Rattle.wire.specs.Bytes.{AreBytes}
 use Rattle.wire.proofs.Tests.{tests, both-true}
+use Rattle.wire.specs.Sizes.{planLimit, lastPhase}
 use Rattle.message.specs.Fields.{Body, selection, validation, decision}
 use Rattle.message.specs.Bounds.{phaseOk, planOk, entriesOk, bodyOk, BodyFits}
 use Rattle.message.proofs.ReadLaws.{read-passes}
+use Rattle.message.specs.Layout.{slotSize}
 use Rattle.codec.proofs.Read.{encode-of-read}
 use Rattle.ballot.specs.Count.{countIf}
 use Rattle.ballot.specs.Ballot.{Ballot, votes}
@@ -30,13 +32,14 @@ use Rattle.inbox.specs.Inbox.{slotAt, ballotOf, counted, ballotAt, ballo
 -- what a message within the bounds votes for is a plan
 body-plan : (phase : ℕ) (body : Body) → bodyOk phase body ≡ true → 1 ≤ ballotOf body .vote
 body-plan phase (selection vote stamp entries) ok =
-    let all = both-true (planOk vote && ltb stamp phase && leb (length entries) 63) (entriesOk 0 phase entries) ok in
-    let scalars = both-true (planOk vote && ltb stamp phase) (leb (length entries) 63) (all .0) in
+    let all = both-true (planOk vote && ltb stamp phase && leb (length entries) lastPhase)
+    (entriesOk 0 phase entries) ok in
+    let scalars = both-true (planOk vote && ltb stamp phase) (leb (length entries) lastPhase) (all .0) in
     leb-true 1 vote (both-true (planOk vote) (ltb stamp phase) (scalars .0) .0)
 body-plan phase (validation plan) ok = leb-true 1 plan ok
 body-plan phase (decision vote stamp) ok = leb-true 1 vote (both-true (planOk vote) (leb stamp phase) ok .0)
 
-body-fits : (body : Body) → BodyFits body → ballotOf body .vote < 256 ^ 2
+body-fits : (body : Body) → BodyFits body → ballotOf body .vote < planLimit
 body-fits (selection vote stamp entries) fits = fits .0
 body-fits (validation plan) fits = fits
 body-fits (decision vote stamp) fits = fits
@@ -60,25 +63,26 @@ part-bytes s from size bytes place = elim (decLt place size) [
 ]
 
 slot-fits : (d : Node) (inbox : List ℕ) → AreBytes inbox → (q : ℕ) (m : Ballot) → ballotAt d inbox q ≡ some m
-    → m .vote < 256 ^ 2
+    → m .vote < planLimit
 unfolding ballotAt
 slot-fits d inbox bytes q m e =
     let c = counted-message (d .run) (d .phase) (d .round) (slotAt inbox q) m e in
-    let fits = encode-of-read (slotAt inbox q) (c .message) (part-bytes inbox (202 * q) 202 bytes) (c .read) .2 in
-    subst (λ (x : Ballot). x .vote < 256 ^ 2) (c .says) (body-fits (c .message .body) (fits .1))
+    let slot-bytes = part-bytes inbox (slotSize * q) slotSize bytes in
+    let fits = encode-of-read (slotAt inbox q) (c .message) slot-bytes (c .read) .2 in
+    subst (λ (x : Ballot). x .vote < planLimit) (c .says) (body-fits (c .message .body) (fits .1))
 
 -- the ballots whose vote does not fit two bytes
 abbrev tooLarge : Ballot → Bool
-tooLarge m = leb (256 ^ 2) (m .vote)
+tooLarge m = leb (planLimit) (m .vote)
 
 inbox-fits : (d : Node) (inbox : List ℕ) → AreBytes inbox → countIf tooLarge (ballots d inbox) ≡ 0
 inbox-fits d inbox bytes = no-slot-counts (d .crew) (ballotAt d inbox) tooLarge λ q l m e t.
     omega (tests, slot-fits d inbox bytes q m e)
 
 -- what is voted, or 0, fits two bytes
-pub voted-fits : (d : Node) (inbox : List ℕ) → AreBytes inbox → (v : ℕ) → Voted v (ballots d inbox) → v < 256 ^ 2
+pub voted-fits : (d : Node) (inbox : List ℕ) → AreBytes inbox → (v : ℕ) → Voted v (ballots d inbox) → v < planLimit
 voted-fits d inbox bytes v (inl empty) = omega arith
-voted-fits d inbox bytes v (inr voted) = elim (decLt v (256 ^ 2)) [
+voted-fits d inbox bytes v (inr voted) = elim (decLt v (planLimit)) [
   | yes fits ↦ fits
   | no large ↦
       let voters = count-le (votes v) tooLarge (ballots d inbox) λ m t. omega (tests, eqb→eq (m .vote) v t) in

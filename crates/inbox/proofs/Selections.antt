@@ -13,12 +13,14 @@ use borrow.Author.Tests.{leb-true, eqb-true}
 use Rattle.wire.specs.Outcome.{accepted}
 use Rattle.wire.specs.Bytes.{numberAt}
 use Rattle.wire.proofs.Tests.{both-true}
+use Rattle.wire.specs.Sizes.{planSize, lastPhase, historySize}
 use Rattle.message.specs.Fields.{Message}
 use Rattle.message.specs.Bounds.{phaseOk, planOk, bodyOk, entriesOk}
 use Rattle.message.specs.Encoding.{kindOf, sizeOf}
 use Rattle.message.specs.Reading.{kindAt, bodyAt, selectionAt, validationAt, decisionAt, readOf}
 use Rattle.message.proofs.EntryLaws.{entries-count}
 use Rattle.message.proofs.ReadLaws.{read-passes, read-fits}
+use Rattle.message.specs.Layout.{planPlace, stampPlace, countPlace, entriesPlace}
 use Rattle.ballot.specs.Ballot.{Ballot}
 use Rattle.inbox.specs.Inbox.{ballotOf, counted}
 use Rattle.inbox.specs.Columns.{historyIn, Listable}
@@ -49,15 +51,18 @@ message-shown slot m read kind =
     let body = ap (λ (k : Message). k .body) (passes .fields) in
     let is : m .body ≡ selectionAt slot = sym body ∙ selection-body slot (ap kindOf body ∙ kind) in
     let parts = both-true (phaseOk (m .phase)) (bodyOk (m .phase) (m .body)) (passes .in-bounds) in
-    let last : m .phase ≤ 63 = leb-true _ _ (both-true (leb 1 (m .phase)) (leb (m .phase) 63) (parts .0) .1) in
+    let last : m .phase ≤ lastPhase =
+    leb-true _ _ (both-true (leb 1 (m .phase)) (leb (m .phase) lastPhase) (parts .0) .1) in
     let bounds = ap (bodyOk (m .phase)) (sym is) ∙ parts .1 in
-    let scalars = planOk (numberAt 2 slot 9) && ltb (getD slot 11 0) (m .phase) && leb (length (historyIn slot)) 63 in
+    let scalars = planOk (numberAt planSize slot planPlace)
+    && ltb (getD slot stampPlace 0) (m .phase)
+    && leb (length (historyIn slot)) lastPhase in
     let size : sizeOf (selectionAt slot) ≤ length slot = rw is at (read-fits slot m read) in
     record {
       same = sym (ap (λ b. ballotOf b .entries) is);
       listable = (
-        omega (arith, size, entries-count (getD slot 12 0) (drop 13 slot)),
-        ok-later 0 (m .phase) 64 (historyIn slot) (omega arith)
+        omega (arith, size, entries-count (getD slot countPlace 0) (drop entriesPlace slot)),
+        ok-later 0 (m .phase) historySize (historyIn slot) (omega arith)
             (both-true scalars (entriesOk 0 (m .phase) (historyIn slot)) bounds .1),
       );
     }

@@ -10,14 +10,15 @@ use mathlib.Core.Option.{Option, none, some}
 use lib.Dec.{ltb}
 use lib.ListN.{length, getD, set, replicate, drop}
 use Rattle.wire.specs.Entry.{Entry}
+use Rattle.wire.specs.Sizes.{historySize}
+use Rattle.crew.specs.Parts.{mostNodes}
 use Rattle.message.specs.Bounds.{entriesOk}
 use Rattle.message.specs.Reading.{entriesIn}
 use Rattle.message.specs.Lookup.{listsIn}
+use Rattle.message.specs.Layout.{countPlace, entriesPlace, entrySize, slotSize}
 use Rattle.ballot.specs.Count.{gather}
 use Rattle.ballot.specs.Ballot.{Ballot}
 use Rattle.inbox.specs.Inbox.{slotAt}
-use Rattle.inbox.specs.declared.Said.{Said}
-use Rattle.inbox.specs.declared.Said.the-variants.{Ballot as Says, Nothing}
 
 pub record Columns : Type 0 where
   pub present : List Bool
@@ -29,7 +30,7 @@ columns present votes stamps = record { present = present; votes = votes; stamps
 
 -- nothing has been read yet
 abbrev pub empty : Columns
-empty = columns (replicate 32 false) (replicate 32 0) (replicate 32 0)
+empty = columns (replicate mostNodes false) (replicate mostNodes 0) (replicate mostNodes 0)
 
 -- a slot's ballot put into the columns
 abbrev pub put : Columns → ℕ → Option Ballot → Columns
@@ -39,7 +40,7 @@ put before q (some m) =
 
 -- how many slots are read of an inbox of so many bytes: the whole ones, as far as the columns have places
 abbrev pub slotsIn : ℕ → ℕ
-slotsIn bytes = min (bytes / 202) 32
+slotsIn bytes = min (bytes / slotSize) mostNodes
 
 -- the first n slots put into columns
 unfoldable pub filled : Columns → (ℕ → Option Ballot) → ℕ → Columns
@@ -53,11 +54,12 @@ entriesOf (some m) = m .entries
 
 -- the entries of a selection, as they stand in its slot
 abbrev pub historyIn : List ℕ → List Entry
-historyIn slot = entriesIn (getD slot 12 0) (drop 13 slot)
+historyIn slot = entriesIn (getD slot countPlace 0) (drop entriesPlace slot)
 
 -- a slot that a history can be looked up in: its entries have room in it, and their phases rise
 abbrev pub Listable : List ℕ → Type 0
-Listable slot = (13 + 3 * getD slot 12 0 ≤ length slot) × (entriesOk 0 64 (historyIn slot) ≡ true)
+Listable slot = (entriesPlace + entrySize * getD slot countPlace 0 ≤ length slot)
+    × (entriesOk 0 historySize (historyIn slot) ≡ true)
 
 -- the histories of an inbox of selections, by slot
 abbrev pub historiesIn : List ℕ → ℕ → List Entry
@@ -78,11 +80,6 @@ slotOf read histories q = cond (getD (read .present) q false) (some (rowOf read 
 -- the ballots of the first n slots, as the columns have them
 abbrev pub polled : Columns → (ℕ → List Entry) → ℕ → List Ballot
 polled read histories n = gather (slotOf read histories) n
-
--- what an answer of `hear` says of a slot that lists these entries
-abbrev pub saidAs : Said → List Entry → Option Ballot
-saidAs (Says vote stamp) entries = some (record { vote = vote; stamp = stamp; entries = entries })
-saidAs Nothing entries = none
 
 -- slot q, where the inbox has it, lists the plan at the phase
 abbrev pub listsAt : List ℕ → ℕ → ℕ → ℕ → Bool

@@ -9,12 +9,13 @@ use Rattle.wire.specs.Outcome.{Outcome, accepted, refused}
 use Rattle.message.specs.Fields.{Body, selection, validation, decision, Message}
 use Rattle.message.specs.Encoding.{kindOf}
 use Rattle.message.specs.Reading.{readOf}
+use Rattle.message.specs.Layout.{slotSize}
 use Rattle.ballot.specs.Ballot.{Ballot, inbox}
 use Rattle.node.specs.declared.Node.{Node}
 
 -- 01: "An inbox is n slots of 202 bytes; slot q is the part that starts at byte 202 times q"
 abbrev pub slotAt : List ℕ → ℕ → List ℕ
-slotAt bytes q = take 202 (drop (202 * q) bytes)
+slotAt bytes q = take slotSize (drop (slotSize * q) bytes)
 
 -- what a message puts forward: its vote or plan, and its stamp and entries where its kind has them
 abbrev pub ballotOf : Body → Ballot

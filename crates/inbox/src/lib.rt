@@ -1,87 +1,50 @@
 // From an inbox's bytes to columns: the slots are read once, and what those that count say is put into columns, but for
 // the entries, which are looked up in the slots.
 // What a slot says stands in specs/Inbox.antt, the columns in specs/Columns.antt. Crate tally runs the rules over them.
+use crew::MOST_NODES;
+use message::Body;
 use message::Reading;
+use message::SLOT;
 use node::Node;
+use wire::Plan;
 ghost use mathlib.Core.Path.{_≡_};
 ghost use mathlib.Core.Bool.{true};
-ghost use Prim.Native.Nat.{_*_, _<_, _≤_};
+ghost use mathlib.Core.List.{List};
+ghost use mathlib.Core.Option.{some};
+ghost use Prim.Native.Nat.{ℕ, _*_, _<_, _≤_};
 ghost use lib.ListN.{length, set};
-ghost use Rattle.message.specs.Reading.{readOf};
-ghost use Rattle.inbox.specs.Inbox.{slotAt, counted};
-ghost use Rattle.inbox.specs.Columns.{columns, entriesOf, put, slotsIn, filled, listsAt, saidAs};
+ghost use Rattle.crew.specs.Parts.{mostNodes};
+ghost use Rattle.message.specs.Encoding.{kindOf};
+ghost use Rattle.message.specs.Reading.{readOf, bodyAs};
+ghost use Rattle.message.specs.Layout.{slotSize};
+ghost use Rattle.inbox.specs.Inbox.{slotAt, ballotOf, counted};
+ghost use Rattle.inbox.specs.Columns.{columns, put, slotsIn, filled, listsAt};
 
-// 01: "An inbox is n slots of 202 bytes": a selection with all 63 entries fits.
-pub const SLOT: usize = 202;
-// The columns have a place for each node of the largest crew.
-pub const SLOTS: usize = 32;
-
-// What a slot says to a node: a ballot, whose entries stay where they stand, or nothing where it does not count.
-enum Said {
-    Ballot { vote: u16, stamp: u8 },
-    Nothing,
-}
-
-// Kind and coming round are matched here and nowhere else: round k takes kind k.
-fn hear(slot: &[u8], run: u32, phase: u8, round: u8) -> Said
-    ensures { λ r. ⌜ saidAs r (entriesOf (counted run phase round (readOf (now (slot .entry)))))
-        ≡ counted run phase round (readOf (now (slot .entry))) ⌝ }
+// The number of a message's kind.
+fn kind_of(body: Body) -> u16
+    ensures { λ r. ⌜ ((slot : List ℕ) → r ≡ kindOf (bodyAs body slot)) ⌝ }
 {
-    let reading = message::read(slot);
-    match reading {
-        Reading::Selection {
-            run: its_run,
-            phase: its_phase,
-            vote,
-            stamp,
+    match body {
+        Body::Selection {
+            vote: _,
+            stamp: _,
             count: _,
-        } => {
-            let counts = (its_run == run) & (Node::SELECTION == round) & (its_phase == phase);
-            if counts {
-                return Said::Ballot { vote, stamp };
-            }
-            Said::Nothing
-        }
-        Reading::Validation {
-            run: its_run,
-            phase: its_phase,
-            plan,
-        } => {
-            let counts = (its_run == run) & (Node::VALIDATION == round) & (its_phase == phase);
-            if counts {
-                return Said::Ballot {
-                    vote: plan,
-                    stamp: 0,
-                };
-            }
-            Said::Nothing
-        }
-        Reading::Decision {
-            run: its_run,
-            phase: its_phase,
-            vote,
-            stamp,
-        } => {
-            let counts = (its_run == run) & (Node::DECISION == round) & (its_phase == phase);
-            if counts {
-                return Said::Ballot { vote, stamp };
-            }
-            Said::Nothing
-        }
-        Reading::Refused(_) => Said::Nothing,
+        } => message::SELECTION,
+        Body::Validation { plan: _ } => message::VALIDATION,
+        Body::Decision { vote: _, stamp: _ } => message::DECISION,
     }
 }
 
 // Puts a vote and its stamp into the places of slot q.
 fn put_vote(
     q: usize,
-    vote: u16,
+    vote: Plan,
     stamp: u8,
-    present: &mut [bool; 32],
-    votes: &mut [u16; 32],
-    stamps: &mut [u8; 32],
+    present: &mut [bool; MOST_NODES],
+    votes: &mut [Plan; MOST_NODES],
+    stamps: &mut [u8; MOST_NODES],
 )
-    requires { ⌜ q < 32 ⌝ }
+    requires { ⌜ q < mostNodes ⌝ }
     ensures { λ _. ⌜ (now (present .exit) ≡ set (now (present .entry)) q true)
         × (now (votes .exit) ≡ set (now (votes .entry)) q vote)
         × (now (stamps .exit) ≡ set (now (stamps .entry)) q stamp) ⌝ }
@@ -91,35 +54,69 @@ fn put_vote(
     stamps[q] = stamp;
 }
 
-// Puts what a slot says into the columns; a slot that does not count adds nothing.
+// Puts what a message says into the places of slot q. A validation has no stamp; entries stay where they stand.
+fn put_body(
+    q: usize,
+    body: Body,
+    present: &mut [bool; MOST_NODES],
+    votes: &mut [Plan; MOST_NODES],
+    stamps: &mut [u8; MOST_NODES],
+)
+    requires { ⌜ q < mostNodes ⌝ }
+    ensures { λ _. ⌜ ((slot : List ℕ)
+        → columns (now (present .exit)) (now (votes .exit)) (now (stamps .exit))
+        ≡ put (columns (now (present .entry)) (now (votes .entry)) (now (stamps .entry)))
+        q (some (ballotOf (bodyAs body slot)))) ⌝ }
+{
+    match body {
+        Body::Selection {
+            vote,
+            stamp,
+            count: _,
+        } => put_vote(q, vote, stamp, present, votes, stamps),
+        Body::Validation { plan } => put_vote(q, plan, Node::UNSTAMPED, present, votes, stamps),
+        Body::Decision { vote, stamp } => put_vote(q, vote, stamp, present, votes, stamps),
+    }
+}
+
+// Puts what a slot says into the columns. 01: "a slot that reading refuses is simply absent"; and so is one whose run,
+// kind or phase are not those of the coming round. Round k takes kind k.
 fn read_slot(
     slot: &[u8],
     q: usize,
     run: u32,
     phase: u8,
     round: u8,
-    present: &mut [bool; 32],
-    votes: &mut [u16; 32],
-    stamps: &mut [u8; 32],
+    present: &mut [bool; MOST_NODES],
+    votes: &mut [Plan; MOST_NODES],
+    stamps: &mut [u8; MOST_NODES],
 )
-    requires { ⌜ q < 32 ⌝ }
+    requires { ⌜ q < mostNodes ⌝ }
     ensures { λ _. ⌜ columns (now (present .exit)) (now (votes .exit)) (now (stamps .exit))
         ≡ put (columns (now (present .entry)) (now (votes .entry)) (now (stamps .entry)))
         q (counted run phase round (readOf (now (slot .entry)))) ⌝ }
 {
-    let heard = hear(slot, run, phase, round);
-    let Said::Ballot { vote, stamp } = heard else {
+    let reading = message::read(slot);
+    let Reading::Message(message) = reading else {
         return;
     };
-    put_vote(q, vote, stamp, present, votes, stamps);
+    let body = message.body;
+    let counts = (message.run == run) & (kind_of(body) == round as u16) & (message.phase == phase);
+    if counts {
+        put_body(q, body, present, votes, stamps);
+    }
 }
 
 // How many slots of an inbox have a place in the columns; a slot that is not whole is none.
 fn slots_in(length: usize) -> usize
-    ensures { λ r. ⌜ (r ≡ slotsIn length) × (r ≤ 32) × (202 * r ≤ length) ⌝ }
+    ensures { λ r. ⌜ (r ≡ slotsIn length) × (r ≤ mostNodes) × (slotSize * r ≤ length) ⌝ }
 {
     let whole = length / SLOT;
-    if whole < SLOTS { whole } else { SLOTS }
+    if whole < MOST_NODES {
+        whole
+    } else {
+        MOST_NODES
+    }
 }
 
 // Reads the slots of an inbox, once, into the columns. The places of a slot that does not count keep what they had.
@@ -128,9 +125,9 @@ pub fn read_slots(
     run: u32,
     phase: u8,
     round: u8,
-    present: &mut [bool; 32],
-    votes: &mut [u16; 32],
-    stamps: &mut [u8; 32],
+    present: &mut [bool; MOST_NODES],
+    votes: &mut [Plan; MOST_NODES],
+    stamps: &mut [u8; MOST_NODES],
 )
     ensures { λ _. ⌜ columns (now (present .exit)) (now (votes .exit)) (now (stamps .exit))
         ≡ filled (columns (now (present .entry)) (now (votes .entry)) (now (stamps .entry)))
@@ -157,7 +154,7 @@ pub fn read_slots(
 }
 
 // Whether the selection in slot q lists the plan at a phase, for slots that count in a selection: see `message::lists`.
-pub fn lists(inbox: &[u8], q: usize, plan: u16, phase: u8) -> bool
+pub fn lists(inbox: &[u8], q: usize, plan: Plan, phase: u8) -> bool
     ensures { λ r. ⌜ r ≡ listsAt (now (inbox .entry)) q plan phase ⌝ }
 {
     if q < slots_in(inbox.len()) {

@@ -1,14 +1,14 @@
 // Runs every stored script of the drill. The file args has their names; each script's output comes after a line with
 // its name, and the check compares all of it with the file stdout. The scripts stand in data/, which is also the folder
 // scripts of the repository. Two more are made here, for their length alone.
+use drill::MOST_BYTES;
+use drill::MOST_READ;
 use libc::STDOUT_FILENO;
 ghost use mathlib.Core.Path.{_≡_};
+ghost use Prim.Native.Nat.{_+_};
 ghost use lib.ListN.{length};
+ghost use Rattle.drill.specs.Run.{mostBytes};
 
-// One byte more than a script may have, which is enough for the drill to see that it is too long.
-const MOST_READ: usize = 65537;
-
-const LONGEST: usize = 65536;
 // The crew and the plans of the long script: as many bytes as three cuts, so that its last line is whole.
 const HEAD: usize = 24;
 
@@ -38,8 +38,8 @@ fn byte_of_long(i: usize) -> u8 {
     if i < HEAD { head[i] } else { cut[i % CUT] }
 }
 
-fn long_script() -> [u8; 65537]
-    ensures { λ r. ⌜ length r ≡ 65537 ⌝ }
+fn long_script() -> [u8; MOST_READ]
+    ensures { λ r. ⌜ length r ≡ mostBytes + 1 ⌝ }
 {
     let mut script = [0u8; MOST_READ];
     let mut i: usize = 0;
@@ -54,7 +54,7 @@ fn long_script() -> [u8; 65537]
 fn run_long() {
     let script = long_script();
     io::write_all(STDOUT_FILENO, b"65,536 bytes\n");
-    drill::run_whole(&script[..LONGEST]);
+    drill::run_whole(&script[..MOST_BYTES]);
     io::write_all(STDOUT_FILENO, b"65,537 bytes\n");
     drill::run_whole(&script);
 }

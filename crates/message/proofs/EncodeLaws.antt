@@ -6,11 +6,12 @@ use Prim.Native.Nat.{_*_}
 use native.Mathlib.Omega.{arith}
 use lib.ListN.{length}
 use Rattle.wire.specs.Entry.{Entry}
+use Rattle.message.specs.Layout.{entrySize}
 use Rattle.message.specs.Fields.{Body, selection, validation, decision, Message}
 use Rattle.message.specs.Encoding.{kindOf, sizeOf, entryBytes, bodyBytes, header, encode}
 
 -- an entry takes three bytes
-pub entry-bytes-length : (es : List Entry) → length (entryBytes es) ≡ 3 * length es
+pub entry-bytes-length : (es : List Entry) → length (entryBytes es) ≡ entrySize * length es
 unfolding entryBytes
 entry-bytes-length [] = refl
 entry-bytes-length (e ∷ es) = omega (arith, entry-bytes-length es)

@@ -15,18 +15,21 @@ use borrow.Author.Tests.{le-leb, lt-leb, lt-ltb, le-ltb}
 use Rattle.wire.specs.Entry.{Entry}
 use Rattle.wire.specs.Bytes.{numberAt}
 use Rattle.wire.proofs.Tests.{and-false, and-true}
+use Rattle.wire.specs.Sizes.{planSize}
+use Rattle.message.specs.Layout.{entriesPlace, entrySize}
 use Rattle.message.specs.Bounds.{planOk, entriesOk, leastAfter}
 use Rattle.message.specs.Reading.{entriesIn, listedAt}
 
 pub entries-count : (k : ℕ) (s : List ℕ) → length (entriesIn k s) ≡ k
 unfolding entriesIn
 entries-count zero s = refl
-entries-count (suc k) s = ap suc (entries-count k (drop 3 s))
+entries-count (suc k) s = ap suc (entries-count k (drop entrySize s))
 
 -- the first of k + 1 entries at a place, and the others
 pub entries-next : (k place : ℕ) (s : List ℕ)
     → entriesIn (suc k) (drop place s)
-    ≡ record { phase = getD s place 0; plan = numberAt 2 s (place + 1) } ∷ entriesIn k (drop (place + 3) s)
+    ≡ record { phase = getD s place 0; plan = numberAt planSize s (place + 1) }
+    ∷ entriesIn k (drop (place + entrySize) s)
 unfolding entriesIn
 entries-next k place s = simp (getD-drop, drop-drop, add-zero, add-assoc)
 
@@ -63,10 +66,11 @@ broken false phase rest none = refl
 -- What all entries answer; and what is left to test before entry i: that the least phase which it may have is no later
 -- than the message's, and that the entries from i on keep their bounds.
 abbrev whole : (s : List ℕ) → (count phase : ℕ) → Bool
-whole s count phase = entriesOk 0 phase (entriesIn count (drop 13 s))
+whole s count phase = entriesOk 0 phase (entriesIn count (drop entriesPlace s))
 
 abbrev rest : (s : List ℕ) → (count phase i least : ℕ) → Bool
-rest s count phase i least = leb least phase && entriesOk least phase (entriesIn (count - i) (drop (13 + 3 * i) s))
+rest s count phase i least =
+    leb least phase && entriesOk least phase (entriesIn (count - i) (drop (entriesPlace + entrySize * i) s))
 
 -- what is left to test answers for all
 pub record Left (s : List ℕ) (count phase i least : ℕ) : Type 0 where
@@ -80,8 +84,8 @@ module _ {s : List ℕ} {count phase i least : ℕ} (left : Left s count phase i
       ≡ whole s count phase
   step more =
       let some : count - i ≡ suc (count - (i + 1)) = omega arith in
-      let next : 13 + 3 * (i + 1) ≡ 13 + 3 * i + 3 = omega arith in
-      let first = rw (some, entries-next (count - (i + 1)) (13 + 3 * i) s) at (left .same) in
+      let next : entriesPlace + entrySize * (i + 1) ≡ entriesPlace + entrySize * i + entrySize = omega arith in
+      let first = rw (some, entries-next (count - (i + 1)) (entriesPlace + entrySize * i) s) at (left .same) in
       rw next (sym (one-entry least phase _ _) ∙ first)
 
   -- an entry that keeps its bounds leaves those after it

@@ -8,6 +8,7 @@ use native.Mathlib.Omega.{arith}
 use lib.Dec.{eqb}
 use lib.ListN.{length, getD}
 use borrow.Author.Tests.{le-leb, lt-leb}
+use Rattle.message.specs.Layout.{entriesPlace, entrySize}
 use Rattle.message.specs.Reading.{listedAt}
 use Rattle.message.specs.Lookup.{entriesUntil, lookedUp, listsIn}
 
@@ -16,19 +17,19 @@ module _ (s : List ℕ) (plan phase i : ℕ) (more : 0 < i) where
   steps = omega arith
 
   -- the last entry is not after the phase: it tells
-  pub lookup-here : getD s (13 + 3 * (i - 1)) 0 ≤ phase
+  pub lookup-here : getD s (entriesPlace + entrySize * (i - 1)) 0 ≤ phase
       → lookedUp s plan phase i ≡ (eqb (listedAt s (i - 1) .phase) phase && eqb (listedAt s (i - 1) .plan) plan)
   unfolding lookedUp
   lookup-here here = ap (lookedUp s plan phase) steps ∙ rw (le-leb _ _ here)
 
   -- it is after the phase: those before it tell
-  pub lookup-before : phase < getD s (13 + 3 * (i - 1)) 0
+  pub lookup-before : phase < getD s (entriesPlace + entrySize * (i - 1)) 0
       → lookedUp s plan phase i ≡ lookedUp s plan phase (i - 1)
   unfolding lookedUp
   lookup-before after = ap (lookedUp s plan phase) steps ∙ rw (lt-leb _ _ after)
 
 -- bytes that end before the first entry list nothing
-pub short-lists : (s : List ℕ) (plan phase : ℕ) → length s < 13 → false ≡ listsIn s plan phase
+pub short-lists : (s : List ℕ) (plan phase : ℕ) → length s < entriesPlace → false ≡ listsIn s plan phase
 unfolding lookedUp
 short-lists s plan phase short =
     let none : entriesUntil s phase ≡ 0 = omega arith in

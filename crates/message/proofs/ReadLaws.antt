@@ -1,17 +1,18 @@
 -- What reading tells of the bytes that were read, and the other way round: for all three kinds at once.
 -- Assumes nothing.
 use mathlib.Core.Path.{_≡_, refl, sym, ap, _∙_}
-use mathlib.Core.Bool.{Bool, true, false, _&&_}
+use mathlib.Core.Bool.{Bool, true, false, cond, _&&_}
 use mathlib.Core.Logic.{_≢_}
-use mathlib.Core.List.{List}
-use Prim.Native.Nat.{ℕ, _≤_}
+use mathlib.Core.List.{List, []}
+use Prim.Native.Nat.{ℕ, _+_, _*_, _≤_}
 use native.Mathlib.Omega.{arith}
 use lib.Dec.{leb, eqb}
-use lib.ListN.{length}
-use borrow.Author.Tests.{leb-true, eqb-true, eq-eqb}
+use lib.ListN.{length, take, drop}
+use borrow.Author.Tests.{leb-true, eqb-true, eq-eqb, le-leb}
 use Rattle.wire.specs.Outcome.{Outcome, accepted, refused, require}
 use Rattle.wire.proofs.Tests.{both-true}
 use Rattle.wire.proofs.Outcomes.{passed, same-value}
+use Rattle.message.specs.Layout.{headerSize, entriesPlace, entrySize}
 use Rattle.message.specs.Fields.{Message}
 use Rattle.message.specs.Bounds.{within}
 use Rattle.message.specs.Encoding.{sizeOf}
@@ -27,10 +28,17 @@ use Rattle.message.specs.Reading.{
   kindKnown,
   tested,
   readOf,
+  entriesCounted,
+  entriesPartOf,
+  countIn,
+  bodyAs,
 }
+use Rattle.message.specs.declared.Body.{Body as ReadBody}
+use Rattle.message.specs.declared.Body.the-variants.{Selection, Validation, Decision}
+use Rattle.message.proofs.EntryLaws.{entries-count}
 
 -- a framed slice holds a header and the whole message
-pub framed-long : (s : List ℕ) → framed s ≡ true → (9 ≤ length s) × (lengthAt s ≤ length s)
+pub framed-long : (s : List ℕ) → framed s ≡ true → (headerSize ≤ length s) × (lengthAt s ≤ length s)
 framed-long s e =
     let h = both-true _ _ e in
     (leb-true _ _ (both-true _ _ (h .0) .0), leb-true _ _ (h .1))
@@ -99,3 +107,21 @@ pub read-fits : (s : List ℕ) (m : Message) → readOf s ≡ accepted m → siz
 read-fits s m e =
     let p = read-passes s m e in
     omega (arith, p .long, framed-long s (p .is-framed) .1)
+
+-- a message that counts no entries shows an empty part
+none-shown : (s : List ℕ) → entriesCounted s 0 ≡ []
+none-shown s = go (leb (entriesPlace + entrySize * 0) (length s))
+  where
+    go : (room : Bool) → cond room (take 0 (drop entriesPlace s)) [] ≡ []
+    go true = refl
+    go false = refl
+
+-- the part that is shown is that of as many entries as the message counts
+pub part-shown : (s : List ℕ) (run phase : ℕ) (body : ReadBody)
+    → readOf s ≡ accepted (record { run = run; phase = phase; body = bodyAs body s })
+    → entriesCounted s (countIn body) ≡ entriesPartOf s (readOf s)
+part-shown s run phase (Selection vote stamp count) e =
+    let fits = simp entries-count at (read-fits s _ e) in
+    simp (e, entries-count, le-leb _ _ fits)
+part-shown s run phase (Validation plan) e = simp e (none-shown s)
+part-shown s run phase (Decision vote stamp) e = simp e (none-shown s)

@@ -1,17 +1,18 @@
 -- The bounds that a message's fields keep: document 01, 'Messages'.
 -- 01: "Bounds: phase 1 to 63; plans not 0; stamp below the phase in kind 1, at most the phase in kind 3; entries
 -- whose phases rise strictly and are below the message's phase."
-use Prim.Native.Nat.{ℕ, _+_, _^_, _<_}
+use Prim.Native.Nat.{ℕ, _+_, _<_}
 use mathlib.Core.Bool.{Bool, true, cond, _&&_}
 use mathlib.Core.List.{List, [], _∷_}
 use lib.ListN.{length}
 use lib.Dec.{leb, ltb}
 use Rattle.wire.specs.Entry.{Entry}
+use Rattle.wire.specs.Sizes.{planLimit, runLimit, lastPhase}
 use Rattle.message.specs.Fields.{Body, selection, validation, decision, Message}
 
 -- "phase 1 to 63"
 abbrev pub phaseOk : ℕ → Bool
-phaseOk phase = leb 1 phase && leb phase 63
+phaseOk phase = leb 1 phase && leb phase lastPhase
 
 -- "plans not 0"
 abbrev pub planOk : ℕ → Bool
@@ -31,22 +32,22 @@ leastAfter least e = cond (leb least (e .phase) && planOk (e .plan)) (e .phase +
 -- "stamp below the phase in kind 1, at most the phase in kind 3"; "k at most 63"
 abbrev pub bodyOk : ℕ → Body → Bool
 bodyOk phase (selection vote stamp entries) =
-    planOk vote && ltb stamp phase && leb (length entries) 63 && entriesOk 0 phase entries
+    planOk vote && ltb stamp phase && leb (length entries) lastPhase && entriesOk 0 phase entries
 bodyOk phase (validation plan) = planOk plan
 bodyOk phase (decision vote stamp) = planOk vote && leb stamp phase
 
 abbrev pub within : Message → Bool
 within m = phaseOk (m .phase) && bodyOk (m .phase) (m .body)
 
--- the fields fit the bytes that the layout has for them: a run four, a plan two
+-- the fields fit the bytes that the layout has for them
 abbrev pub PlansFit : List Entry → Type 0
 PlansFit [] = Unit {0}
-PlansFit (e ∷ es) = (e .plan < 256 ^ 2) × PlansFit es
+PlansFit (e ∷ es) = (e .plan < planLimit) × PlansFit es
 
 abbrev pub BodyFits : Body → Type 0
-BodyFits (selection vote stamp entries) = (vote < 256 ^ 2) × PlansFit entries
-BodyFits (validation plan) = plan < 256 ^ 2
-BodyFits (decision vote stamp) = vote < 256 ^ 2
+BodyFits (selection vote stamp entries) = (vote < planLimit) × PlansFit entries
+BodyFits (validation plan) = plan < planLimit
+BodyFits (decision vote stamp) = vote < planLimit
 
 abbrev pub Fits : Message → Type 0
-Fits m = (m .run < 256 ^ 4) × BodyFits (m .body)
+Fits m = (m .run < runLimit) × BodyFits (m .body)

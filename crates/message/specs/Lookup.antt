@@ -6,12 +6,13 @@ use mathlib.Core.Bool.{Bool, false, cond, _&&_}
 use mathlib.Core.List.{List}
 use lib.ListN.{length, getD}
 use lib.Dec.{leb, eqb}
+use Rattle.message.specs.Layout.{countPlace, entriesPlace, entrySize}
 use Rattle.message.specs.Reading.{listedAt}
 
 -- how many entries can be of a phase or an earlier one: as many as are counted and have room in the slice, and, since
 -- phases rise from 0, so that entry i is of phase i or a later one, no more than the phase and one
 abbrev pub entriesUntil : List ℕ → ℕ → ℕ
-entriesUntil s phase = min (min (getD s 12 0) ((length s - 13) / 3)) (phase + 1)
+entriesUntil s phase = min (min (getD s countPlace 0) ((length s - entriesPlace) / entrySize)) (phase + 1)
 
 -- of the first i entries, the last that is not after the phase is the plan's at the phase
 unfoldable pub lookedUp : List ℕ → ℕ → ℕ → ℕ → Bool

@@ -7,50 +7,60 @@ use lib.Dec.{leb, ltb, eqb}
 use Rattle.wire.specs.Outcome.{Outcome, accepted, refused, require}
 use Rattle.wire.specs.Entry.{Entry}
 use Rattle.wire.specs.Bytes.{numberAt}
+use Rattle.wire.specs.Sizes.{planSize, runSize}
+use Rattle.message.specs.Layout.{lengthPlace, kindPlace, runPlace, phasePlace, headerSize}
+use Rattle.message.specs.Layout.{planPlace, stampPlace, countPlace, entriesPlace, entrySize}
 use Rattle.message.specs.Fields.{Body, selection, validation, decision, Message}
 use Rattle.message.specs.Bounds.{within}
 use Rattle.message.specs.Encoding.{sizeOf}
 use Rattle.message.specs.declared.Entry.{Entry as ShownEntry}
 use Rattle.message.specs.declared.Refusal.{Refusal}
 use Rattle.message.specs.declared.Refusal.the-variants.{Cut, Kind, Length, Bound}
+use Rattle.message.specs.declared.Body.{Body as ReadBody}
+use Rattle.message.specs.declared.Body.the-variants.{Selection, Validation, Decision}
 use Rattle.message.specs.declared.Reading.{Reading}
-use Rattle.message.specs.declared.Reading.the-variants.{Selection, Validation, Decision, Refused}
+use Rattle.message.specs.declared.Reading.the-variants.{Message as Read, Refused}
 
 -- the header's fields, where the layout has them
 abbrev pub lengthAt : List ℕ → ℕ
-lengthAt s = numberAt 2 s 0
+lengthAt s = numberAt 2 s lengthPlace
 
 abbrev pub kindAt : List ℕ → ℕ
-kindAt s = numberAt 2 s 2
+kindAt s = numberAt 2 s kindPlace
 
 abbrev pub messageWith : List ℕ → Body → Message
-messageWith s body = record { run = numberAt 4 s 4; phase = getD s 8 0; body = body }
+messageWith s body = record { run = numberAt runSize s runPlace; phase = getD s phasePlace 0; body = body }
 
 -- the k entries at the front of a list of bytes
 unfoldable pub entriesIn : ℕ → List ℕ → List Entry
 entriesIn zero s = []
-entriesIn (suc k) s = record { phase = getD s 0 0; plan = numberAt 2 s 1 } ∷ entriesIn k (drop 3 s)
+entriesIn (suc k) s = record { phase = getD s 0 0; plan = numberAt planSize s 1 } ∷ entriesIn k (drop entrySize s)
 
 -- entry i of those that a selection lists, where it stands
 abbrev pub listedAt : List ℕ → ℕ → Entry
-listedAt s i = record { phase = getD s (13 + 3 * i) 0; plan = numberAt 2 s (13 + 3 * i + 1) }
+listedAt s i = record {
+  phase = getD s (entriesPlace + entrySize * i) 0;
+  plan = numberAt planSize s (entriesPlace + entrySize * i + 1);
+}
 
 -- the body that stands after the header, by the kind
 abbrev pub selectionAt : List ℕ → Body
-selectionAt s = selection (numberAt 2 s 9) (getD s 11 0) (entriesIn (getD s 12 0) (drop 13 s))
+selectionAt s =
+    selection (numberAt planSize s planPlace) (getD s stampPlace 0)
+    (entriesIn (getD s countPlace 0) (drop entriesPlace s))
 
 abbrev pub validationAt : List ℕ → Body
-validationAt s = validation (numberAt 2 s 9)
+validationAt s = validation (numberAt planSize s planPlace)
 
 abbrev pub decisionAt : List ℕ → Body
-decisionAt s = decision (numberAt 2 s 9) (getD s 11 0)
+decisionAt s = decision (numberAt planSize s planPlace) (getD s stampPlace 0)
 
 unfoldable pub bodyAt : List ℕ → Body
 bodyAt s = cond (eqb (kindAt s) 1) (selectionAt s) (cond (eqb (kindAt s) 2) (validationAt s) (decisionAt s))
 
 -- 01: "10 slice under 9 bytes, length under 9, or length beyond the slice"
 abbrev pub framed : List ℕ → Bool
-framed s = leb 9 (length s) && leb 9 (lengthAt s) && leb (lengthAt s) (length s)
+framed s = leb headerSize (length s) && leb headerSize (lengthAt s) && leb (lengthAt s) (length s)
 
 -- 01: "11 kind not 1 to 3"
 abbrev pub kindKnown : List ℕ → Bool
@@ -73,11 +83,12 @@ readOf s =
 
 -- the bytes of so many entries, where the slice holds them
 abbrev pub entriesCounted : List ℕ → ℕ → List ℕ
-entriesCounted s count = cond (leb (13 + 3 * count) (length s)) (take (3 * count) (drop 13 s)) []
+entriesCounted s count =
+    cond (leb (entriesPlace + entrySize * count) (length s)) (take (entrySize * count) (drop entriesPlace s)) []
 
 -- 01: "the entries as a part of the caller's slice: an empty part for kinds 2 and 3 and where reading refuses"
 abbrev pub entriesPart : List ℕ → Body → List ℕ
-entriesPart s (selection vote stamp entries) = take (3 * length entries) (drop 13 s)
+entriesPart s (selection vote stamp entries) = take (entrySize * length entries) (drop entriesPlace s)
 entriesPart s (validation plan) = []
 entriesPart s (decision vote stamp) = []
 
@@ -88,8 +99,8 @@ entriesPartOf s (refused number) = []
 -- entry i of such a part, where it has one
 abbrev pub entryAt : List ℕ → ℕ → Entry
 entryAt part i =
-    cond (ltb i (length part / 3))
-    (record { phase = getD part (3 * i) 0; plan = numberAt 2 part (3 * i + 1) })
+    cond (ltb i (length part / entrySize))
+    (record { phase = getD part (entrySize * i) 0; plan = numberAt planSize part (entrySize * i + 1) })
     (record { phase = 0; plan = 0 })
 
 abbrev pub entryAs : ShownEntry → Entry
@@ -102,10 +113,19 @@ number Kind = 11
 number Length = 12
 number Bound = 13
 
--- what an answer of `read` says of the slice, in 01's terms; the entries themselves stand in the slice
+-- how many entries a declared body counts
+abbrev pub countIn : ReadBody → ℕ
+countIn (Selection vote stamp count) = count
+countIn (Validation plan) = 0
+countIn (Decision vote stamp) = 0
+
+-- what a declared body says, in 01's terms; the entries themselves stand in the slice
+abbrev pub bodyAs : ReadBody → List ℕ → Body
+bodyAs (Selection vote stamp count) s = selection vote stamp (entriesIn count (drop entriesPlace s))
+bodyAs (Validation plan) s = validation plan
+bodyAs (Decision vote stamp) s = decision vote stamp
+
+-- what an answer of `read` says of the slice
 abbrev pub answered : Reading → List ℕ → Outcome Message
-answered (Selection run phase vote stamp count) s =
-    accepted (record { run = run; phase = phase; body = selection vote stamp (entriesIn count (drop 13 s)) })
-answered (Validation run phase plan) s = accepted (record { run = run; phase = phase; body = validation plan })
-answered (Decision run phase vote stamp) s = accepted (record { run = run; phase = phase; body = decision vote stamp })
+answered (Read m) s = accepted (record { run = m .run; phase = m .phase; body = bodyAs (m .body) s })
 answered (Refused why) s = refused (number why)

@@ -2,11 +2,18 @@
 // What a slice is read to stands in specs/Reading.antt, a message's bytes in specs/Encoding.antt, its bounds in
 // specs/Bounds.antt, looking an entry up in specs/Lookup.antt. Crate writer writes messages; that reading and writing
 // undo each other is proved in crate codec.
+use wire::LAST_PHASE;
+use wire::PLAN_SIZE;
+use wire::Plan;
+use wire::RUN_SIZE;
 ghost use mathlib.Core.Path.{_≡_};
 ghost use Prim.Native.Nat.{_+_, _*_, _<_, _≤_, min};
 ghost use lib.ListN.{length, getD, drop};
-ghost use Rattle.wire.specs.Outcome.{require};
+ghost use Rattle.wire.specs.Outcome.{accepted, require};
 ghost use Rattle.wire.specs.Bytes.{numberAt};
+ghost use Rattle.wire.specs.Sizes.{planSize, runSize};
+ghost use Rattle.message.specs.Layout.{runPlace, headerSize, planPlace, stampPlace};
+ghost use Rattle.message.specs.Layout.{countPlace, entriesPlace, entrySize};
 ghost use Rattle.message.specs.Bounds.{phaseOk, planOk, entriesOk, leastAfter, within};
 ghost use Rattle.message.specs.Reading.{
   lengthAt,
@@ -25,46 +32,48 @@ ghost use Rattle.message.specs.Reading.{
   entriesPartOf,
   entryAt,
   entryAs,
+  countIn,
+  bodyAs,
   answered as readAs,
 };
 ghost use Rattle.message.specs.Lookup.{entriesUntil, listsIn};
 
-// The layout. 01: "Header of 9 bytes: length (2, counting every byte of the message), kind (2), run (4), phase (1)."
-const HEADER: usize = 9;
-
+// Where the fields stand: specs/Layout.antt has 01's sentences.
 pub const LENGTH_AT: usize = 0;
 
-pub const KIND_AT: usize = 2;
+pub const KIND_AT: usize = LENGTH_AT + 2;
 
-pub const RUN_AT: usize = 4;
+pub const RUN_AT: usize = KIND_AT + 2;
 
-pub const PHASE_AT: usize = 8;
+pub const PHASE_AT: usize = RUN_AT + RUN_SIZE;
+
+const HEADER: usize = PHASE_AT + 1;
 // The vote of a selection or decision, the plan of a validation.
-pub const PLAN_AT: usize = 9;
+pub const PLAN_AT: usize = HEADER;
 
-pub const STAMP_AT: usize = 11;
+pub const STAMP_AT: usize = PLAN_AT + PLAN_SIZE;
 
-pub const COUNT_AT: usize = 12;
+pub const COUNT_AT: usize = STAMP_AT + 1;
 
-pub const ENTRIES_AT: usize = 13;
-// An entry is a phase (1) and a plan (2).
-pub const ENTRY_SIZE: usize = 3;
+pub const ENTRIES_AT: usize = COUNT_AT + 1;
+// An entry is a phase and a plan.
+pub const ENTRY_SIZE: usize = 1 + PLAN_SIZE;
+// A selection with all its entries is the longest message; a slot of an inbox has room for it.
+pub const SLOT: usize = ENTRIES_AT + ENTRY_SIZE * (LAST_PHASE as usize);
 
-// The kinds and their lengths; a selection is as long as its entries make it.
+// The kinds, and their lengths where a field of the message is to be compared with one; a selection is as long as its
+// entries make it.
 pub const SELECTION: u16 = 1;
 
 pub const VALIDATION: u16 = 2;
 
 pub const DECISION: u16 = 3;
 
-pub const VALIDATION_LENGTH: u16 = 11;
+pub const VALIDATION_LENGTH: u16 = (PLAN_AT + PLAN_SIZE) as u16;
 
-pub const DECISION_LENGTH: u16 = 12;
+pub const DECISION_LENGTH: u16 = (STAMP_AT + 1) as u16;
 
-pub const SELECTION_LENGTH: u16 = 13;
-
-// The last phase of a run. A message lists entries of earlier phases only, so no more of them than this.
-const LAST_PHASE: u8 = 63;
+pub const SELECTION_LENGTH: u16 = ENTRIES_AT as u16;
 
 // Why reading refuses; `number` in specs/Reading.antt has 01's numbers.
 pub enum Refusal {
@@ -75,33 +84,29 @@ pub enum Refusal {
     Bound,
 }
 
-// What reading a slice answers: the fields of a message, of a history only how many entries there are, or a refusal.
+// What a message says, by its kind. Of a history only how many entries there are: they stay where they stand.
+pub enum Body {
+    Selection { vote: Plan, stamp: u8, count: u8 },
+    Validation { plan: Plan },
+    Decision { vote: Plan, stamp: u8 },
+}
+
+pub struct Message {
+    pub run: u32,
+    pub phase: u8,
+    pub body: Body,
+}
+
+// What reading a slice answers.
 pub enum Reading {
-    Selection {
-        run: u32,
-        phase: u8,
-        vote: u16,
-        stamp: u8,
-        count: u8,
-    },
-    Validation {
-        run: u32,
-        phase: u8,
-        plan: u16,
-    },
-    Decision {
-        run: u32,
-        phase: u8,
-        vote: u16,
-        stamp: u8,
-    },
+    Message(Message),
     Refused(Refusal),
 }
 
 // An entry of a history: the plan of a phase.
 pub struct Entry {
     pub phase: u8,
-    pub plan: u16,
+    pub plan: Plan,
 }
 
 fn wide(x: u8) -> u16
@@ -110,20 +115,27 @@ fn wide(x: u8) -> u16
     x as u16
 }
 
-// The little-endian number of two bytes from a place on.
+// The number of two bytes from a place on.
 fn u16_at(s: &[u8], place: usize) -> u16
-    requires { ⌜ place + 1 < length (now s) ⌝ }
+    requires { ⌜ place + 2 ≤ length (now s) ⌝ }
     ensures { λ r. ⌜ r ≡ numberAt 2 (now (s .entry)) place ⌝ }
 {
-    wide(s[place]) + 256 * wide(s[place + 1])
+    wire::u16_of(s[place], s[place + 1])
 }
 
-// The run, the one number of four bytes.
-fn run_at(s: &[u8]) -> u32
-    requires { ⌜ 9 ≤ length (now s) ⌝ }
-    ensures { λ r. ⌜ r ≡ numberAt 4 (now (s .entry)) 4 ⌝ }
+// The plan that stands from a place on.
+fn plan_at(s: &[u8], place: usize) -> Plan
+    requires { ⌜ place + planSize ≤ length (now s) ⌝ }
+    ensures { λ r. ⌜ r ≡ numberAt planSize (now (s .entry)) place ⌝ }
 {
-    (u16_at(s, RUN_AT) as u32) + 65536 * (u16_at(s, RUN_AT + 2) as u32)
+    wire::plan_of(s[place], s[place + 1])
+}
+
+fn run_of(s: &[u8]) -> u32
+    requires { ⌜ headerSize ≤ length (now s) ⌝ }
+    ensures { λ r. ⌜ r ≡ numberAt runSize (now (s .entry)) runPlace ⌝ }
+{
+    wire::u32_of(s[RUN_AT], s[RUN_AT + 1], s[RUN_AT + 2], s[RUN_AT + 3])
 }
 
 // The slice holds a header, and as many bytes as its length says.
@@ -134,7 +146,10 @@ fn is_framed(s: &[u8]) -> bool
         return false;
     }
     let size = u16_at(s, LENGTH_AT) as usize;
-    (HEADER <= size) & (size <= s.len())
+    if size < HEADER {
+        return false;
+    }
+    size <= s.len()
 }
 
 // Whether a message may have this phase.
@@ -145,7 +160,7 @@ pub fn is_phase(phase: u8) -> bool
 }
 
 // Whether a number is a plan: 0 means none.
-pub fn is_plan(plan: u16) -> bool
+pub fn is_plan(plan: Plan) -> bool
     ensures { λ r. ⌜ r ≡ planOk plan ⌝ }
 {
     1 <= plan
@@ -154,7 +169,7 @@ pub fn is_plan(plan: u16) -> bool
 // The least phase that the entry after entry i may have; 0 where entry i breaks a bound: its phase is before `least`,
 // or it has no plan.
 fn least_after(s: &[u8], i: usize, least: u16) -> u16
-    requires { ⌜ 13 + 3 * (i + 1) ≤ length (now s) ⌝ }
+    requires { ⌜ entriesPlace + entrySize * (i + 1) ≤ length (now s) ⌝ }
     ensures { λ r. ⌜ r ≡ leastAfter least (listedAt (now (s .entry)) i) ⌝ }
 {
     let place = ENTRIES_AT + ENTRY_SIZE * i;
@@ -162,7 +177,7 @@ fn least_after(s: &[u8], i: usize, least: u16) -> u16
     if phase < least {
         return 0;
     }
-    if u16_at(s, place + 1) == 0 {
+    if plan_at(s, place + 1) == 0 {
         return 0;
     }
     phase + 1
@@ -170,8 +185,8 @@ fn least_after(s: &[u8], i: usize, least: u16) -> u16
 
 // The entries' phases rise strictly and stay below the message's, and no entry is empty.
 fn are_entries(s: &[u8], count: usize, phase: u16) -> bool
-    requires { ⌜ 13 + 3 * count ≤ length (now s) ⌝ }
-    ensures { λ r. ⌜ r ≡ entriesOk 0 phase (entriesIn count (drop 13 (now (s .entry)))) ⌝ }
+    requires { ⌜ entriesPlace + entrySize * count ≤ length (now s) ⌝ }
+    ensures { λ r. ⌜ r ≡ entriesOk 0 phase (entriesIn count (drop entriesPlace (now (s .entry)))) ⌝ }
 {
     // The least phase that the next entry may have.
     let mut least: u16 = 0;
@@ -201,34 +216,51 @@ fn are_entries(s: &[u8], count: usize, phase: u16) -> bool
 }
 
 fn is_selection(s: &[u8]) -> bool
-    requires { ⌜ (13 ≤ length (now s)) × (13 + 3 * getD (now s) 12 0 ≤ length (now s)) ⌝ }
+    requires { ⌜ (entriesPlace ≤ length (now s))
+        × (entriesPlace + entrySize * getD (now s) countPlace 0 ≤ length (now s)) ⌝ }
     ensures { λ r. ⌜ r ≡ within (messageWith (now (s .entry)) (selectionAt (now (s .entry)))) ⌝ }
 {
     let count = wide(s[COUNT_AT]) as usize;
     is_phase(s[PHASE_AT])
-        & (is_plan(u16_at(s, PLAN_AT))
+        & (is_plan(plan_at(s, PLAN_AT))
             & (s[STAMP_AT] < s[PHASE_AT])
             & (s[COUNT_AT] <= LAST_PHASE)
             & are_entries(s, count, wide(s[PHASE_AT])))
 }
 
 fn is_validation(s: &[u8]) -> bool
-    requires { ⌜ 11 ≤ length (now s) ⌝ }
+    requires { ⌜ planPlace + planSize ≤ length (now s) ⌝ }
     ensures { λ r. ⌜ r ≡ within (messageWith (now (s .entry)) (validationAt (now (s .entry)))) ⌝ }
 {
-    is_phase(s[PHASE_AT]) & is_plan(u16_at(s, PLAN_AT))
+    if is_phase(s[PHASE_AT]) {
+        return is_plan(plan_at(s, PLAN_AT));
+    }
+    false
 }
 
 fn is_decision(s: &[u8]) -> bool
-    requires { ⌜ 12 ≤ length (now s) ⌝ }
+    requires { ⌜ stampPlace + 1 ≤ length (now s) ⌝ }
     ensures { λ r. ⌜ r ≡ within (messageWith (now (s .entry)) (decisionAt (now (s .entry)))) ⌝ }
 {
-    is_phase(s[PHASE_AT]) & (is_plan(u16_at(s, PLAN_AT)) & (s[STAMP_AT] <= s[PHASE_AT]))
+    is_phase(s[PHASE_AT]) & (is_plan(plan_at(s, PLAN_AT)) & (s[STAMP_AT] <= s[PHASE_AT]))
+}
+
+// The message of a framed slice that says this.
+fn message_of(s: &[u8], body: Body) -> Reading
+    requires { ⌜ headerSize ≤ length (now s) ⌝ }
+    ensures { λ r. ⌜ readAs r (now (s .entry))
+        ≡ accepted (messageWith (now (s .entry)) (bodyAs body (now (s .entry)))) ⌝ }
+{
+    Reading::Message(Message {
+        run: run_of(s),
+        phase: s[PHASE_AT],
+        body: body,
+    })
 }
 
 // A framed slice of kind 1.
 fn read_selection(s: &[u8]) -> Reading
-    requires { ⌜ (9 ≤ length (now s)) × (lengthAt (now s) ≤ length (now s)) ⌝ }
+    requires { ⌜ (headerSize ≤ length (now s)) × (lengthAt (now s) ≤ length (now s)) ⌝ }
     ensures { λ r. ⌜ readAs r (now (s .entry)) ≡ tested (now (s .entry)) (selectionAt (now (s .entry))) ⌝ }
 {
     let size = u16_at(s, LENGTH_AT);
@@ -236,15 +268,12 @@ fn read_selection(s: &[u8]) -> Reading
     if size < SELECTION_LENGTH {
         return Reading::Refused(Refusal::Length);
     }
-    if size == SELECTION_LENGTH + 3 * wide(s[COUNT_AT]) {
+    if size == SELECTION_LENGTH + (ENTRY_SIZE as u16) * wide(s[COUNT_AT]) {
         if is_selection(s) {
-            Reading::Selection {
-                run: run_at(s),
-                phase: s[PHASE_AT],
-                vote: u16_at(s, PLAN_AT),
-                stamp: s[STAMP_AT],
-                count: s[COUNT_AT],
-            }
+            let vote = plan_at(s, PLAN_AT);
+            let stamp = s[STAMP_AT];
+            let count = s[COUNT_AT];
+            message_of(s, Body::Selection { vote, stamp, count })
         } else {
             Reading::Refused(Refusal::Bound)
         }
@@ -255,16 +284,13 @@ fn read_selection(s: &[u8]) -> Reading
 
 // A framed slice of kind 2.
 fn read_validation(s: &[u8]) -> Reading
-    requires { ⌜ (9 ≤ length (now s)) × (lengthAt (now s) ≤ length (now s)) ⌝ }
+    requires { ⌜ (headerSize ≤ length (now s)) × (lengthAt (now s) ≤ length (now s)) ⌝ }
     ensures { λ r. ⌜ readAs r (now (s .entry)) ≡ tested (now (s .entry)) (validationAt (now (s .entry))) ⌝ }
 {
     if u16_at(s, LENGTH_AT) == VALIDATION_LENGTH {
         if is_validation(s) {
-            Reading::Validation {
-                run: run_at(s),
-                phase: s[PHASE_AT],
-                plan: u16_at(s, PLAN_AT),
-            }
+            let plan = plan_at(s, PLAN_AT);
+            message_of(s, Body::Validation { plan })
         } else {
             Reading::Refused(Refusal::Bound)
         }
@@ -275,17 +301,14 @@ fn read_validation(s: &[u8]) -> Reading
 
 // A framed slice of kind 3.
 fn read_decision(s: &[u8]) -> Reading
-    requires { ⌜ (9 ≤ length (now s)) × (lengthAt (now s) ≤ length (now s)) ⌝ }
+    requires { ⌜ (headerSize ≤ length (now s)) × (lengthAt (now s) ≤ length (now s)) ⌝ }
     ensures { λ r. ⌜ readAs r (now (s .entry)) ≡ tested (now (s .entry)) (decisionAt (now (s .entry))) ⌝ }
 {
     if u16_at(s, LENGTH_AT) == DECISION_LENGTH {
         if is_decision(s) {
-            Reading::Decision {
-                run: run_at(s),
-                phase: s[PHASE_AT],
-                vote: u16_at(s, PLAN_AT),
-                stamp: s[STAMP_AT],
-            }
+            let vote = plan_at(s, PLAN_AT);
+            let stamp = s[STAMP_AT];
+            message_of(s, Body::Decision { vote, stamp })
         } else {
             Reading::Refused(Refusal::Bound)
         }
@@ -296,7 +319,7 @@ fn read_decision(s: &[u8]) -> Reading
 
 // A framed slice, by its kind.
 fn read_kind(s: &[u8]) -> Reading
-    requires { ⌜ (9 ≤ length (now s)) × (lengthAt (now s) ≤ length (now s)) ⌝ }
+    requires { ⌜ (headerSize ≤ length (now s)) × (lengthAt (now s) ≤ length (now s)) ⌝ }
     ensures { λ r. ⌜ readAs r (now (s .entry))
         ≡ require (kindKnown (now (s .entry))) 11 (tested (now (s .entry)) (bodyAt (now (s .entry)))) ⌝ }
 {
@@ -337,30 +360,31 @@ fn entries_counted(s: &[u8], count: u8) -> &[u8]
     }
 }
 
+// How many entries a message counts; only selections have any.
+fn count_of(body: Body) -> u8
+    ensures { λ r. ⌜ r ≡ countIn body ⌝ }
+{
+    match body {
+        Body::Selection {
+            vote: _,
+            stamp: _,
+            count,
+        } => count,
+        Body::Validation { plan: _ } => 0,
+        Body::Decision { vote: _, stamp: _ } => 0,
+    }
+}
+
 // The bytes of the entries that reading finds, as a part of the slice. Its contents are promised, not its place.
 pub fn entries(s: &[u8]) -> &[u8]
     ensures { λ r. ⌜ now r ≡ entriesPartOf (now (s .entry)) (readOf (now (s .entry))) ⌝ }
 {
     let reading = read(s);
     match reading {
-        Reading::Selection {
-            run: _,
-            phase: _,
-            vote: _,
-            stamp: _,
-            count,
-        } => entries_counted(s, count),
-        Reading::Validation {
-            run: _,
-            phase: _,
-            plan: _,
-        } => &s[..0],
-        Reading::Decision {
-            run: _,
-            phase: _,
-            vote: _,
-            stamp: _,
-        } => &s[..0],
+        Reading::Message(message) => {
+            let body = message.body;
+            entries_counted(s, count_of(body))
+        }
         Reading::Refused(_) => &s[..0],
     }
 }
@@ -373,7 +397,7 @@ pub fn entry_at(part: &[u8], i: usize) -> Entry
         let place = ENTRY_SIZE * i;
         Entry {
             phase: part[place],
-            plan: u16_at(part, place + 1),
+            plan: plan_at(part, place + 1),
         }
     } else {
         Entry { phase: 0, plan: 0 }
@@ -389,8 +413,9 @@ fn lower(a: usize, b: usize) -> usize
 // How many entries can be of a phase or an earlier one: phases rise from 0, so that entry i is of phase i or a later
 // one. A slice that reading refuses may count more entries than it has room for.
 fn entries_until(s: &[u8], phase: u8) -> usize
-    requires { ⌜ 13 ≤ length (now s) ⌝ }
-    ensures { λ r. ⌜ (r ≡ entriesUntil (now (s .entry)) phase) × (13 + 3 * r ≤ length (now (s .entry))) ⌝ }
+    requires { ⌜ entriesPlace ≤ length (now s) ⌝ }
+    ensures { λ r. ⌜ (r ≡ entriesUntil (now (s .entry)) phase)
+        × (entriesPlace + entrySize * r ≤ length (now (s .entry))) ⌝ }
 {
     let room = (s.len() - ENTRIES_AT) / ENTRY_SIZE;
     let held = lower(wide(s[COUNT_AT]) as usize, room);
@@ -399,15 +424,15 @@ fn entries_until(s: &[u8], phase: u8) -> usize
 
 // The entries are looked at where they stand, from the last that can be of the phase back to the first that is not
 // later.
-fn look_up(s: &[u8], plan: u16, phase: u8) -> bool
-    requires { ⌜ 13 ≤ length (now s) ⌝ }
+fn look_up(s: &[u8], plan: Plan, phase: u8) -> bool
+    requires { ⌜ entriesPlace ≤ length (now s) ⌝ }
     ensures { λ r. ⌜ r ≡ listsIn (now (s .entry)) plan phase ⌝ }
 {
     let mut i = entries_until(s, phase);
     while 0 < i {
         let place = ENTRIES_AT + ENTRY_SIZE * (i - 1);
         if s[place] <= phase {
-            return (s[place] == phase) & (u16_at(s, place + 1) == plan);
+            return (s[place] == phase) & (plan_at(s, place + 1) == plan);
         }
         i = i - 1;
     }
@@ -416,7 +441,7 @@ fn look_up(s: &[u8], plan: u16, phase: u8) -> bool
 
 // Whether a selection that reading accepts lists the plan at a phase. It is not read again: the look-up goes by the
 // phases' rising, which reading has tested. Of other bytes it tells what `listsIn` says, which nobody asks.
-pub fn lists(s: &[u8], plan: u16, phase: u8) -> bool
+pub fn lists(s: &[u8], plan: Plan, phase: u8) -> bool
     ensures { λ r. ⌜ r ≡ listsIn (now (s .entry)) plan phase ⌝ }
 {
     if s.len() < ENTRIES_AT {

@@ -24,7 +24,7 @@ use Rattle.ballot.proofs.Locked.{Core, Takes, outside-lock-at-most-E, lock-take
 use Rattle.model.specs.Node.{Node, Round, selecting, validating, deciding, say, turn}
 use Rattle.model.specs.Run.{Each, State, Inboxes, roundAfter, step, Faithful, Decides}
 use Rattle.model.proofs.Node.{ifPlan-is}
-use Rattle.model.proofs.Run.{heard, Locking}
+use Rattle.model.proofs.Run.{Locking}
 
 -- the rounds that class 1 has
 abbrev pub InClassOne : Round → Type 0
@@ -72,7 +72,7 @@ module _ (crew : Crew) (honest : ℕ → Bool) (few : FewLiars crew honest)
     ample = l .ample;
     says = λ q lq k m e.
         let d = l .members q lq k in
-        let m-is = heard one crew honest i s f p lp hp q lq (d .0) m e in
+        let m-is = f .said p lp hp q lq (d .0) m e in
         (sym (says-vote crew (s .round) o (s .phase) q (s .node q) m m-is) ∙ d .1, omega arith);
   }
 
@@ -113,7 +113,7 @@ module _ (crew : Crew) (honest : ℕ → Bool) (few : FewLiars crew honest)
         members = λ q lq k.
             let a = and-T (honest q) (voter q) k in
             let h = holds-T (votes v) (i p q) (a .1) in
-            let m-is = heard one crew honest i s f p lp hp q lq (a .0) (h .0) (h .1) in
+            let m-is = f .said p lp hp q lq (a .0) (h .0) (h .1) in
             (a .0, says-vote crew (s .round) o (s .phase) q (s .node q) (h .0) m-is ∙ eqb→eq _ _ (h .2));
       }
 

@@ -1,13 +1,14 @@
 -- The drill's example of document 01 as a run of the abstract engine: it computes to 5 5 5, it meets the premises, and
 -- its nodes decide, so the theorems are not about nothing. Assumes nothing.
-use mathlib.Core.Path.{_≡_, refl, sym, ap, _∙_}
+use mathlib.Core.Path.{_≡_, refl, _∙_}
 use mathlib.Core.Bool.{Bool, true, false, cond}
 use mathlib.Core.List.{List, [], _∷_, map}
-use mathlib.Core.Logic.{inr, _≢_}
+use mathlib.Core.Logic.{_≢_}
 use mathlib.Core.Option.{none, some}
 use Prim.Native.Nat.{ℕ, zero, suc, _<_}
 use native.Mathlib.Omega.{arith}
-use lib.Dec.{T, ltb}
+use lib.Dec.{ltb}
+use Rattle.crew.specs.Parts.{crewOf}
 use Rattle.crew.specs.Acceptance.{acceptOf}
 use Rattle.ballot.specs.Count.{tally, countIf, gather}
 use Rattle.ballot.specs.Ballot.{Ballot, lists}
@@ -29,7 +30,7 @@ speech (suc (suc j)) = record { vote = 5; stamp = 1; entries = [] }
 -- input "3 4 1 0 3", "5 5 5 0", three "go": everybody hears the three honest nodes, and the fourth says nothing
 abbrev drill : Run
 drill = record {
-  crew = record { class = 3; n = 4; b = 1; f = 0; d = 3 };
+  crew = crewOf 3 4 1 0 3;
   honest = λ q. ltb q 3;
   plans = λ q. 5;
   rounds = λ j p q. cond (ltb q 3) (some (speech j)) none;
@@ -52,9 +53,9 @@ says-speech (suc zero) q l = refl
 says-speech (suc (suc zero)) q l = refl
 says-speech (suc (suc (suc j))) q l = absurd (omega arith)
 
-heard-speech : (b : Bool) (m : Ballot) → T b → cond b (some m) none ≡ some m
-heard-speech true m t = refl
-heard-speech false m t = absurd t
+heard-speech : (b : Bool) (k m : Ballot) → cond b (some k) none ≡ some m → some k ≡ some m
+heard-speech true k m e = e
+heard-speech false k m e = absurd (not-none e)
 
 speech-plan : (b : Bool) (j : ℕ) (m : Ballot) → cond b (some (speech j)) none ≡ some m → m .vote ≢ 0
 speech-plan false j m e z = not-none e
@@ -67,8 +68,9 @@ unfolding acceptOf tally
 drill-admissible = record {
   crew-accepted = refl;
   few = omega arith;
-  faithful = λ j held p lp hp q lq hq.
-      inr (heard-speech (ltb q 3) (speech j) hq ∙ sym (says-speech j q (held .0)));
+  faithful = λ j held. record {
+    said = λ p lp hp q lq hq m e. says-speech j q (held .0) ∙ heard-speech (ltb q 3) (speech j) m e;
+  };
   plans = λ j held p lp hp q lq m e. speech-plan (ltb q 3) j m e;
 }
 

@@ -16,7 +16,7 @@ use Rattle.crew.specs.Thresholds.{Class, one, two, three, anyAbove, validAbove}
 use Rattle.ballot.specs.Count.{tally, countIf, holds}
 use Rattle.ballot.specs.Ballot.{Ballot, inbox, votes, lists}
 use Rattle.ballot.specs.Selection.{selection, taken}
-use Rattle.ballot.specs.Validation.{validated}
+use Rattle.ballot.specs.Validation.{validates, validated}
 use Rattle.ballot.specs.Decision.{fresh, decides}
 use Rattle.ballot.proofs.Tests.{and-T, T-and, T-holds}
 use Rattle.ballot.proofs.Counting.{count-gather, tally-le, tally-meet, tally-not, tally-some, Same}
@@ -28,10 +28,26 @@ use Rattle.ballot.proofs.Order.{taken-same}
 use Rattle.ballot.proofs.Circle.{circle-counts, answers-one, answers-two, answers-three}
 use Rattle.model.specs.Node.{Node, Round, selecting, validating, deciding, number, entriesBelow}
 use Rattle.model.specs.Run.{Each, State, Inboxes, turned, step, saying}
-use Rattle.model.proofs.Node.{ifPlan-is, confirms-is, lists-below}
+use Rattle.model.proofs.Node.{ifPlan-is, turn-says, confirms-is, lists-below}
 use Rattle.model.proofs.Run.{at}
 use Rattle.model.proofs.Invariant.{Invariant, listers}
 use Rattle.model.proofs.Phases.{Unstamped}
+
+-- What a class asks of the crew: in class 3 what validation asks passes 4b + 2f, so that a stamp is listed.
+abbrev pub Strong : Class → Crew → Type 0
+Strong one crew = Unit {0}
+Strong two crew = Unit {0}
+Strong three crew = 4 * crew .b + 2 * crew .f < validAbove crew
+
+-- the circle's nodes that validate in this phase are enough: twice their number passes what validation asks
+abbrev CanValidate : Crew → (ℕ → Bool) → ℕ → Type 0
+CanValidate crew circle phase = validAbove crew < 2 * tally (λ q. circle q && validates crew phase q) (crew .n)
+
+-- What a class asks of the circle: in classes 2 and 3 that it can validate. Class 1 has no round 2.
+abbrev pub CircleValidates : Class → Crew → (ℕ → Bool) → ℕ → Type 0
+CircleValidates one crew circle phase = Unit {0}
+CircleValidates two crew circle phase = CanValidate crew circle phase
+CircleValidates three crew circle phase = CanValidate crew circle phase
 
 -- each circle node's slot, in each circle node's inbox, holds what that node says
 abbrev pub Hears : Class → Crew → (ℕ → Bool) → Inboxes → State → Type 0
@@ -67,23 +83,25 @@ module _ (crew : Crew) (circle : ℕ → Bool) (wide : crew .n ≤ tally circle 
             λ p lp kp. taken-same crew (inbox crew (i p)) (inbox crew (i q)) (alike .same p lp kp q lq kq) class,
           )
 
-  -- Validation: where all of the circle have selected v, each of them validates it.
+  -- Validation: where all of the circle have selected v, and enough of them validate, each of them validates it.
   all-validated : (class : Class) (i : Inboxes) (phase : ℕ) (nodes : ℕ → Node) (v : ℕ)
-      → validAbove crew < 2 * (crew .n - crew .b - crew .f) → v ≢ 0
+      → CanValidate crew circle phase → v ≢ 0
       → Hears class crew circle i (at phase validating nodes) → Each crew circle (λ q. nodes q .select ≡ v)
       → Each crew circle (λ p. validated crew (inbox crew (i p)) ≡ v)
   all-validated class i phase nodes v enough plan hears select p lp kp =
-      let many = circle-passes crew (i p) (votes v) circle wide (λ q lq kq. (_, says q lq kq)) λ q lq kq m e.
-      omega (tests, select q lq kq, same-vote (same-ballot (sym (says q lq kq) ∙ e))) in
-      valid-validated crew phase (i p) v (omega arith)
+      let many = tally-le (λ q. circle q && validates crew phase q) (λ q. holds (votes v) (i p q)) (crew .n) λ q lq k.
+      let both = and-T (circle q) (validates crew phase q) k in
+      let voted : T (eqb (nodes q .select) v) = omega (tests, select q lq (both .0)) in
+      T-holds (votes v) (i p q) (spoken q) (says q lq (both .0) (both .1)) voted in
+      valid-validated crew phase (i p) v (omega (arith, count-gather (votes v) (i p) (crew .n)))
     where
       spoken : ℕ → Ballot
       spoken q = record { vote = nodes q .select; stamp = 0; entries = [] }
 
-      says : (q : ℕ) → q < crew .n → T (circle q) → i p q ≡ some (spoken q)
-      says q lq kq = elim (ifPlan-is {A = Option Ballot} (nodes q .select) (some (spoken q)) none) [
+      says : (q : ℕ) → q < crew .n → T (circle q) → T (validates crew phase q) → i p q ≡ some (spoken q)
+      says q lq kq turn = elim (ifPlan-is {A = Option Ballot} (nodes q .select) (some (spoken q)) none) [
         | inl z ↦ absurd (plan (omega (arith, select q lq kq)))
-        | inr z ↦ hears p lp kp q lq kq ∙ z .1
+        | inr z ↦ hears p lp kp q lq kq ∙ turn-says (validates crew phase q) turn ∙ z .1
       ]
 
   -- Decision: where all of the circle say v, in classes 2 and 3 with the phase as stamp, each of them decides it.
@@ -124,15 +142,15 @@ module _ (crew : Crew) (circle : ℕ → Bool) (wide : crew .n ≤ tally circle 
       )
 
   -- Classes 2 and 3: three rounds, where selection answers.
-  three-rounds : (class : Class) → Stamps class → validAbove crew < 2 * (crew .n - crew .b - crew .f)
-      → (i e g : Inboxes) (phase : ℕ) (nodes : ℕ → Node)
+  three-rounds : (class : Class) → Stamps class → (i e g : Inboxes) (phase : ℕ) (nodes : ℕ → Node)
+      → CanValidate crew circle phase
       → (let nodes₁ = turned class crew i phase selecting nodes in
       Hears class crew circle i (at phase selecting nodes) → Alike crew circle i
       → Each crew circle (λ p. Answers (selection class crew (inbox crew (i p))))
       → Hears class crew circle e (at phase validating nodes₁)
       → Hears class crew circle g (at phase deciding (turned class crew e phase validating nodes₁))
       → CircleDecides class crew circle phase g)
-  three-rounds class stamps enough i e g phase nodes h alike answers h₂ h₃ =
+  three-rounds class stamps i e g phase nodes enough h alike answers h₂ h₃ =
       let one = one-plan class i phase nodes h alike answers in
       go (one .0) (one .1) (one .2)
     where
@@ -154,7 +172,7 @@ module _ (crew : Crew) (circle : ℕ → Bool) (wide : crew .n ≤ tally circle 
 
   -- Class 3: selection answers, for the circle's highest stamp is listed by more than b of the circle.
   module _ (honest : ℕ → Bool) (inside : Each crew circle (λ q. T (honest q)))
-      (strong : 4 * crew .b + 2 * crew .f < validAbove crew)
+      (strong : Strong three crew)
       (above : anyAbove three crew < crew .n - crew .b - crew .f)
       (phase : ℕ) (nodes : ℕ → Node) (j : Invariant crew honest (at phase selecting nodes)) (i : Inboxes)
       (h : Hears three crew circle i (at phase selecting nodes)) (alike : Alike crew circle i)
@@ -211,21 +229,21 @@ module _ (crew : Crew) (circle : ℕ → Bool) (wide : crew .n ≤ tally circle 
 
   -- Classes 2 and 3: a good phase.
   pub good-rounds : (class : Class) → Stamps class → (honest : ℕ → Bool) → Each crew circle (λ q. T (honest q))
-      → 4 * crew .b + 2 * crew .f < validAbove crew → validAbove crew < 2 * (crew .n - crew .b - crew .f)
-      → anyAbove class crew < crew .n - crew .b - crew .f
-      → (i e g : Inboxes) (phase : ℕ) (round : Round) (nodes : ℕ → Node) → round ≡ selecting
+      → Strong class crew → anyAbove class crew < crew .n - crew .b - crew .f
+      → (i e g : Inboxes) (phase : ℕ) (round : Round) (nodes : ℕ → Node)
+      → CircleValidates class crew circle phase → round ≡ selecting
       → (let s = at phase round nodes in Invariant crew honest s → Hears class crew circle i s → Alike crew circle i
       → Hears class crew circle e (step class crew i s)
       → Hears class crew circle g (step class crew e (step class crew i s))
       → CircleDecides class crew circle phase g)
-  good-rounds class a honest inside strong enough above i e g phase validating nodes r j h alike h₂ h₃ =
+  good-rounds class a honest inside strong above i e g phase validating nodes enough r j h alike h₂ h₃ =
       absurd (omega (arith, ap number r))
-  good-rounds class a honest inside strong enough above i e g phase deciding nodes r j h alike h₂ h₃ =
+  good-rounds class a honest inside strong above i e g phase deciding nodes enough r j h alike h₂ h₃ =
       absurd (omega (arith, ap number r))
-  good-rounds one a honest inside strong enough above i e g phase selecting nodes r j h alike h₂ h₃ = absurd a
-  good-rounds two a honest inside strong enough above i e g phase selecting nodes r j h alike h₂ h₃ =
-      three-rounds two a enough i e g phase nodes h alike
+  good-rounds one a honest inside strong above i e g phase selecting nodes enough r j h alike h₂ h₃ = absurd a
+  good-rounds two a honest inside strong above i e g phase selecting nodes enough r j h alike h₂ h₃ =
+      three-rounds two a i e g phase nodes enough h alike
       (λ p lp kp. answers-two crew (i p) circle wide (λ q lq kq. (_, h p lp kp q lq kq)) above) h₂ h₃
-  good-rounds three a honest inside strong enough above i e g phase selecting nodes r j h alike h₂ h₃ =
-      three-rounds three a enough i e g phase nodes h alike
+  good-rounds three a honest inside strong above i e g phase selecting nodes enough r j h alike h₂ h₃ =
+      three-rounds three a i e g phase nodes enough h alike
       (highest-answers honest inside strong above phase nodes j i h alike) h₂ h₃

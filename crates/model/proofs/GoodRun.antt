@@ -1,45 +1,49 @@
 -- A good phase of a run: what the circle hears in each of its rounds, and that it decides. Assumes nothing.
 use mathlib.Core.Path.{_≡_, refl, sym, ap, _∙_, subst}
-use mathlib.Core.Bool.{Bool}
+use mathlib.Core.Bool.{Bool, _&&_}
 use mathlib.Core.Logic.{inl, inr}
 use mathlib.Core.Option.{Option, none, some}
-use Prim.Native.Nat.{ℕ, suc, _+_, _*_, _≤_, _<_}
+use Prim.Native.Nat.{ℕ, suc, _≤_, _<_}
 use native.Mathlib.Omega.{arith}
 use lib.Dec.{T}
+use Rattle.wire.specs.Sizes.{spentPhase}
+use Rattle.crew.specs.Thresholds.{Class, one, two, three}
 use Rattle.crew.proofs.Facts.{Accepts, accepts, quorum-positive, circle-decides, size-above}
 use Rattle.crew.proofs.Facts.{circle-above-any, circle-validates}
+use Rattle.ballot.specs.Count.{tally}
 use Rattle.ballot.specs.Ballot.{Ballot, inbox}
+use Rattle.ballot.specs.Validation.{validates}
+use Rattle.ballot.proofs.Tests.{T-and}
+use Rattle.ballot.proofs.Counting.{tally-le}
 use Rattle.ballot.proofs.Decision.{Stamps}
 use Rattle.ballot.proofs.Slots.{not-none}
 use Rattle.ballot.proofs.Order.{same-inboxes}
-use Rattle.crew.specs.Thresholds.{validAbove}
 use Rattle.model.specs.Node.{selecting, deciding}
-use Rattle.model.specs.Run.{Each, step, saying, spent, Run, class, state, Held, DecidesAt, Admissible, Good}
+use Rattle.model.specs.Run.{Each, step, saying, Run, class, state, Held, DecidesAt, Admissible, Good}
 use Rattle.model.proofs.Invariant.{Invariant}
 use Rattle.model.proofs.Phases.{Unstamped, class-cases, Stands, next}
 use Rattle.model.proofs.Phases.{decision-next, validation-next, decision-then, phase-begins}
-use Rattle.model.proofs.GoodPhase.{Hears, Alike, CircleDecides, two-rounds, good-rounds}
+use Rattle.model.proofs.GoodPhase.{Strong, CircleValidates, Hears, Alike, CircleDecides}
+use Rattle.model.proofs.GoodPhase.{two-rounds, good-rounds}
 use Rattle.model.proofs.Results.{no-zero-votes}
 
-module _ (run : Run) (ok : Admissible run) (phase : ℕ) (early : phase < spent) (circle : ℕ → Bool)
+module _ (run : Run) (ok : Admissible run) (phase : ℕ) (early : phase < spentPhase) (circle : ℕ → Bool)
     (good : Good run phase circle) where
   facts : Accepts (run .crew)
   facts = accepts (run .crew) (ok .crew-accepted)
 
   hears : (j : ℕ) → state run j .phase ≡ phase → Hears (class run) (run .crew) circle (run .rounds j) (state run j)
-  hears j e p lp kp q lq kq =
-      let held : Held run j = (good .listed j e, omega arith) in
-      elim (ok .faithful j held p lp (good .inside p lp kp) q lq (good .inside q lq kq)) [
-        | inl z ↦ go says refl z
-        | inr z ↦ z
-      ]
+  hears j e p lp kp q lq kq = go (run .rounds j p q) says refl refl
     where
       says : Option Ballot
       says = saying (class run) (run .crew) (state run j) q
 
-      go : (o : Option Ballot) → says ≡ o → run .rounds j p q ≡ none → run .rounds j p q ≡ says
-      go none s z = z ∙ sym s
-      go (some m) s z = absurd (good .counts j e p lp kp q lq kq (λ x. not-none (sym x ∙ s)) z)
+      go : (slot o : Option Ballot) → run .rounds j p q ≡ slot → says ≡ o → run .rounds j p q ≡ says
+      go (some m) o z s =
+          let held : Held run j = (good .listed j e, omega arith) in
+          z ∙ sym (ok .faithful j held .said p lp (good .inside p lp kp) q lq (good .inside q lq kq) m z)
+      go none none z s = z ∙ sym s
+      go none (some m) z s = absurd (good .counts j e p lp kp q lq kq (λ x. not-none (sym x ∙ s)) z)
 
   alike : (j : ℕ) → Stands run j phase selecting → Alike (run .crew) circle (run .rounds j)
   alike j s = record {
@@ -49,6 +53,26 @@ module _ (run : Run) (ok : Admissible run) (phase : ℕ) (early : phase < spent)
     plans = λ p lp kp.
         no-zero-votes run ok p lp (good .inside p lp kp) j (good .listed j (s .0), omega (arith, s .0));
   }
+
+  -- What acceptance gives by the class.
+
+  strong : (class : Class) → Strong class (run .crew)
+  strong one = tt
+  strong two = tt
+  strong three = omega (arith, size-above facts)
+
+  -- all of the circle validate in any phase, and they are at least n − b − f
+  can-validate : (class : Class) (t : ℕ) → CircleValidates class (run .crew) circle t
+  can-validate class t = go class
+    where
+      all : tally circle (run .crew .n) ≤ tally (λ q. circle q && validates (run .crew) t q) (run .crew .n)
+      all = tally-le circle (λ q. circle q && validates (run .crew) t q) (run .crew .n) λ q lq k.
+          T-and (circle q) (validates (run .crew) t q) k tt
+
+      go : (class : Class) → CircleValidates class (run .crew) circle t
+      go one = tt
+      go two = omega (arith, circle-validates facts, good .wide, all)
+      go three = omega (arith, circle-validates facts, good .wide, all)
 
   -- every node of the circle decides in this phase
   abbrev Decides : Type 0
@@ -95,11 +119,11 @@ module _ (run : Run) (ok : Admissible run) (phase : ℕ) (early : phase < spent)
     good-later a inv =
         let s₂ = validation-next run a j phase early s in
         let s₃ = decision-then run (suc j) phase early s₂ in
-        let strong : 4 * run .crew .b + 2 * run .crew .f < validAbove (run .crew) = omega (arith, size-above facts) in
         let d = good-rounds (run .crew) circle (good .wide) (quorum-positive facts) (circle-decides facts) (class run) a
-        (run .honest) (good .inside) strong (circle-validates facts) (circle-above-any facts)
+        (run .honest) (good .inside) (strong (class run)) (circle-above-any facts)
         (run .rounds j) (run .rounds (suc j)) (run .rounds (suc (suc j))) (state run j .phase) (state run j .round)
-        (state run j .node) (s .1) inv (hears j (s .0)) (alike j s) (second j s (s₂ .0)) (third j s (s₂ .0) (s₃ .0)) in
+        (state run j .node) (can-validate (class run) (state run j .phase)) (s .1) inv
+        (hears j (s .0)) (alike j s) (second j s (s₂ .0)) (third j s (s₂ .0) (s₃ .0)) in
         decided (suc (suc j)) s₃ (at-phase j (suc (suc j)) (s .0) (s₃ .0) d)
 
   -- the invariant is asked for in classes 2 and 3 alone

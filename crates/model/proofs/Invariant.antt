@@ -8,6 +8,7 @@ use Prim.Native.Nat.{ℕ, suc, _+_, _*_, _≤_, _<_}
 use native.Mathlib.Omega.{arith}
 use lib.ListN.{length, getD, length-replicate}
 use lib.Dec.{T, eqb}
+use Rattle.wire.specs.Sizes.{lastPhase, spentPhase, historySize}
 use Rattle.wire.specs.Plan.{ifPlan}
 use Rattle.wire.proofs.Tests.{tests}
 use Rattle.crew.specs.declared.Crew.{Crew}
@@ -15,7 +16,7 @@ use Rattle.crew.specs.Thresholds.{Class, one, two, three, validAbove}
 use Rattle.ballot.specs.Count.{tally, holds}
 use Rattle.ballot.specs.Ballot.{Ballot, inbox, votes}
 use Rattle.ballot.specs.Selection.{taken}
-use Rattle.ballot.specs.Validation.{validated}
+use Rattle.ballot.specs.Validation.{validates, validated}
 use Rattle.ballot.specs.Decision.{decision}
 use Rattle.ballot.proofs.Tests.{and-T, T-and, holds-T}
 use Rattle.ballot.proofs.Counting.{count-gather, tally-le, tally-split}
@@ -24,10 +25,10 @@ use Rattle.ballot.proofs.Validation.{validated-slots, validated-unique}
 use Rattle.ballot.proofs.Decision.{Stamps}
 use Rattle.model.specs.Node.{Node, Round, selecting, validating, deciding, number}
 use Rattle.model.specs.Node.{begin, selects, confirms, settles}
-use Rattle.model.specs.Run.{Each, State, Inboxes, turned, step, Faithful, spent, start}
-use Rattle.model.proofs.Node.{ifPlan-is, confirms-is, said-plan, begins-blank}
+use Rattle.model.specs.Run.{Each, State, Inboxes, turned, step, Faithful, start}
+use Rattle.model.proofs.Node.{ifPlan-is, confirms-is, said-plan, said-turn, begins-blank}
 use Rattle.model.proofs.Node.{kept-length, kept-other, kept-here}
-use Rattle.model.proofs.Run.{at, heard}
+use Rattle.model.proofs.Run.{at}
 
 -- One node.
 
@@ -60,7 +61,7 @@ pub record NodeOk (phase : ℕ) (round : Round) (d : Node) : Type 0 where
   pub stamped : StampOk round (d .stamp) phase
   pub voted : VoteOk round d
   pub blank : (x : ℕ) → Unselected round phase x → getD (d .history) x 0 ≡ 0
-  pub long : length (d .history) ≡ spent
+  pub long : length (d .history) ≡ historySize
   pub recorded : Recorded round phase d
 
 node-begins : (v : ℕ) → NodeOk 1 selecting (begin v)
@@ -68,11 +69,11 @@ node-begins v = record {
   stamped = omega arith;
   voted = refl;
   blank = λ x l. begins-blank v x l;
-  long = ap suc (length-replicate {A = ℕ} 63 0);
+  long = ap suc (length-replicate {A = ℕ} lastPhase 0);
   recorded = tt;
 }
 
-node-selects : (phase v : ℕ) (d : Node) → phase < spent → NodeOk phase selecting d
+node-selects : (phase v : ℕ) (d : Node) → phase < spentPhase → NodeOk phase selecting d
     → NodeOk phase validating (selects phase v d)
 node-selects phase v d t o = record {
   stamped = o .stamped;
@@ -128,7 +129,7 @@ invariant-begins crew honest plans = record {
 
 module _ (class : Class) (crew : Crew) (honest : ℕ → Bool) (few : FewLiars crew honest) (i : Inboxes) (phase : ℕ)
     (nodes : ℕ → Node) where
-  invariant-selects : phase < spent → Invariant crew honest (at phase selecting nodes)
+  invariant-selects : phase < spentPhase → Invariant crew honest (at phase selecting nodes)
       → Invariant crew honest (at phase validating (turned class crew i phase selecting nodes))
   invariant-selects t j = record {
     begun = j .begun;
@@ -151,8 +152,8 @@ module _ (class : Class) (crew : Crew) (honest : ℕ → Bool) (few : FewLiars c
     pub slot-selected : Each crew honest λ p. Each crew honest λ q. (m : Ballot)
         → i p q ≡ some m → (nodes q .select ≢ 0) × (nodes q .select ≡ m .vote)
     slot-selected p lp hp q lq hq m e =
-        let h = heard class crew honest i (at phase validating nodes) f p lp hp q lq hq m e in
-        let b = said-plan (nodes q .select) h in
+        let h = f .said p lp hp q lq hq m e in
+        let b = said-plan (nodes q .select) (said-turn (validates crew phase q) h .1) in
         (b .0, omega (arith, same-vote (b .1)))
 
     -- two honest nodes that validate a plan in this round validate the same one
@@ -230,7 +231,7 @@ unique-in-round class crew honest few i phase validating nodes e f =
 unique-in-round class crew honest few i phase deciding nodes e f = absurd (omega (arith, ap number e))
 
 pub invariant-step : (class : Class) → Stamps class → (crew : Crew) (honest : ℕ → Bool) → FewLiars crew honest
-    → (i : Inboxes) (phase : ℕ) (round : Round) (nodes : ℕ → Node) → phase < spent
+    → (i : Inboxes) (phase : ℕ) (round : Round) (nodes : ℕ → Node) → phase < spentPhase
     → Invariant crew honest (at phase round nodes) → Faithful class crew honest i (at phase round nodes)
     → Invariant crew honest (step class crew i (at phase round nodes))
 invariant-step one a crew honest few i phase selecting nodes t j f = absurd a

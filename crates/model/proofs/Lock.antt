@@ -26,7 +26,7 @@ use Rattle.ballot.proofs.Locked.{Core, Takes, lock-taken-two, lock-taken-three}
 use Rattle.model.specs.Node.{Node, Round, selecting, validating, deciding, number, entriesSaid}
 use Rattle.model.specs.Run.{Each, State, Inboxes, turned, step, Faithful, Decides, start}
 use Rattle.model.proofs.Node.{confirms-is, said-lists, kept-keeps, begins-blank}
-use Rattle.model.proofs.Run.{at, heard, Locking}
+use Rattle.model.proofs.Run.{at, Locking}
 use Rattle.model.proofs.Invariant.{Invariant, invariant-begins, invariant-step, slot-selected}
 
 -- between selection and validation a node has selected the locked plan, or none
@@ -84,7 +84,7 @@ module _ (class : Class) (stamps : Stamps class) (crew : Crew) (honest : ℕ →
         }
 
         from : (a : ℕ) → a < crew .n → T (honest a) → (m : Ballot) → i q a ≡ some m → spoken a ≡ m
-        from a la ha m e = same-ballot (heard class crew honest i (at phase selecting nodes) f q lq hq a la ha m e)
+        from a la ha m e = same-ballot (f .said q lq hq a la ha m e)
 
         shown : Core crew (i q) v (l .since)
         shown = record {
@@ -211,7 +211,7 @@ module _ (class : Class) (stamps : Stamps class) (crew : Crew) (honest : ℕ →
         let x = and-T (honest q) (holds voter (i p q)) t in
         let h = holds-T voter (i p q) (x .1) in
         let y = and-T (fresh class phase (h .0)) (votes v (h .0)) (h .2) in
-        let b = same-ballot (heard class crew honest i (at phase deciding nodes) f p lp hp q lq (x .0) (h .0) (h .1)) in
+        let b = same-ballot (f .said p lp hp q lq (x .0) (h .0) (h .1)) in
         let stamp = fresh-stamp class stamps phase (h .0) (y .0) in
         let base = j .each q lq (x .0) .voted in
         (x .0, omega (tests, same-vote b), omega (arith, same-stamp b))

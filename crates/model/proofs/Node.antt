@@ -4,7 +4,7 @@ use mathlib.Core.Path.{_≡_, refl, sym, ap, _∙_}
 use mathlib.Core.Bool.{Bool, true, false, cond}
 use mathlib.Core.List.{List, [], _∷_, _++_}
 use mathlib.Core.Logic.{_⊎_, inl, inr, _≢_}
-use mathlib.Core.Option.{none, some}
+use mathlib.Core.Option.{Option, none, some}
 use Prim.Native.Nat.{ℕ, zero, suc, _+_, _<_}
 use native.Mathlib.Omega.{arith}
 use native.Mathlib.Decide.{ℕ-discrete, decLt}
@@ -12,6 +12,7 @@ use lib.ListN.{length, getD, set, replicate, length-set}
 use lib.Seq.{getD-set-same, getD-set-other, set-out}
 use lib.Dec.{T, eqb, eqb→eq, ltb→lt}
 use borrow.Author.Tests.{eqb-true, eqb-false}
+use Rattle.wire.specs.Sizes.{lastPhase}
 use Rattle.wire.specs.Plan.{ifPlan}
 use Rattle.wire.proofs.Tests.{tests}
 use Rattle.wire.specs.Entry.{Entry}
@@ -37,6 +38,15 @@ said-plan {a} v e = elim (ifPlan-is v (some a) none) [
   | inl z ↦ absurd (not-none (sym (z .1) ∙ e))
   | inr z ↦ (z .0, same-ballot (sym (z .1) ∙ e))
 ]
+
+-- a node that says something only where it is its turn
+pub said-turn : {o : Option Ballot} {m : Ballot} (turn : Bool) → cond turn o none ≡ some m → T turn × (o ≡ some m)
+said-turn true e = (tt, e)
+said-turn false e = absurd (not-none e)
+
+pub turn-says : {o : Option Ballot} (turn : Bool) → T turn → cond turn o none ≡ o
+turn-says true t = refl
+turn-says false t = absurd t
 
 -- What validation does to base and stamp together.
 pub confirms-is : (v phase base stamp : ℕ)
@@ -173,6 +183,6 @@ zeros zero x = refl
 zeros (suc n) zero = refl
 zeros (suc n) (suc x) = zeros n x
 
-pub begins-blank : (v x : ℕ) → 0 < x → getD (v ∷ replicate 63 0) x 0 ≡ 0
+pub begins-blank : (v x : ℕ) → 0 < x → getD (v ∷ replicate lastPhase 0) x 0 ≡ 0
 begins-blank v zero h = absurd (omega arith)
-begins-blank v (suc x) h = zeros 63 x
+begins-blank v (suc x) h = zeros lastPhase x

@@ -1,33 +1,21 @@
 -- Agreement from a lock: what one round must keep, and what then holds of every list of rounds.
 -- Builds on specs/Run.antt. Assumes nothing.
-use mathlib.Core.Path.{_≡_, refl, sym, _∙_, subst}
+use mathlib.Core.Path.{_≡_, refl, sym, subst}
 use mathlib.Core.Bool.{Bool, true, false, cond}
-use mathlib.Core.Logic.{inl, inr}
-use mathlib.Core.Option.{some}
 use Prim.Native.Nat.{ℕ, zero, suc, _≤_, _<_}
 use native.Mathlib.Omega.{arith}
 use native.Mathlib.Decide.{ℕ-discrete, decLe}
 use lib.Dec.{T, ltb}
 use borrow.Author.Tests.{ltb-true, ltb-false}
+use Rattle.wire.specs.Sizes.{spentPhase}
 use Rattle.crew.specs.declared.Crew.{Crew}
 use Rattle.crew.specs.Thresholds.{Class}
-use Rattle.ballot.specs.Ballot.{Ballot}
 use Rattle.model.specs.Node.{Node, Round}
-use Rattle.model.specs.Run.{Each, State, Inboxes, step, saying, Faithful, Decides, spent, start}
+use Rattle.model.specs.Run.{Each, State, Inboxes, step, Faithful, Decides, start}
 use Rattle.model.specs.Run.{Run, class, state, Held, DecidesAt}
-use Rattle.ballot.proofs.Slots.{not-none}
 
 abbrev pub at : ℕ → Round → (ℕ → Node) → State
 at phase round nodes = record { phase = phase; round = round; node = nodes }
-
--- what stands in an honest slot is what its node says
-pub heard : (class : Class) (crew : Crew) (honest : ℕ → Bool) (i : Inboxes) (s : State)
-    → Faithful class crew honest i s → Each crew honest λ p. Each crew honest λ q.
-    (m : Ballot) → i p q ≡ some m → saying class crew s q ≡ some m
-heard class crew honest i s f p lp hp q lq hq m e = elim (f p lp hp q lq hq) [
-  | inl z ↦ absurd (not-none (sym z ∙ e))
-  | inr z ↦ sym z ∙ e
-]
 
 -- An invariant, and a lock on a plan. A start has the invariant, and the lock where all begin with one plan; a round
 -- keeps both; what is decided is locked; and under a lock nothing else is decided.
@@ -36,7 +24,7 @@ pub record Locking (class : Class) (crew : Crew) (honest : ℕ → Bool) : Type 
   pub Lock : ℕ → State → Type 0
   pub begins : (plans : ℕ → ℕ) → Inv (start plans)
   pub common : (plans : ℕ → ℕ) (v : ℕ) → Each crew honest (λ q. plans q ≡ v) → Lock v (start plans)
-  pub inv-step : (i : Inboxes) (s : State) → s .phase < spent → Inv s → Faithful class crew honest i s
+  pub inv-step : (i : Inboxes) (s : State) → s .phase < spentPhase → Inv s → Faithful class crew honest i s
       → Inv (step class crew i s)
   pub lock-step : (i : Inboxes) (s : State) → Inv s → Faithful class crew honest i s
       → (v : ℕ) → Lock v s → Lock v (step class crew i s)
@@ -47,15 +35,15 @@ pub record Locking (class : Class) (crew : Crew) (honest : ℕ → Bool) : Type 
 
 -- before the records are spent round j is a step, after that it leaves the state as it was
 pub moves : (run : Run) (P : State → Type 0) (j : ℕ)
-    → (state run j .phase < spent → P (step (class run) (run .crew) (run .rounds j) (state run j)))
-    → (spent ≤ state run j .phase → P (state run j)) → P (state run (suc j))
+    → (state run j .phase < spentPhase → P (step (class run) (run .crew) (run .rounds j) (state run j)))
+    → (spentPhase ≤ state run j .phase → P (state run j)) → P (state run (suc j))
 unfolding state
-moves run P j f g = go (ltb (state run j .phase) spent) refl
+moves run P j f g = go (ltb (state run j .phase) spentPhase) refl
   where
-    go : (b : Bool) → ltb (state run j .phase) spent ≡ b
+    go : (b : Bool) → ltb (state run j .phase) spentPhase ≡ b
         → P (cond b (step (class run) (run .crew) (run .rounds j) (state run j)) (state run j))
-    go true e = f (ltb-true (state run j .phase) spent e)
-    go false e = g (ltb-false (state run j .phase) spent e)
+    go true e = f (ltb-true (state run j .phase) spentPhase e)
+    go false e = g (ltb-false (state run j .phase) spentPhase e)
 
 module _ (run : Run) (l : Locking (class run) (run .crew) (run .honest))
     (faithful : (j : ℕ) → Held run j

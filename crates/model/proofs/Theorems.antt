@@ -5,8 +5,9 @@ use mathlib.Core.Bool.{Bool}
 use mathlib.Core.Logic.{_⊎_, inl, inr, _≢_, _↔_}
 use Prim.Native.Nat.{ℕ, _≤_, _<_}
 use native.Mathlib.Omega.{arith}
+use Rattle.wire.specs.Sizes.{spentPhase}
 use Rattle.model.specs.Node.{validating}
-use Rattle.model.specs.Run.{Each, spent, Run, class, state, Held, Admissible, Good}
+use Rattle.model.specs.Run.{Each, Run, class, state, Held, Admissible, Good}
 use Rattle.model.specs.Run.{validatedAt, DecidesAt, Decided, Undecided, PlanDecided, standing}
 use Rattle.model.proofs.Run.{locked-agreement, locked-start}
 use Rattle.model.proofs.Invariant.{unique-in-round}
@@ -34,7 +35,7 @@ module _ (run : Run) (ok : Admissible run) where
   common-start = locked-start run (lock run ok) (ok .faithful)
 
   -- Good phase: it decides its whole circle, whatever went before.
-  pub good-phase : (phase : ℕ) → 1 ≤ phase → phase < spent → (circle : ℕ → Bool) → Good run phase circle
+  pub good-phase : (phase : ℕ) → 1 ≤ phase → phase < spentPhase → (circle : ℕ → Bool) → Good run phase circle
       → Each (run .crew) circle λ p. (j : ℕ) × (v : ℕ) × (state run j .phase ≡ phase) × DecidesAt run j p v
   good-phase phase from early circle good = phase-decides run ok phase early circle good from (run-invariant run ok)
 

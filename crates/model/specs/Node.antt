@@ -6,6 +6,7 @@ use mathlib.Core.List.{List, [], _∷_, _++_}
 use mathlib.Core.Option.{Option, none, some}
 use Prim.Native.Nat.{ℕ, zero, suc}
 use lib.ListN.{getD, set, replicate}
+use Rattle.wire.specs.Sizes.{lastPhase}
 use Rattle.wire.specs.Plan.{ifPlan}
 use Rattle.wire.specs.Entry.{Entry}
 use Rattle.crew.specs.declared.Crew.{Crew}
@@ -15,7 +16,8 @@ use Rattle.ballot.specs.Selection.{taken}
 use Rattle.ballot.specs.Validation.{validates, validated}
 use Rattle.ballot.specs.Decision.{decision}
 
--- The fields of a record that rounds change. The history has a plan for each phase 0 to 63, 0 where none was selected.
+-- The fields of a record that rounds change. The history has a plan for each phase from 0 on, 0 where none was
+-- selected.
 pub record Node : Type 0 where
   pub vote : ℕ
   pub base : ℕ
@@ -35,7 +37,7 @@ number deciding = 3
 
 -- 01: "Start: vote, base and history entry 0 are the initial plan; stamp, select, result and all other entries 0"
 abbrev pub begin : ℕ → Node
-begin v = record { vote = v; base = v; stamp = 0; select = 0; result = 0; history = v ∷ replicate 63 0 }
+begin v = record { vote = v; base = v; stamp = 0; select = 0; result = 0; history = v ∷ replicate lastPhase 0 }
 
 -- What a node says.
 

@@ -2,10 +2,11 @@
 -- phases. Document 01, 'The list in demand 3' and 'Good phase'.
 use mathlib.Core.Path.{_≡_}
 use mathlib.Core.Bool.{Bool, cond, not}
-use mathlib.Core.Logic.{_⊎_, _≢_}
+use mathlib.Core.Logic.{_≢_}
 use mathlib.Core.Option.{Option, none, some}
 use Prim.Native.Nat.{ℕ, zero, suc, _+_, _≤_, _<_}
 use lib.Dec.{T, ltb}
+use Rattle.wire.specs.Sizes.{spentPhase}
 use Rattle.wire.specs.Outcome.{accepted}
 use Rattle.crew.specs.declared.Crew.{Crew}
 use Rattle.crew.specs.Acceptance.{acceptOf}
@@ -58,10 +59,11 @@ step class crew inboxes s = record {
 abbrev pub saying : Class → Crew → State → ℕ → Option Ballot
 saying class crew s q = say class crew (s .phase) (s .round) q (s .node q)
 
--- An honest node's slot, in an honest node's inbox, is absent or holds what that node says; other slots hold anything.
-abbrev pub Faithful : Class → Crew → (ℕ → Bool) → Inboxes → State → Type 0
-Faithful class crew honest inboxes s = Each crew honest λ p. Each crew honest λ q.
-    (inboxes p q ≡ none) ⊎ (inboxes p q ≡ saying class crew s q)
+-- What honest nodes hear in a round. Each slot may be absent, and those of nodes that are not honest hold anything.
+pub record Faithful (class : Class) (crew : Crew) (honest : ℕ → Bool) (inboxes : Inboxes) (s : State) : Type 0 where
+  -- what stands in an honest node's slot is what that node says
+  pub said : Each crew honest λ p. Each crew honest λ q.
+      (m : Ballot) → inboxes p q ≡ some m → saying class crew s q ≡ some m
 
 -- in this round node p decides v
 abbrev pub Decides : Class → Crew → Inboxes → State → ℕ → ℕ → Type 0
@@ -82,10 +84,6 @@ pub record Run : Type 0 where
 abbrev pub class : Run → Class
 class run = classOf (run .crew)
 
--- 01: "Phase 64 means spent."
-abbrev pub spent : ℕ
-spent = 64
-
 -- 01: "phase 1, round 1"
 abbrev pub start : (ℕ → ℕ) → State
 start plans = record { phase = 1; round = selecting; node = λ q. begin (plans q) }
@@ -95,11 +93,13 @@ start plans = record { phase = 1; round = selecting; node = λ q. begin (plans q
 unfoldable pub state : Run → ℕ → State
 state run zero = start (run .plans)
 state run (suc j) =
-    cond (ltb (state run j .phase) spent) (step (class run) (run .crew) (run .rounds j) (state run j)) (state run j)
+    cond (ltb (state run j .phase) spentPhase)
+    (step (class run) (run .crew) (run .rounds j) (state run j))
+    (state run j)
 
 -- round j is in the list, and comes before the records are spent
 abbrev pub Held : Run → ℕ → Type 0
-Held run j = (j < run .total) × (state run j .phase < spent)
+Held run j = (j < run .total) × (state run j .phase < spentPhase)
 
 -- the plan that node p validates in round j, 0 where it validates none
 abbrev pub validatedAt : Run → ℕ → ℕ → ℕ

@@ -4,11 +4,12 @@ use mathlib.Core.Path.{_≡_, refl, subst}
 use mathlib.Core.Bool.{Bool, true, false, cond}
 use mathlib.Core.List.{List, [], _∷_, _++_}
 use mathlib.Core.Option.{none, some}
-use Prim.Native.Nat.{ℕ, zero, suc, _+_, _^_, _≤_, _<_}
+use Prim.Native.Nat.{ℕ, zero, suc, _+_, _≤_, _<_}
 use native.Mathlib.Omega.{arith}
 use lib.ListN.{getD}
 use lib.Dec.{leb, eqb}
 use borrow.Author.Tests.{leb-true, eqb-true, eqb-false, lt-ltb, le-leb, eq-eqb, ne-eqb}
+use Rattle.wire.specs.Sizes.{planLimit, lastPhase, spentPhase}
 use Rattle.message.specs.Fields.{Message}
 use Rattle.message.specs.Bounds.{within, PlansFit, Fits}
 use Rattle.writer.specs.Writing.{listed, selectionOf, validationOf, decisionOf}
@@ -21,13 +22,13 @@ use Rattle.node.proofs.Facts.{Sound, Typed, last-round}
 pub data Says (d : Node) : Message → Type 0 where
   selects : d .round ≡ 1
       → Says d (selectionOf (d .run) (d .phase) (d .vote) (d .stamp) (d .history) (listedPhases d))
-  validates : d .round ≡ 2 → 1 ≤ d .select → Says d (validationOf (d .run) (d .phase) (d .select))
+  confirms : d .round ≡ 2 → 1 ≤ d .select → Says d (validationOf (d .run) (d .phase) (d .select))
   decides : d .round ≡ 3 → Says d (decisionOf (d .run) (d .phase) (d .vote) (d .stamp))
 
 pub says-coming : {d : Node} {m : Message} → Says d m → comingOf d ≡ some m
 unfolding comingOf
 says-coming (selects one) = simp (eq-eqb _ _ one)
-says-coming {d} (validates two plan) =
+says-coming {d} (confirms two plan) =
     simp (ne-eqb (d .round) 1 (λ e. omega arith), eq-eqb (d .round) 2 two, le-leb _ _ plan)
 says-coming {d} (decides three) =
     simp (ne-eqb (d .round) 1 (λ e. omega arith), ne-eqb (d .round) 2 (λ e. omega arith))
@@ -43,7 +44,7 @@ coming-says {d} s m e = go (eqb (d .round) 1) (eqb (d .round) 2) (leb 1 (d .sele
         (some (decisionOf (d .run) (d .phase) (d .vote) (d .stamp)))) ≡ some m
         → Says d m
     go true second chosen one two plan e = subst (Says d) (cc) (selects (eqb-true _ _ one))
-    go false true true one two plan e = subst (Says d) (cc) (validates (eqb-true _ _ two) (leb-true _ _ plan))
+    go false true true one two plan e = subst (Says d) (cc) (confirms (eqb-true _ _ two) (leb-true _ _ plan))
     go false true false one two plan e = absurd (let z : _≡_ {A = ℕ} 0 1 = cc in omega arith)
     go false false chosen one two plan e =
         subst (Says d) (cc) (decides (last-round s (eqb-false _ _ one) (eqb-false _ _ two)))
@@ -62,34 +63,34 @@ listed-before d = go (eqb (d .crew .class) 3)
     go false = omega arith
 
 -- the tests that the writer of a selection makes, passed
-pub selection-allowed : {d : Node} → Sound d → d .phase < 64 → d .round ≡ 1
+pub selection-allowed : {d : Node} → Sound d → d .phase < spentPhase → d .round ≡ 1
     → (leb (listedPhases d) (d .phase) ≡ true)
     × (within (selectionOf (d .run) (d .phase) (d .vote) (d .stamp) (d .history) (listedPhases d)) ≡ true)
 selection-allowed {d} s left one =
     let w = allowed-within (d .run) (d .phase) (d .vote) (d .stamp) (d .history) (listedPhases d) (simp (
       le-leb (listedPhases d) (d .phase) (listed-before d),
       le-leb 1 (d .phase) (s .phase-from),
-      le-leb (d .phase) 63 (omega arith),
+      le-leb (d .phase) lastPhase (omega arith),
       le-leb 1 (d .vote) (s .vote),
       lt-ltb (d .stamp) (d .phase) (s .stamp-before (omega arith)),
     )) in
     (w .0, w .1)
 
 -- what a sound, unspent record writes is within the bounds
-pub says-within : {d : Node} {m : Message} → Sound d → d .phase < 64 → Says d m → within m ≡ true
+pub says-within : {d : Node} {m : Message} → Sound d → d .phase < spentPhase → Says d m → within m ≡ true
 says-within s left (selects one) = selection-allowed s left one .1
-says-within {d} s left (validates two plan) =
-    simp (le-leb 1 (d .phase) (s .phase-from), le-leb (d .phase) 63 (omega arith), le-leb 1 (d .select) plan)
+says-within {d} s left (confirms two plan) =
+    simp (le-leb 1 (d .phase) (s .phase-from), le-leb (d .phase) lastPhase (omega arith), le-leb 1 (d .select) plan)
 says-within {d} s left (decides three) =
     simp (
       le-leb 1 (d .phase) (s .phase-from),
-      le-leb (d .phase) 63 (omega arith),
+      le-leb (d .phase) lastPhase (omega arith),
       le-leb 1 (d .vote) (s .vote),
       le-leb (d .stamp) (d .phase) (s .stamp),
     )
 
 -- the entries that are listed fit their bytes where the history's do
-plans-fit : (history : List ℕ) → ((phase : ℕ) → getD history phase 0 < 256 ^ 2) → (from count : ℕ)
+plans-fit : (history : List ℕ) → ((phase : ℕ) → getD history phase 0 < planLimit) → (from count : ℕ)
     → PlansFit (listed history from count)
 unfolding listed
 plans-fit history small from zero = tt
@@ -104,5 +105,5 @@ plans-fit history small from (suc count) = go (leb 1 (getD history from 0)) (pla
 -- what a record writes fits the bytes of a message
 pub says-fits : {d : Node} {m : Message} → Typed d → Says d m → Fits m
 says-fits {d} t (selects one) = (t .run, (t .vote, plans-fit (d .history) (t .entries) 0 (listedPhases d)))
-says-fits t (validates two plan) = (t .run, t .select)
+says-fits t (confirms two plan) = (t .run, t .select)
 says-fits t (decides three) = (t .run, t .vote)

@@ -3,7 +3,7 @@
 use mathlib.Core.Path.{_≡_, refl, ap}
 use mathlib.Core.Bool.{Bool, true, false, not, _&&_, _||_, or-true}
 use mathlib.Core.Logic.{_⊎_, inl, inr, _≢_}
-use Prim.Native.Nat.{ℕ, _-_, _^_, _≤_, _<_}
+use Prim.Native.Nat.{ℕ, _-_, _≤_, _<_}
 use native.Mathlib.Omega.{arith}
 use native.Mathlib.Decide.{ℕ-discrete, decLt}
 use lib.ListN.{length, getD}
@@ -12,6 +12,7 @@ use borrow.Author.Tests.{ltb-true, leb-true, eqb-true, eqb-false, not-true, lt-l
 use Rattle.wire.specs.Outcome.{accepted, isAccepted}
 use Rattle.wire.proofs.Outcomes.{accepted-is}
 use Rattle.wire.proofs.Tests.{both-true}
+use Rattle.wire.specs.Sizes.{planLimit, runLimit, lastPhase, spentPhase, historySize}
 use Rattle.crew.specs.Acceptance.{acceptOf}
 use Rattle.node.specs.declared.Node.{Node}
 use Rattle.node.specs.Soundness.{
@@ -31,28 +32,28 @@ pub record Sound (d : Node) : Type 0 where
   pub crew : acceptOf (d .crew) ≡ accepted tt
   pub own : d .own < d .crew .n
   pub phase-from : 1 ≤ d .phase
-  pub phase-to : d .phase ≤ 64
+  pub phase-to : d .phase ≤ spentPhase
   pub round-from : 1 ≤ d .round
   pub round-to : d .round ≤ 3
   pub unvalidated : d .crew .class ≡ 1 → d .round ≢ 2
-  pub unspent : 2 ≤ d .round → d .phase ≤ 63
+  pub unspent : 2 ≤ d .round → d .phase ≤ lastPhase
   pub vote : 1 ≤ d .vote
   pub base : 1 ≤ d .base
   pub initial : 1 ≤ getD (d .history) 0 0
   pub stamp : d .stamp ≤ d .phase
   pub stamp-before : d .round ≤ 2 → d .stamp < d .phase
   pub unstamped : d .crew .class ≡ 1 → d .stamp ≡ 0
-  pub empty : (phase : ℕ) → firstUnselected d ≤ phase → phase < 64 → getD (d .history) phase 0 ≡ 0
+  pub empty : (phase : ℕ) → firstUnselected d ≤ phase → phase < historySize → getD (d .history) phase 0 ≡ 0
 
 -- what the types of the fields say: a run has four bytes, a plan two, a history 64 entries
 pub record Typed (d : Node) : Type 0 where
-  pub run : d .run < 256 ^ 4
-  pub vote : d .vote < 256 ^ 2
-  pub base : d .base < 256 ^ 2
-  pub select : d .select < 256 ^ 2
-  pub result : d .result < 256 ^ 2
-  pub entries : (phase : ℕ) → getD (d .history) phase 0 < 256 ^ 2
-  pub long : length (d .history) ≡ 64
+  pub run : d .run < runLimit
+  pub vote : d .vote < planLimit
+  pub base : d .base < planLimit
+  pub select : d .select < planLimit
+  pub result : d .result < planLimit
+  pub entries : (phase : ℕ) → getD (d .history) phase 0 < planLimit
+  pub long : length (d .history) ≡ historySize
 
 either-true : (a b : Bool) → (a || b) ≡ true → (a ≡ true) ⊎ (b ≡ true)
 either-true true b e = inl refl
@@ -79,7 +80,8 @@ unfolding sound
 sound-facts d e =
     let s =
     all-six (crewAccepted (d .crew)) (ownKnown d) (placeKnown d) (plansKnown d) (stampKnown d) (restEmpty d) e in
-    let place = all-six (leb 1 (d .phase)) (leb (d .phase) 64) (leb 1 (d .round)) (leb (d .round) 3) _ _ (s .2) in
+    let place = all-six (leb 1 (d .phase)) (leb (d .phase) spentPhase) (leb 1 (d .round)) (leb (d .round) 3) _ _
+    (s .2) in
     let plans = both-true (leb 1 (d .vote) && leb 1 (d .base)) _ (s .3) in
     let votes = both-true (leb 1 (d .vote)) (leb 1 (d .base)) (plans .0) in
     let stamps = both-true (ltb (d .stamp) (d .phase) || (eqb (d .stamp) (d .phase) && eqb (d .round) 3)) _ (s .4) in
@@ -91,7 +93,7 @@ sound-facts d e =
       round-from = leb-true _ _ (place .2);
       round-to = leb-true _ _ (place .3);
       unvalidated = no-validation (d .crew .class) (d .round) (place .4);
-      unspent = λ late. elim (either-true (eqb (d .round) 1) (leb (d .phase) 63) (place .5)) [
+      unspent = λ late. elim (either-true (eqb (d .round) 1) (leb (d .phase) lastPhase) (place .5)) [
         | inl one ↦ absurd (omega (arith, eqb-true (d .round) 1 one))
         | inr last ↦ leb-true _ _ last
       ];
@@ -111,7 +113,7 @@ sound-facts d e =
         | inr zero ↦ eqb-true _ _ zero
       ];
       empty = λ phase from to.
-          is-empty (d .history) (firstUnselected d) (64 - firstUnselected d) (s .5) phase from (omega arith);
+          is-empty (d .history) (firstUnselected d) (historySize - firstUnselected d) (s .5) phase from (omega arith);
     }
 
 all-true : (a b c d e f : Bool) → a ≡ true → b ≡ true → c ≡ true → d ≡ true → e ≡ true → f ≡ true
@@ -124,10 +126,11 @@ validation-allowed class round h = elim (ℕ-discrete class 1) [
   | no other ↦ simp (ne-eqb class 1 other)
 ]
 
-round-left : (round phase : ℕ) → 1 ≤ round → (2 ≤ round → phase ≤ 63) → (eqb round 1 || leb phase 63) ≡ true
+round-left : (round phase : ℕ) → 1 ≤ round → (2 ≤ round → phase ≤ lastPhase)
+    → (eqb round 1 || leb phase lastPhase) ≡ true
 round-left round phase from h = elim (ℕ-discrete round 1) [
   | yes one ↦ simp (eq-eqb round 1 one)
-  | no late ↦ simp (le-leb phase 63 (h (omega arith)), or-true)
+  | no late ↦ simp (le-leb phase lastPhase (h (omega arith)), or-true)
 ]
 
 stamp-place : (stamp phase round : ℕ) → round ≤ 3 → stamp ≤ phase → (round ≤ 2 → stamp < phase)
@@ -161,7 +164,7 @@ facts-sound d s =
     let initial = le-leb _ _ (s .initial) in
     let stamp = stamp-place (d .stamp) (d .phase) (d .round) (s .round-to) (s .stamp) (s .stamp-before) in
     let class = stamp-class (d .crew .class) (d .stamp) (s .unstamped) in
-    let rest = empty-is (d .history) (firstUnselected d) (64 - firstUnselected d)
+    let rest = empty-is (d .history) (firstUnselected d) (historySize - firstUnselected d)
     (λ phase from to. s .empty phase from (omega arith)) in
     all-true _ _ _ _ _ _ (ap isAccepted (s .crew)) (lt-ltb _ _ (s .own)) place (rw (vote, base, initial))
     (rw (stamp, class)) rest

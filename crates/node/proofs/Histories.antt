@@ -10,30 +10,31 @@ use lib.ListN.{getD}
 use lib.Dec.{eqb}
 use borrow.Author.Tests.{eq-eqb, eqb-true}
 use Rattle.wire.proofs.Tests.{both-true}
+use Rattle.wire.specs.Sizes.{historySize}
 use Rattle.node.specs.Soundness.{emptyFrom}
 
 -- one entry, and those after it
-empty-turn : (history : List ℕ) (phase : ℕ) → phase < 64
-    → emptyFrom history phase (64 - phase)
-    ≡ (eqb (getD history phase 0) 0 && emptyFrom history (phase + 1) (64 - (phase + 1)))
+empty-turn : (history : List ℕ) (phase : ℕ) → phase < historySize
+    → emptyFrom history phase (historySize - phase)
+    ≡ (eqb (getD history phase 0) 0 && emptyFrom history (phase + 1) (historySize - (phase + 1)))
 unfolding emptyFrom
 empty-turn history phase h =
-    let left : 64 - phase ≡ suc (64 - (phase + 1)) = omega arith in
+    let left : historySize - phase ≡ suc (historySize - (phase + 1)) = omega arith in
     ap (emptyFrom history phase) left
 
 -- what was found so far, with one entry more
-pub empty-more : (so-far : Bool) (history : List ℕ) (phase : ℕ) → phase < 64
-    → ((so-far && eqb (getD history phase 0) 0) && emptyFrom history (phase + 1) (64 - (phase + 1)))
-    ≡ (so-far && emptyFrom history phase (64 - phase))
+pub empty-more : (so-far : Bool) (history : List ℕ) (phase : ℕ) → phase < historySize
+    → ((so-far && eqb (getD history phase 0) 0) && emptyFrom history (phase + 1) (historySize - (phase + 1)))
+    ≡ (so-far && emptyFrom history phase (historySize - phase))
 empty-more so-far history phase h =
-    and-assoc so-far (eqb (getD history phase 0) 0) (emptyFrom history (phase + 1) (64 - (phase + 1)))
+    and-assoc so-far (eqb (getD history phase 0) 0) (emptyFrom history (phase + 1) (historySize - (phase + 1)))
     ∙ ap (λ b. so-far && b) (sym (empty-turn history phase h))
 
 -- no entries are left
-pub empty-end : (so-far : Bool) (history : List ℕ) (phase : ℕ) → 64 ≤ phase
-    → so-far ≡ (so-far && emptyFrom history phase (64 - phase))
+pub empty-end : (so-far : Bool) (history : List ℕ) (phase : ℕ) → historySize ≤ phase
+    → so-far ≡ (so-far && emptyFrom history phase (historySize - phase))
 unfolding emptyFrom
-empty-end so-far history phase h = let left : 64 - phase ≡ 0 = omega arith in rw left (go so-far)
+empty-end so-far history phase h = let left : historySize - phase ≡ 0 = omega arith in rw left (go so-far)
   where
     go : (b : Bool) → b ≡ (b && true)
     go true = refl

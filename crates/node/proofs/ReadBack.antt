@@ -7,6 +7,7 @@ use mathlib.Core.Option.{some}
 use Prim.Native.Nat.{ℕ, _<_}
 use lib.ListN.{drop}
 use Rattle.wire.specs.Outcome.{accepted}
+use Rattle.wire.specs.Sizes.{spentPhase}
 use Rattle.message.specs.Fields.{Message}
 use Rattle.message.specs.Bounds.{within}
 use Rattle.message.specs.Reading.{readOf}
@@ -21,7 +22,7 @@ use Rattle.node.proofs.Coming.{Says, coming-says, says-within, says-fit
 -- What a sound, unspent record writes is within a message's bounds, and whatever follows it in the slice, reading gives
 -- the message that `Says` spells out in the record's own fields: run and phase; in round 1 vote, stamp and entries, in
 -- round 2 select, in round 3 vote and stamp.
-pub read-back : (d : Node) → Typed d → sound d ≡ true → d .phase < 64 → (m : Message) → comingOf d ≡ some m
+pub read-back : (d : Node) → Typed d → sound d ≡ true → d .phase < spentPhase → (m : Message) → comingOf d ≡ some m
     → Says d m × (within m ≡ true) × ((tail : List ℕ) → readOf (comingBytes d ++ tail) ≡ accepted m)
 read-back d typed ok left m e =
     let says = coming-says (sound-facts d ok) m e in

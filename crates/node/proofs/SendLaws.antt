@@ -12,6 +12,7 @@ use lib.Dec.{leb, ltb}
 use borrow.Author.Tests.{ltb-true, lt-ltb, le-ltb, le-leb}
 use Rattle.wire.specs.Outcome.{Outcome, accepted, refused, require}
 use Rattle.wire.proofs.Outcomes.{passed}
+use Rattle.wire.specs.Sizes.{spentPhase}
 use Rattle.message.specs.Fields.{Message}
 use Rattle.message.specs.Encoding.{encode}
 use Rattle.writer.specs.Writing as writer
@@ -31,7 +32,7 @@ same-after m buffer (accepted size) = refl
 same-after m buffer (refused number) = refl
 
 -- a sound, unspent record
-module _ (d : Node) (buffer : List ℕ) (ok : sound d ≡ true) (left : d .phase < 64) where
+module _ (d : Node) (buffer : List ℕ) (ok : sound d ≡ true) (left : d .phase < spentPhase) where
   writer-agrees : (m : Message) → Says d m
       → (writer.writeOf m buffer ≡ writeOf d buffer) × (writer.bufferOf m buffer ≡ bufferOf d buffer)
   unfolding writeOf writer.writeOf
@@ -40,7 +41,7 @@ module _ (d : Node) (buffer : List ℕ) (ok : sound d ≡ true) (left : d .phase
       let said = says-coming says in
       let long = encode-length m in
       let wrote : writer.writeOf m buffer ≡ writeOf d buffer
-      = simp (ok, lt-ltb (d .phase) 64 left, bounds, said, long) in
+      = simp (ok, lt-ltb (d .phase) spentPhase left, bounds, said, long) in
       let same = ap₂ (λ outcome bytes. bufferAfter bytes buffer outcome) wrote (sym (ap encoded said)) in
       (wrote, same-after m buffer (writer.writeOf m buffer) ∙ same)
 
@@ -63,7 +64,8 @@ module _ (d : Node) (buffer : List ℕ) (ok : sound d ≡ true) (left : d .phase
   silence-written two silent =
       let said = coming-silent d two silent in
       let room = le-leb 0 (length buffer) (omega arith) in
-      (simp (ok, lt-ltb (d .phase) 64 left, said, room), simp (ok, lt-ltb (d .phase) 64 left, said, room))
+      let unspent = lt-ltb (d .phase) spentPhase left in
+      (simp (ok, unspent, said, room), simp (ok, unspent, said, room))
 
 -- a record that is not sound, or is spent, is refused, and nothing is written
 pub unsound-refused : (d : Node) (buffer : List ℕ) → sound d ≡ false
@@ -71,22 +73,24 @@ pub unsound-refused : (d : Node) (buffer : List ℕ) → sound d ≡ false
 unfolding writeOf
 unsound-refused d buffer broken = (simp broken, simp broken)
 
-pub spent-refused : (d : Node) (buffer : List ℕ) → sound d ≡ true → 64 ≤ d .phase
+pub spent-refused : (d : Node) (buffer : List ℕ) → sound d ≡ true → spentPhase ≤ d .phase
     → (refused 8 ≡ writeOf d buffer) × (buffer ≡ bufferOf d buffer)
 unfolding writeOf
-spent-refused d buffer ok spent = (simp (ok, le-ltb (d .phase) 64 spent), simp (ok, le-ltb (d .phase) 64 spent))
+spent-refused d buffer ok spent =
+    let over = le-ltb (d .phase) spentPhase spent in
+    (simp (ok, over), simp (ok, over))
 
 -- An accepted write is of a sound, unspent record; its length is the coming message's, which stands at the buffer's
 -- front.
 pub write-accepted : (d : Node) (buffer : List ℕ) (size : ℕ) → writeOf d buffer ≡ accepted size
     → (sound d ≡ true)
-    × (d .phase < 64)
+    × (d .phase < spentPhase)
     × (length (comingBytes d) ≡ size)
     × (take size (bufferOf d buffer) ≡ comingBytes d)
 unfolding writeOf
 write-accepted d buffer size e =
     let ok = passed (sound d) 7 _ e in
-    let left = passed (ltb (d .phase) 64) 8 _ (ok .1) in
+    let left = passed (ltb (d .phase) spentPhase) 8 _ (ok .1) in
     let room = passed (leb (length (comingBytes d)) (length buffer)) 9 _ (left .1) in
     let long : length (comingBytes d) ≡ size = cc (room .1) in
     let after : bufferOf d buffer ≡ comingBytes d ++ drop size buffer = ap (bufferAfter (comingBytes d) buffer) e in
@@ -95,7 +99,7 @@ write-accepted d buffer size e =
 -- a node is never told that its message breaks a bound
 pub never-out-of-bounds : (d : Node) (buffer : List ℕ) → writeOf d buffer ≢ refused 13
 unfolding writeOf
-never-out-of-bounds d buffer = go (sound d) (ltb (d .phase) 64) (leb (length (comingBytes d)) (length buffer))
+never-out-of-bounds d buffer = go (sound d) (ltb (d .phase) spentPhase) (leb (length (comingBytes d)) (length buffer))
   where
     go : (a b c : Bool) → require a 7 (require b 8 (require c 9 (accepted (length (comingBytes d))))) ≢ refused 13
     go true true true e = let z : _≡_ {A = ℕ} 0 1 = cc in omega arith

@@ -2,7 +2,7 @@
 -- Assumes nothing.
 use mathlib.Core.Path.{_≡_, refl, sym, subst, _∙_}
 use mathlib.Core.Bool.{true, false}
-use Prim.Native.Nat.{ℕ, _^_, _≤_, _<_}
+use Prim.Native.Nat.{ℕ, _≤_, _<_}
 use native.Mathlib.Omega.{arith}
 use native.Mathlib.Decide.{ℕ-discrete, decLt}
 use lib.ListN.{length, getD, set, replicate, length-set, length-replicate, getD-replicate, List·getD-eq-default}
@@ -11,6 +11,7 @@ use lib.Dec.{leb, ltb}
 use borrow.Author.Tests.{ltb-true, leb-true, lt-ltb, le-ltb, le-leb}
 use Rattle.wire.specs.Outcome.{Outcome, accepted, refused, after}
 use Rattle.wire.proofs.Outcomes.{passed}
+use Rattle.wire.specs.Sizes.{planLimit, runLimit, historySize}
 use Rattle.crew.specs.declared.Crew.{Crew}
 use Rattle.crew.specs.Acceptance.{acceptOf}
 use Rattle.node.specs.declared.Node.{Node}
@@ -66,17 +67,17 @@ start-accepted crew own run plan d e =
     }
 
 -- the first history: the initial plan, then nothing
-first-plan : (plan : ℕ) → getD (set (replicate 64 0) 0 plan) 0 0 ≡ plan
-first-plan plan = getD-set-same (replicate 64 0) 0 plan 0 (rw length-replicate (omega arith))
+first-plan : (plan : ℕ) → getD (set (replicate historySize 0) 0 plan) 0 0 ≡ plan
+first-plan plan = getD-set-same (replicate historySize 0) 0 plan 0 (rw length-replicate (omega arith))
 
-zeros : (phase : ℕ) → _≡_ {A = ℕ} (getD (replicate 64 0) phase 0) 0
-zeros phase = elim (decLt phase 64) [
-  | yes inside ↦ getD-replicate 64 phase 0 0 inside
-  | no outside ↦ List·getD-eq-default (replicate 64 0) 0 {n = phase} (rw length-replicate (omega arith))
+zeros : (phase : ℕ) → _≡_ {A = ℕ} (getD (replicate historySize 0) phase 0) 0
+zeros phase = elim (decLt phase historySize) [
+  | yes inside ↦ getD-replicate historySize phase 0 0 inside
+  | no outside ↦ List·getD-eq-default (replicate historySize 0) 0 {n = phase} (rw length-replicate (omega arith))
 ]
 
-then-nothing : (plan phase : ℕ) → 1 ≤ phase → getD (set (replicate 64 0) 0 plan) phase 0 ≡ 0
-then-nothing plan phase h = getD-set-other (replicate 64 0) 0 phase plan 0 (λ e. omega arith) ∙ zeros phase
+then-nothing : (plan phase : ℕ) → 1 ≤ phase → getD (set (replicate historySize 0) 0 plan) phase 0 ≡ 0
+then-nothing plan phase h = getD-set-other (replicate historySize 0) 0 phase plan 0 (λ e. omega arith) ∙ zeros phase
 
 -- law 4, its first part: a started record is sound
 pub start-sound : (crew : Crew) (own run plan : ℕ) (d : Node) → startOf crew own run plan ≡ accepted d → sound d ≡ true
@@ -103,7 +104,7 @@ start-sound crew own run plan d e =
 
 -- its fields fit their types where the run and the plan do
 pub start-typed : (crew : Crew) (own run plan : ℕ) (d : Node) → startOf crew own run plan ≡ accepted d
-    → run < 256 ^ 4 → plan < 256 ^ 2 → Typed d
+    → run < runLimit → plan < planLimit → Typed d
 unfolding begun
 start-typed crew own run plan d e run-fits plan-fits =
     subst Typed (sym (start-accepted crew own run plan d e .is-begun)) record {
@@ -116,7 +117,7 @@ start-typed crew own run plan d e run-fits plan-fits =
         | yes first ↦ rw (first, first-plan plan) plan-fits
         | no later ↦ rw (then-nothing plan phase (omega arith)) (omega arith)
       ];
-      long = length-set (replicate 64 0) 0 plan ∙ length-replicate {A = ℕ} 64 0;
+      long = length-set (replicate historySize 0) 0 plan ∙ length-replicate {A = ℕ} historySize 0;
     }
 
 -- the record that a refused start shows is not sound

@@ -1,7 +1,9 @@
 -- The records that a start gives: document 01, 'Crew and node'.
 use Prim.Native.Nat.{ℕ}
 use lib.ListN.{set, replicate}
+use Rattle.wire.specs.Sizes.{historySize}
 use Rattle.crew.specs.declared.Crew.{Crew}
+use Rattle.crew.specs.Parts.{blankCrew}
 use Rattle.node.specs.declared.Node.{Node}
 
 -- 01: "Start: vote, base and history entry 0 are the initial plan; stamp, select, result and all other entries 0;
@@ -18,13 +20,13 @@ begun crew own run plan = record {
   stamp = 0;
   select = 0;
   result = 0;
-  history = set (replicate 64 0) 0 plan;
+  history = set (replicate historySize 0) 0 plan;
 }
 
 -- 01 leaves free what stands beside a refused start's number: here all of it is 0, which is not sound.
 unfoldable pub blank : Node
 blank = record {
-  crew = record { class = 0; n = 0; b = 0; f = 0; d = 0 };
+  crew = blankCrew;
   own = 0;
   run = 0;
   phase = 0;
@@ -34,5 +36,5 @@ blank = record {
   stamp = 0;
   select = 0;
   result = 0;
-  history = replicate 64 0;
+  history = replicate historySize 0;
 }

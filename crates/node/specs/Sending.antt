@@ -6,6 +6,7 @@ use mathlib.Core.Option.{Option, none, some}
 use lib.ListN.{length, drop}
 use lib.Dec.{leb, ltb, eqb}
 use Rattle.wire.specs.Outcome.{Outcome, accepted, refused, require}
+use Rattle.wire.specs.Sizes.{spentPhase}
 use Rattle.message.specs.Fields.{Message}
 use Rattle.message.specs.Encoding.{encode}
 use Rattle.writer.specs.Writing.{selectionOf, validationOf, decisionOf}
@@ -44,7 +45,7 @@ comingBytes d = encoded (comingOf d)
 unfoldable pub writeOf : Node → List ℕ → Outcome ℕ
 writeOf d buffer =
     require (sound d) 7
-    (require (ltb (d .phase) 64) 8
+    (require (ltb (d .phase) spentPhase) 8
     (require (leb (length (comingBytes d)) (length buffer)) 9
     (accepted (length (comingBytes d)))))
 

@@ -5,6 +5,7 @@ use mathlib.Core.List.{List}
 use lib.ListN.{getD}
 use lib.Dec.{leb, ltb, eqb}
 use Rattle.wire.specs.Outcome.{isAccepted}
+use Rattle.wire.specs.Sizes.{lastPhase, spentPhase, historySize}
 use Rattle.crew.specs.declared.Crew.{Crew}
 use Rattle.crew.specs.Acceptance.{acceptOf}
 use Rattle.node.specs.declared.Node.{Node}
@@ -21,11 +22,11 @@ ownKnown d = ltb (d .own) (d .crew .n)
 abbrev pub placeKnown : Node → Bool
 placeKnown d =
     leb 1 (d .phase)
-    && leb (d .phase) 64
+    && leb (d .phase) spentPhase
     && leb 1 (d .round)
     && leb (d .round) 3
     && not (eqb (d .crew .class) 1 && eqb (d .round) 2)
-    && (eqb (d .round) 1 || leb (d .phase) 63)
+    && (eqb (d .round) 1 || leb (d .phase) lastPhase)
 
 -- "vote, base and entry 0 not 0"
 abbrev pub plansKnown : Node → Bool
@@ -48,7 +49,7 @@ emptyFrom history phase (suc count) = eqb (getD history phase 0) 0 && emptyFrom 
 
 -- "entries of phases not yet selected are 0"
 abbrev pub restEmpty : Node → Bool
-restEmpty d = emptyFrom (d .history) (firstUnselected d) (64 - firstUnselected d)
+restEmpty d = emptyFrom (d .history) (firstUnselected d) (historySize - firstUnselected d)
 
 -- 01: "A record is sound when: crew accepted; own number below n; phase 1 to 64, round 1 to 3, no round 2 in class 1,
 -- only round 1 at phase 64; vote, base and entry 0 not 0; stamp below phase, or equal to it in round 3; stamp 0 in

@@ -2,6 +2,9 @@
 // Each operation is what a definition says: specs/Starting.antt, specs/Soundness.antt and specs/Sending.antt.
 use crew::Acceptance;
 use crew::Crew;
+use wire::LAST_PHASE;
+use wire::PHASES;
+use wire::Plan;
 use writer::Writing;
 ghost use mathlib.Core.Path.{_≡_};
 ghost use mathlib.Core.Bool.{true, _&&_};
@@ -9,10 +12,10 @@ ghost use Prim.Native.Nat.{_<_};
 ghost use lib.Dec.{leb};
 ghost use lib.ListN.{getD};
 ghost use Rattle.wire.specs.Outcome.{refused, verdict, valueOr};
+ghost use Rattle.wire.specs.Sizes.{spentPhase};
 ghost use Rattle.writer.specs.Writing.{answered as writtenAs};
 ghost use Rattle.node.specs.Record.{blank, begun};
 ghost use Rattle.node.specs.Soundness.{
-  crewAccepted,
   placeKnown,
   stampKnown,
   firstUnselected,
@@ -32,17 +35,17 @@ pub struct Node {
     // The coming round: its phase and its number.
     pub phase: u8,
     pub round: u8,
-    pub vote: u16,
+    pub vote: Plan,
     // The plan that was validated last, and the initial plan before that.
-    pub base: u16,
+    pub base: Plan,
     // The phase in which base was validated, 0 while it is the initial plan.
     pub stamp: u8,
     // What the phase's selection gave, 0 for 'none'.
-    pub select: u16,
+    pub select: Plan,
     // The plan that the node decided, 0 before it has.
-    pub result: u16,
+    pub result: Plan,
     // The plan selected in each phase, 0 where none was; at 0 the initial plan.
-    pub history: [u16; 64],
+    pub history: [Plan; PHASES],
 }
 
 // Why a start is refused; `number` in specs/Starting.antt has 01's numbers.
@@ -91,13 +94,7 @@ pub fn blank_node() -> Node
     ensures { λ r. ⌜ r ≡ blank ⌝ }
 {
     Node {
-        crew: Crew {
-            class: 0,
-            n: 0,
-            b: 0,
-            f: 0,
-            d: 0,
-        },
+        crew: crew::blank_crew(),
         own: 0,
         run: 0,
         phase: 0,
@@ -107,15 +104,15 @@ pub fn blank_node() -> Node
         stamp: Node::UNSTAMPED,
         select: Node::NO_PLAN,
         result: Node::NO_PLAN,
-        history: [Node::NO_PLAN; Node::PHASES],
+        history: [Node::NO_PLAN; PHASES],
     }
 }
 
 // The record that a node begins with.
-fn begin(crew: Crew, own: u8, run: u32, plan: u16) -> Node
+fn begin(crew: Crew, own: u8, run: u32, plan: Plan) -> Node
     ensures { λ r. ⌜ r ≡ begun crew own run plan ⌝ }
 {
-    let mut history = [Node::NO_PLAN; Node::PHASES];
+    let mut history = [Node::NO_PLAN; PHASES];
     history[0] = plan;
     Node {
         crew: crew,
@@ -141,15 +138,6 @@ fn refuse_start(why: StartRefusal) -> Started
     }
 }
 
-fn is_accepted(crew: Crew) -> bool
-    ensures { λ r. ⌜ r ≡ crewAccepted crew ⌝ }
-{
-    match crew::accept(crew) {
-        Acceptance::Accepted => true,
-        Acceptance::Refused(_) => false,
-    }
-}
-
 // A writer's answer as the node's. A writer refuses with 13 where a field breaks a bound; the fields of a sound record
 // break none, so what is left is a buffer that is too short.
 fn to_sending(writing: Writing) -> Sending
@@ -165,14 +153,10 @@ fn to_sending(writing: Writing) -> Sending
 impl Node {
     // Phases are counted from 1: in stamps and histories 0 stands for the time before the first.
     pub const FIRST_PHASE: u8 = 1;
-    // The last phase with rounds: no message has a later one.
-    pub const LAST_PHASE: u8 = 63;
     // A record that has passed its last phase stands here: it has no rounds left.
-    pub const SPENT: u8 = 64;
-    // A history has an entry for each phase from 0 to the last.
-    pub const PHASES: usize = 64;
-    // Plans are 1 to 65,535, so that 0 can mean none.
-    pub const NO_PLAN: u16 = 0;
+    pub const SPENT: u8 = LAST_PHASE + 1;
+    // Plans are counted from 1, so that 0 can mean none.
+    pub const NO_PLAN: Plan = 0;
     // The stamp of a plan that no phase has validated.
     pub const UNSTAMPED: u8 = 0;
     // Round 1: a plan is chosen among those voted for.
@@ -181,13 +165,9 @@ impl Node {
     pub const VALIDATION: u8 = 2;
     // Round 3: a plan with D votes is decided.
     pub const DECISION: u8 = 3;
-    // Class 1 has no validation, so its stamps stay 0.
-    pub const UNVALIDATED_CLASS: u8 = 1;
-    // Only class 3 selects by what nodes list of their histories.
-    pub const LISTING_CLASS: u8 = 3;
 
     // Starts a node with its initial plan, or says why not.
-    pub fn start(crew: Crew, own: u8, run: u32, plan: u16) -> Started
+    pub fn start(crew: Crew, own: u8, run: u32, plan: Plan) -> Started
         ensures { λ r. ⌜ (startedAs (r .answer) ≡ verdict (startOf crew own run plan))
             × (r .node ≡ valueOr blank (startOf crew own run plan)) ⌝ }
     {
@@ -216,8 +196,8 @@ impl Node {
             & (self.phase <= Node::SPENT)
             & (Node::SELECTION <= self.round)
             & (self.round <= Node::DECISION)
-            & !((self.crew.class == Node::UNVALIDATED_CLASS) & (self.round == Node::VALIDATION))
-            & ((self.round == Node::SELECTION) | (self.phase <= Node::LAST_PHASE))
+            & !((self.crew.class == Crew::CLASS_ONE) & (self.round == Node::VALIDATION))
+            & ((self.round == Node::SELECTION) | (self.phase <= LAST_PHASE))
     }
 
     // Vote and base are plans. The initial plan is tested with the rest of the history.
@@ -232,7 +212,7 @@ impl Node {
         ensures { λ r. ⌜ r ≡ stampKnown self ⌝ }
     {
         ((self.stamp < self.phase) | ((self.stamp == self.phase) & (self.round == Node::DECISION)))
-            & (!(self.crew.class == Node::UNVALIDATED_CLASS) | (self.stamp == Node::UNSTAMPED))
+            & (!(self.crew.class == Crew::CLASS_ONE) | (self.stamp == Node::UNSTAMPED))
     }
 
     // The first phase that has no selection yet. A phase may be any byte here, so the sum is taken wide.
@@ -255,7 +235,7 @@ impl Node {
         let history = self.history;
         let mut known = Node::NO_PLAN < history[0];
         let mut phase = self.first_unselected();
-        while phase < Node::PHASES {
+        while phase < PHASES {
             known = known & (history[phase] == Node::NO_PLAN);
             phase = phase + 1;
         }
@@ -266,7 +246,7 @@ impl Node {
     pub fn is_sound(self) -> bool
         ensures { λ r. ⌜ r ≡ sound self ⌝ }
     {
-        is_accepted(self.crew)
+        crew::is_accepted(self.crew)
             & (self.own < self.crew.n)
             & self.is_placed()
             & self.has_plans()
@@ -278,7 +258,7 @@ impl Node {
     fn listed_phases(self) -> u8
         ensures { λ r. ⌜ r ≡ listedPhases self ⌝ }
     {
-        if self.crew.class == Node::LISTING_CLASS {
+        if self.crew.class == Crew::CLASS_THREE {
             return self.phase;
         }
         0
@@ -286,7 +266,7 @@ impl Node {
 
     // Writes the message of the coming round. Silence is a length of 0, for which any buffer is long enough.
     fn write_coming(self, buf: &mut [u8]) -> Writing
-        requires { ⌜ (sound self ≡ true) × (self .phase < 64) ⌝ }
+        requires { ⌜ (sound self ≡ true) × (self .phase < spentPhase) ⌝ }
         ensures { λ r. ⌜ (writtenAs r ≡ writeOf self (now (buf .entry)))
             × (now (buf .exit) ≡ bufferOf self (now (buf .entry))) ⌝ }
     {

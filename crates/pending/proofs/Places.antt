@@ -7,58 +7,59 @@ use native.Mathlib.Omega.{arith}
 use lib.Dec.{ltb}
 use borrow.Author.Tests.{ltb-true}
 use lib.ListN.{getD, set}
+use Rattle.crew.specs.Parts.{mostNodes}
 use Rattle.pending.specs.declared.Pending.{Pending}
-use Rattle.pending.specs.Pairs.{known, placeOf, withCut, withSay, isCut, unsaid, saidOf}
+use Rattle.pending.specs.Pairs.{pairs, known, placeOf, withCut, withSay, isCut, unsaid, saidOf}
 
-module _ (s r i : ℕ) (is : i ≡ cond (known s r) (placeOf s r) 1024) where
-  inside : i < 1024 → (known s r ≡ true) × (placeOf s r ≡ i)
+module _ (s r i : ℕ) (is : i ≡ cond (known s r) (placeOf s r) pairs) where
+  inside : i < pairs → (known s r ≡ true) × (placeOf s r ≡ i)
   inside h = go (known s r) refl
     where
       go : (t : Bool) → known s r ≡ t → (t ≡ true) × (placeOf s r ≡ i)
       go true e = (refl, sym (is ∙ rw e))
-      go false e = let out : i ≡ 1024 = is ∙ rw e in absurd (omega arith)
+      go false e = let out : i ≡ pairs = is ∙ rw e in absurd (omega arith)
 
-  outside : 1024 ≤ i → known s r ≡ false
-  outside h = go (ltb s 32) (ltb r 32) refl refl
+  outside : pairs ≤ i → known s r ≡ false
+  outside h = go (ltb s mostNodes) (ltb r mostNodes) refl refl
     where
-      go : (a b : Bool) → ltb s 32 ≡ a → ltb r 32 ≡ b → a && b ≡ false
+      go : (a b : Bool) → ltb s mostNodes ≡ a → ltb r mostNodes ≡ b → a && b ≡ false
       go true true ea eb =
-          let within : i ≡ 32 * s + r = is ∙ rw (ea, eb) in
-          absurd (omega (arith, ltb-true s 32 ea, ltb-true r 32 eb))
+          let within : i ≡ mostNodes * s + r = is ∙ rw (ea, eb) in
+          absurd (omega (arith, ltb-true s mostNodes ea, ltb-true r mostNodes eb))
       go true false ea eb = refl
       go false b ea eb = refl
 
   module _ (p : Pending) where
-    pub cut-inside : i < 1024 → record { cut = set (p .cut) i true; plan = p .plan; stamp = p .stamp } ≡ withCut p s r
+    pub cut-inside : i < pairs → record { cut = set (p .cut) i true; plan = p .plan; stamp = p .stamp } ≡ withCut p s r
     unfolding withCut
     cut-inside h = rw (inside h .0, inside h .1)
 
-    pub cut-outside : 1024 ≤ i → p ≡ withCut p s r
+    pub cut-outside : pairs ≤ i → p ≡ withCut p s r
     unfolding withCut
     cut-outside h = rw (outside h)
 
-    pub say-inside : (plan stamp : ℕ) → i < 1024
+    pub say-inside : (plan stamp : ℕ) → i < pairs
         → record { cut = p .cut; plan = set (p .plan) i plan; stamp = set (p .stamp) i stamp }
         ≡ withSay p s r plan stamp
     unfolding withSay
     say-inside plan stamp h = rw (inside h .0, inside h .1)
 
-    pub say-outside : (plan stamp : ℕ) → 1024 ≤ i → p ≡ withSay p s r plan stamp
+    pub say-outside : (plan stamp : ℕ) → pairs ≤ i → p ≡ withSay p s r plan stamp
     unfolding withSay
     say-outside plan stamp h = rw (outside h)
 
-    pub is-cut-inside : i < 1024 → getD (p .cut) i false ≡ isCut p s r
+    pub is-cut-inside : i < pairs → getD (p .cut) i false ≡ isCut p s r
     unfolding isCut
     is-cut-inside h = rw (inside h .0, inside h .1)
 
-    pub is-cut-outside : 1024 ≤ i → false ≡ isCut p s r
+    pub is-cut-outside : pairs ≤ i → false ≡ isCut p s r
     unfolding isCut
     is-cut-outside h = rw (outside h)
 
-    pub said-inside : i < 1024 → record { plan = getD (p .plan) i 0; stamp = getD (p .stamp) i 0 } ≡ saidOf p s r
+    pub said-inside : i < pairs → record { plan = getD (p .plan) i 0; stamp = getD (p .stamp) i 0 } ≡ saidOf p s r
     unfolding saidOf
     said-inside h = rw (inside h .0, inside h .1)
 
-    pub said-outside : 1024 ≤ i → unsaid ≡ saidOf p s r
+    pub said-outside : pairs ≤ i → unsaid ≡ saidOf p s r
     unfolding saidOf
     said-outside h = rw (outside h)

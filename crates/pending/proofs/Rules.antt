@@ -6,22 +6,23 @@ use native.Mathlib.Omega.{arith}
 use lib.ListN.{length}
 use lib.Seq.{getD-set-same, set-set}
 use borrow.Author.Tests.{lt-ltb}
+use Rattle.crew.specs.Parts.{mostNodes}
 use Rattle.pending.specs.declared.Pending.{Pending}
-use Rattle.pending.specs.Pairs.{known, placeOf, withCut, withSay, isCut}
+use Rattle.pending.specs.Pairs.{pairs, known, placeOf, withCut, withSay, isCut}
 
-module _ (p : Pending) (s r : ℕ) (hs : s < 32) (hr : r < 32) where
+module _ (p : Pending) (s r : ℕ) (hs : s < mostNodes) (hr : r < mostNodes) where
   -- 01: "of two says for one pair the last stands"
   pub last-say-stands : (plan stamp plan′ stamp′ : ℕ)
       → withSay (withSay p s r plan stamp) s r plan′ stamp′ ≡ withSay p s r plan′ stamp′
   unfolding withSay
-  last-say-stands plan stamp plan′ stamp′ = rw (lt-ltb s 32 hs, lt-ltb r 32 hr) (simp set-set)
+  last-say-stands plan stamp plan′ stamp′ = rw (lt-ltb s mostNodes hs, lt-ltb r mostNodes hr) (simp set-set)
 
   -- 01: "s to r is lost"
-  pub cut-stands : length (p .cut) ≡ 1024 → isCut (withCut p s r) s r ≡ true
+  pub cut-stands : length (p .cut) ≡ pairs → isCut (withCut p s r) s r ≡ true
   unfolding isCut withCut
   cut-stands long =
       let inside : placeOf s r < length (p .cut) = omega arith in
-      rw (lt-ltb s 32 hs, lt-ltb r 32 hr, getD-set-same (p .cut) (placeOf s r) true false inside)
+      rw (lt-ltb s mostNodes hs, lt-ltb r mostNodes hr, getD-set-same (p .cut) (placeOf s r) true false inside)
 
 either-cut : (t : Bool) (q p : Pending) (s r : ℕ) → q .cut ≡ p .cut → isCut (cond t q p) s r ≡ isCut p s r
 unfolding isCut

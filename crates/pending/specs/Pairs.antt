@@ -3,20 +3,25 @@ use Prim.Native.Nat.{ℕ, _+_, _*_}
 use mathlib.Core.Bool.{Bool, true, false, cond, _&&_}
 use lib.ListN.{getD, set, replicate}
 use lib.Dec.{ltb}
+use Rattle.crew.specs.Parts.{mostNodes}
 use Rattle.pending.specs.declared.Pending.{Pending}
 use Rattle.pending.specs.declared.Said.{Said}
 
+-- how many pairs of a sender and a receiver there are
+abbrev pub pairs : ℕ
+pairs = mostNodes * mostNodes
+
 -- A pair of nodes that a crew can have. Nothing is kept of any other, and nothing waits for it.
 abbrev pub known : ℕ → ℕ → Bool
-known sender receiver = ltb sender 32 && ltb receiver 32
+known sender receiver = ltb sender mostNodes && ltb receiver mostNodes
 
 -- where a known pair stands
 abbrev pub placeOf : ℕ → ℕ → ℕ
-placeOf sender receiver = 32 * sender + receiver
+placeOf sender receiver = mostNodes * sender + receiver
 
 -- 01: "Cuts and says last until the next go": so a drill begins, and so it goes on after each go
 unfoldable pub nothing : Pending
-nothing = record { cut = replicate 1024 false; plan = replicate 1024 0; stamp = replicate 1024 0 }
+nothing = record { cut = replicate pairs false; plan = replicate pairs 0; stamp = replicate pairs 0 }
 
 -- 01: "`cut s r` (s to r is lost)"
 unfoldable pub withCut : Pending → ℕ → ℕ → Pending

@@ -1,40 +1,40 @@
 // The cuts and says of a drill that wait for its next go, by pairs of a sender and a receiver.
 // Each function is what a definition says: specs/Pairs.antt; proofs/Rules.antt shows that 01's rules hold of them.
+use crew::MOST_NODES;
+use wire::Plan;
 ghost use mathlib.Core.Path.{_≡_};
 ghost use mathlib.Core.Bool.{cond};
-ghost use Rattle.pending.specs.Pairs.{known, placeOf, nothing, withCut, withSay, isCut, saidOf};
+ghost use Rattle.pending.specs.Pairs.{pairs, known, placeOf, nothing, withCut, withSay, isCut, saidOf};
 
-// The pair of a sender and a receiver stands at 32 times the sender plus the receiver.
+// A sender's pairs stand together, in the order of their receivers; `placeOf` in specs/Pairs.antt has the place.
 pub struct Pending {
-    pub cut: [bool; 1024],
+    pub cut: [bool; Pending::PAIRS],
     // What the sender is to say, 0 for nothing.
-    pub plan: [u16; 1024],
-    pub stamp: [u8; 1024],
+    pub plan: [Plan; Pending::PAIRS],
+    pub stamp: [u8; Pending::PAIRS],
 }
 
 // What a say has its sender send; plan 0 where there is no say.
 pub struct Said {
-    pub plan: u16,
+    pub plan: Plan,
     pub stamp: u8,
 }
 
 // Where a pair stands: outside the arrays where it is none of nodes that a crew can have.
 fn place(sender: usize, receiver: usize) -> usize
-    ensures { λ r. ⌜ r ≡ cond (known sender receiver) (placeOf sender receiver) 1024 ⌝ }
+    ensures { λ r. ⌜ r ≡ cond (known sender receiver) (placeOf sender receiver) pairs ⌝ }
 {
-    if sender < Pending::MOST_NODES {
-        if receiver < Pending::MOST_NODES {
-            return Pending::MOST_NODES * sender + receiver;
+    if sender < MOST_NODES {
+        if receiver < MOST_NODES {
+            return MOST_NODES * sender + receiver;
         }
     }
     Pending::PAIRS
 }
 
 impl Pending {
-    // No crew has more nodes.
-    pub const MOST_NODES: usize = 32;
-
-    pub const PAIRS: usize = 1024;
+    // Each node of the largest crew may send to each.
+    pub const PAIRS: usize = MOST_NODES * MOST_NODES;
 
     // Nothing waits.
     pub fn empty() -> Pending
@@ -42,7 +42,7 @@ impl Pending {
     {
         Pending {
             cut: [false; Pending::PAIRS],
-            plan: [0u16; Pending::PAIRS],
+            plan: [0; Pending::PAIRS],
             stamp: [0u8; Pending::PAIRS],
         }
     }
@@ -60,7 +60,7 @@ impl Pending {
     }
 
     // The sender, who is not honest, will send the receiver this plan with this stamp.
-    pub fn with_say(self, sender: usize, receiver: usize, plan: u16, stamp: u8) -> Pending
+    pub fn with_say(self, sender: usize, receiver: usize, plan: Plan, stamp: u8) -> Pending
         ensures { λ r. ⌜ r ≡ withSay self sender receiver plan stamp ⌝ }
     {
         let mut pending = self;

@@ -7,7 +7,10 @@ use native.Mathlib.Omega.{arith}
 use lib.ListN.{length, length-append, getD}
 use lib.Dec.{leb}
 use borrow.Author.Tests.{leb-true}
-use Rattle.print.specs.Texts.{placeOf, decimalOf, fieldOf, fieldsFrom, nodesShown, resultLine, badLine, wordOf}
+use Rattle.crew.specs.Parts.{mostNodes}
+use Rattle.script.specs.Lines.{space, newline}
+use Rattle.print.specs.Texts.{placeOf, decimalOf, decimalMost, fieldOf, fieldMost, fieldsFrom, nodesShown}
+use Rattle.print.specs.Texts.{resultLine, resultMost, badLine, badMost, wordOf}
 
 place-most : (v p : ℕ) → length (placeOf v p) ≤ 1
 place-most v p = go (leb p v)
@@ -16,8 +19,7 @@ place-most v p = go (leb p v)
     go true = omega arith
     go false = omega arith
 
--- a number has at most five digits
-pub decimal-most : (v : ℕ) → length (decimalOf v) ≤ 5
+pub decimal-most : (v : ℕ) → length (decimalOf v) ≤ decimalMost
 unfolding decimalOf
 decimal-most v =
     let units = (48 + v % 10) ∷ [] in
@@ -36,12 +38,12 @@ decimal-most v =
       place-most v 10,
     )
 
-field-most : (honest : Bool) (result : ℕ) → length (fieldOf honest result) ≤ 6
+field-most : (honest : Bool) (result : ℕ) → length (fieldOf honest result) ≤ fieldMost
 unfolding fieldOf
 field-most true result = omega (arith, decimal-most result)
 field-most false result = omega arith
 
-fields-most : (results : List ℕ) (honest : List Bool) (i n : ℕ) → length (fieldsFrom results honest i n) ≤ 6 * n
+fields-most : (results : List ℕ) (honest : List Bool) (i n : ℕ) → length (fieldsFrom results honest i n) ≤ fieldMost * n
 unfolding fieldsFrom
 fields-most results honest i zero = omega arith
 fields-most results honest i (suc n) =
@@ -54,39 +56,37 @@ fields-most results honest i (suc n) =
       fields-most results honest (i + 1) n,
     )
 
-pub shown-most : (n : ℕ) → nodesShown n ≤ 32
-shown-most n = go (leb n 32) refl
+pub shown-most : (n : ℕ) → nodesShown n ≤ mostNodes
+shown-most n = go (leb n mostNodes) refl
   where
-    go : (t : Bool) → leb n 32 ≡ t → cond t n 32 ≤ 32
-    go true e = leb-true n 32 e
+    go : (t : Bool) → leb n mostNodes ≡ t → cond t n mostNodes ≤ mostNodes
+    go true e = leb-true n mostNodes e
     go false e = omega arith
 
--- a result line has at most 204 bytes
 pub result-most : (phase round n : ℕ) (results : List ℕ) (honest : List Bool)
-    → length (resultLine phase round (nodesShown n) results honest) ≤ 204
+    → length (resultLine phase round (nodesShown n) results honest) ≤ resultMost
 unfolding resultLine
 result-most phase round n results honest =
     let nodes = fieldsFrom results honest 0 (nodesShown n) in
-    let after = decimalOf round ++ (nodes ++ (10 ∷ [])) in
+    let after = decimalOf round ++ (nodes ++ (newline ∷ [])) in
     omega (
       arith,
-      length-append (decimalOf phase) (32 ∷ after),
-      length-append (decimalOf round) (nodes ++ (10 ∷ [])),
-      length-append nodes (10 ∷ []),
+      length-append (decimalOf phase) (space ∷ after),
+      length-append (decimalOf round) (nodes ++ (newline ∷ [])),
+      length-append nodes (newline ∷ []),
       decimal-most phase,
       decimal-most round,
       fields-most results honest 0 (nodesShown n),
       shown-most n,
     )
 
--- `bad L` has at most 10
-pub bad-most : (line : ℕ) → length (badLine line) ≤ 10
+pub bad-most : (line : ℕ) → length (badLine line) ≤ badMost
 unfolding badLine
 bad-most line =
-    let rest = decimalOf line ++ (10 ∷ []) in
+    let rest = decimalOf line ++ (newline ∷ []) in
     omega (
       arith,
-      length-append (wordOf 98 97 100 32) rest,
-      length-append (decimalOf line) (10 ∷ []),
+      length-append (wordOf 98 97 100 space) rest,
+      length-append (decimalOf line) (newline ∷ []),
       decimal-most line,
     )

@@ -1,4 +1,5 @@
--- A printed number is read back: every number up to 65,535 has one field, its digits without leading zeros.
+-- A printed number is read back: every number that is not too large to be read has one field, its digits without
+-- leading zeros.
 use mathlib.Core.Path.{_≡_, refl, ap, _∙_}
 use mathlib.Core.Bool.{Bool, true, false}
 use mathlib.Core.List.{List, [], _∷_}
@@ -8,7 +9,7 @@ use lib.ListN.{length}
 use lib.Dec.{leb, eqb, ltb}
 use borrow.Author.Tests.{le-leb, lt-leb, lt-ltb, le-ltb, ne-eqb, leb-true, leb-false}
 use Rattle.wire.proofs.Tests.{and-false}
-use Rattle.script.specs.Fields.{digitOf, valueFrom, numberOf}
+use Rattle.script.specs.Fields.{largest, digitOf, valueFrom, numberOf}
 use Rattle.script.specs.declared.Number.the-variants.{Value}
 use Rattle.print.specs.Texts.{decimalOf}
 
@@ -18,10 +19,10 @@ digit-read d h =
     let b : 48 + d ≤ 57 = omega arith in
     rw (le-ltb (48 + d) 48 a, le-ltb 57 (48 + d) b) (omega arith)
 
-value-digit : (a d b : ℕ) (cs : List ℕ) → d < 10 → 10 * a + d ≡ b → b ≤ 65535
+value-digit : (a d b : ℕ) (cs : List ℕ) → d < 10 → 10 * a + d ≡ b → b ≤ largest
     → valueFrom a ((48 + d) ∷ cs) ≡ valueFrom b cs
 unfolding valueFrom
-value-digit a d b cs h e k = rw (digit-read d h, e, lt-ltb d 10 h, le-leb b 65535 k)
+value-digit a d b cs h e k = rw (digit-read d h, e, lt-ltb d 10 h, le-leb b largest k)
 
 value-all : (a b : ℕ) → a ≡ b → valueFrom a [] ≡ Value b
 unfolding valueFrom
@@ -34,7 +35,7 @@ number-first d cs h =
     let b : 48 + d ≡ 48 → ⊥ = λ z. omega arith in
     rw (ne-eqb (suc (length cs)) 0 a, ne-eqb (48 + d) 48 b, and-false (leb 2 (suc (length cs))))
 
-module _ (v : ℕ) (small : v ≤ 65535) where
+module _ (v : ℕ) (small : v ≤ largest) where
   read1 : v < 10 → numberOf (decimalOf v) ≡ Value v
   unfolding decimalOf numberOf
   read1 h =

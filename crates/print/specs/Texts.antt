@@ -1,11 +1,13 @@
 -- The lines that a drill prints: document 01, 'The drill'.
-use Prim.Native.Nat.{ℕ, zero, suc, _+_, _/_, _%_}
+use Prim.Native.Nat.{ℕ, zero, suc, _+_, _*_, _/_, _%_}
 use mathlib.Core.Bool.{Bool, false, cond}
 use mathlib.Core.List.{List, [], _∷_, _++_}
 use mathlib.Core.Path.{_≡_}
 use lib.ListN.{length, getD}
 use lib.Dec.{leb}
 use lib.Seq.{sets}
+use Rattle.crew.specs.Parts.{mostNodes}
+use Rattle.script.specs.Lines.{space, newline}
 
 -- From the buffer l and the place at, writing a text leaves l′ and goes on to at′: the text stands there as far as the
 -- buffer goes, and no other byte of it has changed.
@@ -22,10 +24,17 @@ placeOf v p = cond (leb p v) ((48 + v / p % 10) ∷ []) []
 unfoldable pub decimalOf : ℕ → List ℕ
 decimalOf v = placeOf v 10000 ++ (placeOf v 1000 ++ (placeOf v 100 ++ (placeOf v 10 ++ ((48 + v % 10) ∷ []))))
 
+-- how many digits it has at most
+abbrev pub decimalMost : ℕ
+decimalMost = 5
+
 -- a space, and the node's result.
 -- 01: "each node's result, `-` if not honest"
 unfoldable pub fieldOf : Bool → ℕ → List ℕ
-fieldOf honest result = 32 ∷ cond honest (decimalOf result) (45 ∷ [])
+fieldOf honest result = space ∷ cond honest (decimalOf result) (45 ∷ [])
+
+abbrev pub fieldMost : ℕ
+fieldMost = 1 + decimalMost
 
 -- of n nodes from node i on
 unfoldable pub fieldsFrom : List ℕ → List Bool → ℕ → ℕ → List ℕ
@@ -33,26 +42,34 @@ fieldsFrom results honest i zero = []
 fieldsFrom results honest i (suc n) =
     fieldOf (getD honest i false) (getD results i 0) ++ fieldsFrom results honest (i + 1) n
 
--- a line has room for the results of 32 nodes
+-- a line has room for the results of the largest crew
 abbrev pub nodesShown : ℕ → ℕ
-nodesShown n = cond (leb n 32) n 32
+nodesShown n = cond (leb n mostNodes) n mostNodes
 
 -- 01: "Each go prints phase, round just done, and each node's result"
 unfoldable pub resultLine : ℕ → ℕ → ℕ → List ℕ → List Bool → List ℕ
 resultLine phase round n results honest =
-    decimalOf phase ++ (32 ∷ (decimalOf round ++ (fieldsFrom results honest 0 n ++ (10 ∷ []))))
+    decimalOf phase ++ (space ∷ (decimalOf round ++ (fieldsFrom results honest 0 n ++ (newline ∷ []))))
+
+-- how long the line can be, with a result for each node of the largest crew
+abbrev pub resultMost : ℕ
+resultMost = decimalMost + 1 + decimalMost + fieldMost * mostNodes + 1
 
 abbrev pub wordOf : ℕ → ℕ → ℕ → ℕ → List ℕ
 wordOf w x y z = w ∷ x ∷ y ∷ z ∷ []
 
 -- 01: "A bad line L .. prints `bad L`"
 unfoldable pub badLine : ℕ → List ℕ
-badLine l = wordOf 98 97 100 32 ++ (decimalOf l ++ (10 ∷ []))
+badLine l = wordOf 98 97 100 space ++ (decimalOf l ++ (newline ∷ []))
+
+-- how long the line can be
+abbrev pub badMost : ℕ
+badMost = 4 + decimalMost + 1
 
 -- 01: "The end prints `end`."
 abbrev pub endLine : List ℕ
-endLine = wordOf 101 110 100 10
+endLine = wordOf 101 110 100 newline
 
 -- 01: "over 65,536 bytes: prints `long` only"
 abbrev pub longLine : List ℕ
-longLine = wordOf 108 111 110 103 ++ (10 ∷ [])
+longLine = wordOf 108 111 110 103 ++ (newline ∷ [])

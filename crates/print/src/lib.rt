@@ -1,17 +1,25 @@
 // The lines that a drill prints, laid in a lent buffer from a place on; each function answers the place after its line.
 // A public function takes the place as a number of 32 bits, so that no sum with a line's length can pass the largest
 // number of 64 and nothing has to be required of it. What would lie beyond the buffer's end is left out, so a caller
-// lends enough: specs/Texts.antt has the texts, and proofs/Lengths.antt how long a result line can be.
+// lends enough: specs/Texts.antt has the texts and how long they can be, proofs/Lengths.antt that none is longer.
+use crew::MOST_NODES;
+use script::NEWLINE;
+use script::SPACE;
+use wire::Plan;
 ghost use mathlib.Core.Path.{_≡_};
-ghost use Prim.Native.Nat.{_+_, _≤_};
+ghost use Prim.Native.Nat.{_+_, _*_, _≤_};
 ghost use lib.ListN.{set};
+ghost use Rattle.crew.specs.Parts.{mostNodes};
 ghost use Rattle.print.specs.Texts.{
   Wrote,
   placeOf,
   decimalOf,
+  decimalMost,
   fieldOf,
+  fieldMost,
   fieldsFrom,
   resultLine,
+  resultMost,
   badLine,
   endLine,
   longLine,
@@ -19,15 +27,18 @@ ghost use Rattle.print.specs.Texts.{
   nodesShown,
 };
 
-const NEWLINE: u8 = 10;
+const DASH: u8 = b'-';
 
-const SPACE: u8 = 32;
+const ZERO: u32 = b'0' as u32;
 
-const DASH: u8 = 45;
-
-const ZERO: u32 = 48;
-// A line has room for so many results: no crew has more nodes.
-const MOST_NODES: usize = 32;
+// No number that is printed has more digits.
+const MOST_DIGITS: usize = 5;
+// A space and a node's result.
+const MOST_FIELD: usize = 1 + MOST_DIGITS;
+// The longest line after a go: the phase, a space, the round, a result for each node, and the line's end.
+pub const MOST_RESULT: usize = MOST_DIGITS + 1 + MOST_DIGITS + MOST_FIELD * MOST_NODES + 1;
+// The longest line for a bad one: a word of four bytes, the line's number, and the line's end.
+pub const MOST_BAD: usize = 4 + MOST_DIGITS + 1;
 
 // One byte at a place.
 fn put(buf: &mut [u8], at: usize, byte: u8)
@@ -69,7 +80,7 @@ fn put_place(buf: &mut [u8], at: usize, v: u32, p: u32) -> usize
 // The digits of a number below 100,000.
 fn put_number(buf: &mut [u8], at: usize, v: u32) -> usize
     requires { ⌜ at ≤ 4294969000 ⌝ }
-    ensures { λ r. ⌜ Wrote (now (buf .entry)) at (decimalOf v) (now (buf .exit)) r × (r ≤ at + 5) ⌝ }
+    ensures { λ r. ⌜ Wrote (now (buf .entry)) at (decimalOf v) (now (buf .exit)) r × (r ≤ at + decimalMost) ⌝ }
 {
     let a = put_place(buf, at, v, 10000);
     let b = put_place(buf, a, v, 1000);
@@ -80,9 +91,9 @@ fn put_number(buf: &mut [u8], at: usize, v: u32) -> usize
 }
 
 // A space, and a node's result, or a dash.
-fn put_field(buf: &mut [u8], at: usize, honest: bool, result: u16) -> usize
+fn put_field(buf: &mut [u8], at: usize, honest: bool, result: Plan) -> usize
     requires { ⌜ at ≤ 4294968000 ⌝ }
-    ensures { λ r. ⌜ Wrote (now (buf .entry)) at (fieldOf honest result) (now (buf .exit)) r × (r ≤ at + 6) ⌝ }
+    ensures { λ r. ⌜ Wrote (now (buf .entry)) at (fieldOf honest result) (now (buf .exit)) r × (r ≤ at + fieldMost) ⌝ }
 {
     put(buf, at, SPACE);
     let b = at + 1;
@@ -99,12 +110,12 @@ fn put_fields(
     buf: &mut [u8],
     start: usize,
     n: usize,
-    results: [u16; 32],
-    honest: [bool; 32],
+    results: [Plan; MOST_NODES],
+    honest: [bool; MOST_NODES],
 ) -> usize
-    requires { ⌜ (start ≤ 4294967400) × (n ≤ 32) ⌝ }
+    requires { ⌜ (start ≤ 4294967400) × (n ≤ mostNodes) ⌝ }
     ensures { λ r. ⌜ Wrote (now (buf .entry)) start (fieldsFrom results honest 0 n) (now (buf .exit)) r
-        × (r ≤ start + 192) ⌝ }
+        × (r ≤ start + fieldMost * mostNodes) ⌝ }
 {
     let mut at = start;
     let mut i: usize = 0;
@@ -115,8 +126,9 @@ fn put_fields(
     at
 }
 
+// A line has room for so many results: no crew has more nodes.
 fn nodes_shown(n: usize) -> usize
-    ensures { λ r. ⌜ (r ≡ nodesShown n) × (r ≤ 32) ⌝ }
+    ensures { λ r. ⌜ (r ≡ nodesShown n) × (r ≤ mostNodes) ⌝ }
 {
     if n <= MOST_NODES { n } else { MOST_NODES }
 }
@@ -128,11 +140,11 @@ pub fn result_line(
     phase: u8,
     round: u8,
     n: usize,
-    results: [u16; 32],
-    honest: [bool; 32],
+    results: [Plan; MOST_NODES],
+    honest: [bool; MOST_NODES],
 ) -> usize
     ensures { λ r. ⌜ Wrote (now (buf .entry)) at (resultLine phase round (nodesShown n) results honest)
-        (now (buf .exit)) r × (r ≤ at + 204) ⌝ }
+        (now (buf .exit)) r × (r ≤ at + resultMost) ⌝ }
 {
     let shown = nodes_shown(n);
     let a = put_number(buf, at as usize, phase as u32);

@@ -10,6 +10,7 @@ use lib.ListN.{length}
 use borrow.Author.Tests.{eqb-true, eqb-false}
 use Rattle.crew.specs.Thresholds.{classOf}
 use Rattle.crew.proofs.Facts.{accepts, quorum-positive}
+use Rattle.message.specs.Layout.{slotSize}
 use Rattle.ballot.specs.Selection.{taken}
 use Rattle.ballot.specs.Validation.{validated}
 use Rattle.ballot.specs.Decision.{decision}
@@ -22,7 +23,8 @@ use Rattle.tally.proofs.Countable.{facts-countable, selected-rule, valid-rule, 
 use Rattle.rounds.specs.Taking.{afterSelection, afterValidation, afterDecision, afterRound}
 use Rattle.rounds.specs.Steps.{planOf, afterPlan}
 
-pub sound-countable : (d : Node) (size : ℕ) → sound d ≡ true → size ≡ 202 * d .crew .n → countable (d .crew) size ≡ true
+pub sound-countable : (d : Node) (size : ℕ) → sound d ≡ true → size ≡ slotSize * d .crew .n
+    → countable (d .crew) size ≡ true
 sound-countable d size ok whole =
     let crew = accepts (d .crew) (sound-facts d ok .crew) in
     facts-countable (d .crew) size (record {
@@ -39,7 +41,7 @@ unfolding ballotAt
 heard-ballots d bytes round is = rw (sym is)
 
 -- The plan that the round comes to is that of its rule.
-module _ (d : Node) (bytes : List ℕ) (ok : sound d ≡ true) (whole : length bytes ≡ 202 * d .crew .n) where
+module _ (d : Node) (bytes : List ℕ) (ok : sound d ≡ true) (whole : length bytes ≡ slotSize * d .crew .n) where
   counted : countable (d .crew) (length bytes) ≡ true
   counted = sound-countable d (length bytes) ok whole
 

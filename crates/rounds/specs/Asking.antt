@@ -4,8 +4,10 @@ use mathlib.Core.Bool.{_&&_}
 use mathlib.Core.List.{List}
 use lib.ListN.{length}
 use lib.Dec.{ltb, eqb}
+use Rattle.wire.specs.Sizes.{spentPhase}
 use Rattle.wire.specs.Outcome.{Outcome, accepted, refused, require}
 use Rattle.crew.specs.Thresholds.{classOf}
+use Rattle.message.specs.Layout.{slotSize}
 use Rattle.ballot.specs.Selection.{Choice, plan, any, nothing, selection}
 use Rattle.node.specs.declared.Node.{Node}
 use Rattle.node.specs.Soundness.{sound}
@@ -19,8 +21,8 @@ use Rattle.rounds.specs.declared.Asking.the-variants.{Plan, Any, Nothing
 unfoldable pub askOf : Node → List ℕ → Outcome Choice
 askOf d bytes =
     require (sound d && eqb (d .round) 1) 7
-    (require (ltb (d .phase) 64) 8
-    (require (eqb (length bytes) (202 * d .crew .n)) 14
+    (require (ltb (d .phase) spentPhase) 8
+    (require (eqb (length bytes) (slotSize * d .crew .n)) 14
     (accepted (selection (classOf (d .crew)) (d .crew) (ballots d bytes)))))
 
 -- what an answer of `ask` says in 01's terms

@@ -4,9 +4,11 @@ use mathlib.Core.Bool.{cond}
 use mathlib.Core.List.{List}
 use lib.ListN.{length, set}
 use lib.Dec.{ltb, eqb}
+use Rattle.wire.specs.Sizes.{spentPhase}
 use Rattle.wire.specs.Plan.{ifPlan}
 use Rattle.wire.specs.Outcome.{Outcome, accepted, refused, require}
 use Rattle.crew.specs.Thresholds.{classOf}
+use Rattle.message.specs.Layout.{slotSize}
 use Rattle.ballot.specs.Ballot.{Ballot}
 use Rattle.ballot.specs.Selection.{taken}
 use Rattle.ballot.specs.Validation.{validated}
@@ -80,8 +82,8 @@ afterRound d heard =
 unfoldable pub takeOf : Node → List ℕ → Outcome Node
 takeOf d bytes =
     require (sound d) 7
-    (require (ltb (d .phase) 64) 8
-    (require (eqb (length bytes) (202 * d .crew .n)) 14
+    (require (ltb (d .phase) spentPhase) 8
+    (require (eqb (length bytes) (slotSize * d .crew .n)) 14
     (accepted (afterRound d (ballots d bytes)))))
 
 -- 01's number of each refusal

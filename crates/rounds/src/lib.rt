@@ -1,13 +1,15 @@
 // Asking for the coming selection, and taking a round: from an inbox's bytes to the next record.
 // What each answers stands in specs/Asking.antt and specs/Taking.antt. Crate tally runs the rules over the inbox.
 use crew::Crew;
-use inbox::SLOT;
+use message::SLOT;
 use node::Node;
 use tally::Choice;
+use wire::Plan;
 ghost use mathlib.Core.Path.{_≡_};
 ghost use mathlib.Core.Bool.{cond};
 ghost use lib.Dec.{eqb};
 ghost use Prim.Native.Nat.{_<_};
+ghost use Rattle.wire.specs.Sizes.{spentPhase};
 ghost use Rattle.wire.specs.Outcome.{accepted, verdict, valueOr};
 ghost use Rattle.tally.specs.Rules.{choiceAs};
 ghost use Rattle.rounds.specs.Taking.{
@@ -42,7 +44,7 @@ pub struct Taken {
 
 // What asking for the coming selection answers.
 pub enum Asking {
-    Plan(u16),
+    Plan(Plan),
     Any,
     Nothing,
     Refused(Refusal),
@@ -58,7 +60,7 @@ pub struct Asked {
 fn round_after_selection(class: u8) -> u8
     ensures { λ r. ⌜ r ≡ cond (eqb class 1) 3 2 ⌝ }
 {
-    if class == 1 {
+    if class == Crew::CLASS_ONE {
         Node::DECISION
     } else {
         Node::VALIDATION
@@ -66,8 +68,8 @@ fn round_after_selection(class: u8) -> u8
 }
 
 // 01: "Select is the plan, or 0 for 'none'; a plan becomes the vote and the phase's history entry."
-fn after_selection(node: Node, plan: u16) -> Node
-    requires { ⌜ node .phase < 64 ⌝ }
+fn after_selection(node: Node, plan: Plan) -> Node
+    requires { ⌜ node .phase < spentPhase ⌝ }
     ensures { λ r. ⌜ r ≡ afterSelection node plan ⌝ }
 {
     let mut next = node;
@@ -83,7 +85,7 @@ fn after_selection(node: Node, plan: u16) -> Node
 }
 
 // 01: "vote and base become it and stamp becomes the phase; otherwise vote becomes base"
-fn after_validation(node: Node, plan: u16) -> Node
+fn after_validation(node: Node, plan: Plan) -> Node
     ensures { λ r. ⌜ r ≡ afterValidation node plan ⌝ }
 {
     let mut next = node;
@@ -100,8 +102,8 @@ fn after_validation(node: Node, plan: u16) -> Node
 
 // 01: "If there are any and result is 0, result becomes the least. A result stands for good. Phase rises by 1, round
 // is 1."
-fn after_decision(node: Node, plan: u16) -> Node
-    requires { ⌜ node .phase < 64 ⌝ }
+fn after_decision(node: Node, plan: Plan) -> Node
+    requires { ⌜ node .phase < spentPhase ⌝ }
     ensures { λ r. ⌜ r ≡ afterDecision node plan ⌝ }
 {
     let mut next = node;
@@ -116,7 +118,7 @@ fn after_decision(node: Node, plan: u16) -> Node
 
 // The plan that a round comes to, 0 where it comes to none. It is handed what it needs of the record and not the
 // record, whose history would be copied.
-fn plan_of(crew: Crew, run: u32, phase: u8, round: u8, inbox: &[u8]) -> u16
+fn plan_of(crew: Crew, run: u32, phase: u8, round: u8, inbox: &[u8]) -> Plan
     ensures { λ r. ⌜ r ≡ planOf crew run phase round (now (inbox .entry)) ⌝ }
 {
     if round == Node::SELECTION {
@@ -129,8 +131,8 @@ fn plan_of(crew: Crew, run: u32, phase: u8, round: u8, inbox: &[u8]) -> u16
 }
 
 // The record after its coming round, which came to this plan.
-fn after_plan(node: Node, plan: u16) -> Node
-    requires { ⌜ node .phase < 64 ⌝ }
+fn after_plan(node: Node, plan: Plan) -> Node
+    requires { ⌜ node .phase < spentPhase ⌝ }
     ensures { λ r. ⌜ r ≡ afterPlan node plan ⌝ }
 {
     if node.round == Node::SELECTION {

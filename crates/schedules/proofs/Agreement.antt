@@ -11,6 +11,7 @@ use native.Mathlib.Omega.{arith}
 use native.Mathlib.Decide.{decLt}
 use lib.ListN.{length, length-take}
 use lib.Dec.{T, ltb}
+use Rattle.wire.specs.Sizes.{spentPhase}
 use Rattle.wire.specs.Outcome.{accepted, isAccepted}
 use Rattle.crew.specs.declared.Crew.{Crew}
 use Rattle.crew.specs.Acceptance.{acceptOf}
@@ -222,7 +223,7 @@ module _ (s : Schedule) (crew : Crew) (run : ℕ) (l : Listing) (inStep : InLock
       p w (honest-in p h) (plan-to s crew ok p l (run-carries p h) w d)
 
   -- Good phases, which 02 does not ask for: every node in the circle of a phase that is good in the run has decided.
-  pub good-phase : (phase : ℕ) (circle : ℕ → Bool) → 1 ≤ phase → phase < 64 → lists.Good l crew phase circle
+  pub good-phase : (phase : ℕ) (circle : ℕ → Bool) → 1 ≤ phase → phase < spentPhase → lists.Good l crew phase circle
       → (p : ℕ) → T (circle p) → (j : ℕ) × (v : ℕ) × (phaseAt crew j ≤ phase) × Wins s crew p j v
   good-phase phase circle from early good p inside =
       let h = subst (λ starts. T (ltb 0 (numbered p (made starts)))) (inStep .starts) (good .inside p inside) in

@@ -13,28 +13,29 @@ use borrow.Author.Tests.{leb-true}
 use Rattle.wire.specs.Outcome.{refused}
 use Rattle.wire.specs.Bytes.{AreBytes}
 use Rattle.wire.proofs.Tests.{both-true}
+use Rattle.message.specs.Layout.{headerSize, slotSize}
 use Rattle.message.specs.Reading.{lengthAt, framed, readOf}
 use Rattle.node.specs.declared.Node.{Node}
 use Rattle.inbox.specs.Inbox.{slotAt, counted, ballotAt}
 use Rattle.schedules.specs.Schedule.{emptyInbox}
 
-pub empty-length : (n : ℕ) → length (emptyInbox n) ≡ 202 * n
-empty-length n = length-replicate {A = ℕ} (202 * n) 0
+pub empty-length : (n : ℕ) → length (emptyInbox n) ≡ slotSize * n
+empty-length n = length-replicate {A = ℕ} (slotSize * n) 0
 
 empty-at : (n i : ℕ) → _≡_ {A = ℕ} (getD (emptyInbox n) i 0) 0
-empty-at n i = elim (decLt i (202 * n)) [
-  | yes inside ↦ getD-replicate (202 * n) i 0 0 inside
+empty-at n i = elim (decLt i (slotSize * n)) [
+  | yes inside ↦ getD-replicate (slotSize * n) i 0 0 inside
   | no outside ↦ List·getD-eq-default (emptyInbox n) 0 {n = i} (omega (arith, empty-length n))
 ]
 
 pub empty-bytes : (n : ℕ) → AreBytes (emptyInbox n)
 empty-bytes n place = omega (arith, empty-at n place)
 
-slot-at : (n q i : ℕ) → i < 202 → _≡_ {A = ℕ} (getD (slotAt (emptyInbox n) q) i 0) 0
+slot-at : (n q i : ℕ) → i < slotSize → _≡_ {A = ℕ} (getD (slotAt (emptyInbox n) q) i 0) 0
 slot-at n q i h =
-    getD-take 202 (drop (202 * q) (emptyInbox n)) i 0 h
-    ∙ getD-drop (202 * q) (emptyInbox n) i 0
-    ∙ empty-at n (202 * q + i)
+    getD-take slotSize (drop (slotSize * q) (emptyInbox n)) i 0 h
+    ∙ getD-drop (slotSize * q) (emptyInbox n) i 0
+    ∙ empty-at n (slotSize * q + i)
 
 -- reading refuses a slice whose length stands as 0
 no-length : (s : List ℕ) → _≡_ {A = ℕ} (lengthAt s) 0 → readOf s ≡ refused 10
@@ -43,9 +44,10 @@ no-length s e = go (framed s) refl
   where
     go : (b : Bool) → framed s ≡ b → readOf s ≡ refused 10
     go true h =
-        let first = both-true (leb 9 (length s) && leb 9 (lengthAt s)) (leb (lengthAt s) (length s)) h .0 in
-        let nine = both-true (leb 9 (length s)) (leb 9 (lengthAt s)) first .1 in
-        absurd (omega (arith, leb-true 9 (lengthAt s) nine))
+        let first =
+        both-true (leb headerSize (length s) && leb headerSize (lengthAt s)) (leb (lengthAt s) (length s)) h .0 in
+        let header = both-true (leb headerSize (length s)) (leb headerSize (lengthAt s)) first .1 in
+        absurd (omega (arith, leb-true headerSize (lengthAt s) header))
     go false h = rw h
 
 pub nothing-counts : (d : Node) (n q : ℕ) → ballotAt d (emptyInbox n) q ≡ none

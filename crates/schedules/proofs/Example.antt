@@ -8,7 +8,9 @@ use native.Mathlib.Omega.{arith}
 use lib.ListN.{length, drop, replicate}
 use lib.Dec.{T}
 use Rattle.crew.specs.declared.Crew.{Crew}
+use Rattle.crew.specs.Parts.{crewOf}
 use Rattle.crew.specs.Acceptance.{acceptOf}
+use Rattle.message.specs.Layout.{slotSize}
 use Rattle.message.specs.Bounds.{entriesOk}
 use Rattle.message.specs.Encoding.{entryBytes, encode}
 use Rattle.message.specs.Reading.{entriesIn, bodyAt, tested, readOf}
@@ -36,7 +38,7 @@ use Rattle.schedules.proofs.Checking.{bytes-ok, slots-ok}
 use Rattle.schedules.proofs.Agreement.{out-of-step}
 
 abbrev crew : Crew
-crew = record { class = 3; n = 4; b = 1; f = 0; d = 3 }
+crew = crewOf 3 4 1 0 3
 
 -- What nodes write in phase 1, byte by byte: a selection of vote 5 with stamp 0 and one entry, 5 at phase 0; a
 -- validation of plan 5; a decision with vote 5 and stamp 1.
@@ -51,7 +53,7 @@ abbrev decisionMessage : List ℕ
 decisionMessage = 12 ∷ 0 ∷ 3 ∷ 0 ∷ 1 ∷ 0 ∷ 0 ∷ 0 ∷ 1 ∷ 5 ∷ 0 ∷ 1 ∷ []
 
 abbrev buffer : List ℕ
-buffer = replicate 202 0
+buffer = replicate slotSize 0
 
 abbrev slot : List ℕ → List ℕ
 slot message = message ++ drop (length message) buffer

@@ -18,6 +18,7 @@ use borrow.Author.Tests.{lt-ltb, le-ltb}
 use Rattle.wire.specs.Outcome.{isAccepted}
 use Rattle.wire.specs.Bytes.{AreBytes}
 use Rattle.crew.specs.declared.Crew.{Crew}
+use Rattle.message.specs.Layout.{slotSize}
 use Rattle.ballot.specs.Ballot.{Ballot}
 use Rattle.ballot.proofs.Slots.{not-none}
 use Rattle.node.specs.declared.Node.{Node}
@@ -72,7 +73,7 @@ padded n d (c ∷ cs) taken (inr h) =
 -- On a record that takes every inbox of the right length and no other, such a round is whole.
 
 whole-front : (n : ℕ) (d : Node) → Unspent n d → (front : List Call) → OneRound d front false
-    → (inbox : List ℕ) → length inbox ≡ 202 * n → Whole n (front ++ (take-round inbox ∷ []))
+    → (inbox : List ℕ) → length inbox ≡ slotSize * n → Whole n (front ++ (take-round inbox ∷ []))
 whole-front n d u [] h inbox long = inl (long, tt)
 whole-front n d u (c ∷ cs) (inl h) inbox long = not-both (h .2)
 whole-front n d u (write buffer ∷ cs) (inr h) inbox long = whole-front n d u cs (h .1) inbox long
@@ -87,9 +88,9 @@ whole-round : (n : ℕ) (d : Node) (cs : List Call) → Unspent n d → Padded n
 whole-round n d cs u t = rw (t .parts) (whole-front n d u (t .front) (t .unended) (t .inbox) (long (t .ends)))
   where
     -- what an accepted take was handed has the right length
-    long : (isAccepted (takeOf d (t .inbox)) ≡ true) ⊎ (t .inbox ≡ emptyInbox n) → length (t .inbox) ≡ 202 * n
+    long : (isAccepted (takeOf d (t .inbox)) ≡ true) ⊎ (t .inbox ≡ emptyInbox n) → length (t .inbox) ≡ slotSize * n
     long (inr e) = ap length e ∙ empty-length n
-    long (inl e) = elim (ℕ-discrete (length (t .inbox)) (202 * n)) [
+    long (inl e) = elim (ℕ-discrete (length (t .inbox)) (slotSize * n)) [
       | yes l ↦ l
       | no l ↦ not-both (sym (ap isAccepted (u .takes-not (t .inbox) l)) ∙ e)
     ]

@@ -2,38 +2,35 @@
 -- a schedule say, in its sender's round of that number. Nothing is lost by it: the bytes of another round have another
 -- phase or another kind, so the premises follow from 02's words alone. Assumes nothing.
 use mathlib.Core.Path.{_≡_, refl, sym, ap, ap₂, _∙_, subst}
-use mathlib.Core.Bool.{Bool, true, false, cond, _&&_}
+use mathlib.Core.Bool.{Bool, true, false, _&&_}
 use mathlib.Core.List.{List, [], _∷_, _++_, append-nil, append-assoc}
 use mathlib.Core.List.{head-eq-of-cons-eq, tail-eq-of-cons-eq}
 use mathlib.Core.Logic.{_⊎_, inl, inr}
-use mathlib.Core.Option.{Option, none, some}
+use mathlib.Core.Option.{some}
 use Prim.Native.Nat.{ℕ, _≤_, _<_}
 use native.Mathlib.Omega.{arith}
 use native.Mathlib.Decide.{decLt, decLe}
 use lib.ListN.{length}
 use lib.Dec.{T, ltb, eqb}
 use borrow.Author.Tests.{eqb-true}
-use Rattle.wire.specs.Outcome.{accepted, isAccepted}
+use Rattle.wire.specs.Sizes.{spentPhase}
+use Rattle.wire.specs.Outcome.{isAccepted}
 use Rattle.wire.proofs.Tests.{both-true}
 use Rattle.crew.specs.declared.Crew.{Crew}
 use Rattle.message.specs.Fields.{Message}
 use Rattle.message.specs.Encoding.{kindOf}
-use Rattle.message.specs.Reading.{readOf}
 use Rattle.ballot.specs.Ballot.{Ballot}
-use Rattle.ballot.proofs.Slots.{not-none}
 use Rattle.node.specs.declared.Node.{Node}
-use Rattle.node.specs.Sending.{comingOf, encoded}
-use Rattle.node.proofs.Coming.{Says, selects, validates, decides}
+use Rattle.node.proofs.Coming.{Says, selects, confirms, decides}
 use Rattle.node.proofs.Facts.{Typed}
 use Rattle.node.proofs.SendLaws.{write-accepted}
-use Rattle.node.proofs.ReadBack.{read-back}
-use Rattle.inbox.specs.Inbox.{slotAt, ballotOf, isOf, counted, ballotAt}
+use Rattle.inbox.specs.Inbox.{slotAt, isOf, ballotAt}
 use Rattle.rounds.specs.Taking.{takeOf}
 use Rattle.agreement.specs.Statement.{Call, Event, write, ask, take-round, Listing, afterCall, callsOf, Puts, Wrote}
 use Rattle.agreement.specs.Statement.{phaseIf, roundIf, phaseAt, roundAt, Conclusions}
 use Rattle.agreement.proofs.Demand.{demand3}
 use Rattle.agreement.proofs.Simulation.{follows}
-use Rattle.agreement.proofs.Written.{puts-coming}
+use Rattle.agreement.proofs.Written.{Heard, slot-heard}
 use Rattle.schedules.specs.Schedule.{Schedule, on, upTo, isHonest, startRecord, recordAfter, roundsTaken}
 use Rattle.schedules.specs.Schedule.{ownCalls, ownRecord, OwnWrote, TakesAfter, SchedulePremises, WrittenBefore}
 use Rattle.schedules.specs.Schedule.{SameRound, lockStep, InLockStep}
@@ -57,42 +54,24 @@ round-wrote d (c ∷ cs) taken w (inr h) (inr wrote) =
 -- what a message says of its place is the record's
 says-place : {d : Node} {m : Message} → Says d m → (m .phase ≡ d .phase) × (kindOf (m .body) ≡ d .round)
 says-place (selects one) = (refl, sym one)
-says-place (validates two plan) = (refl, sym two)
+says-place (confirms two plan) = (refl, sym two)
 says-place (decides three) = (refl, sym three)
 
 -- a message that counts is of the coming round
-counted-place : (run phase round : ℕ) (m : Message) (b : Ballot) → counted run phase round (accepted m) ≡ some b
+counted-place : (run phase round : ℕ) (m : Message) → isOf run phase round m ≡ true
     → (m .phase ≡ phase) × (kindOf (m .body) ≡ round)
-counted-place run phase round m b e = go (isOf run phase round m) refl e
-  where
-    go : (of : Bool) → isOf run phase round m ≡ of → cond of (some (ballotOf (m .body))) none ≡ some b
-        → (m .phase ≡ phase) × (kindOf (m .body) ≡ round)
-    go false h e = absurd (not-none e)
-    go true h e =
-        let both = both-true (eqb (m .run) run && eqb (kindOf (m .body)) round) (eqb (m .phase) phase) h in
-        let first = both-true (eqb (m .run) run) (eqb (kindOf (m .body)) round) (both .0) in
-        (eqb-true _ _ (both .1), eqb-true _ _ (first .1))
+counted-place run phase round m h =
+    let both = both-true (eqb (m .run) run && eqb (kindOf (m .body)) round) (eqb (m .phase) phase) h in
+    let first = both-true (eqb (m .run) run) (eqb (kindOf (m .body)) round) (both .0) in
+    (eqb-true _ _ (both .1), eqb-true _ _ (first .1))
 
--- bytes that a record wrote, and that count for another record with whatever stands behind them: both are in one place
-heard-place : (d other : Node) (inbox : List ℕ) (q : ℕ) (b : Ballot) (buffer w rest : List ℕ) → Typed d
-    → Puts d (write buffer) w → slotAt inbox q ≡ w ++ rest → ballotAt other inbox q ≡ some b
-    → (d .phase ≡ other .phase) × (d .round ≡ other .round)
-unfolding ballotAt
-heard-place d other inbox q b buffer w rest typed puts slot counts = go (comingOf d) refl
-  where
-    go : (o : Option Message) → comingOf d ≡ o → (d .phase ≡ other .phase) × (d .round ≡ other .round)
-    go none silent =
-        let nothing = ap (λ o. length (encoded o)) silent in
-        absurd (omega (arith, puts .1, ap length (puts-coming d buffer w puts), nothing))
-    go (some m) coming =
-        let made = write-accepted d buffer (length w) (puts .0) in
-        let back = read-back d typed (made .0) (made .1) m coming in
-        let read = ap readOf (slot ∙ ap (λ x. x ++ rest) (sym (puts-coming d buffer w puts))) ∙ back .2 rest in
-        let said = says-place (back .0) in
-        let place =
-        counted-place (other .run) (other .phase) (other .round) m b
-        (sym (ap (counted (other .run) (other .phase) (other .round)) read) ∙ counts) in
-        (sym (said .0) ∙ place .0, sym (said .1) ∙ place .1)
+-- a ballot that counts for a record comes from a record in the same place
+heard-place : (writer reader : Node) (m : Ballot) → Heard writer reader m
+    → (writer .phase ≡ reader .phase) × (writer .round ≡ reader .round)
+heard-place writer reader m heard =
+    let said = says-place (heard .says) in
+    let place = counted-place (reader .run) (reader .phase) (reader .round) (heard .message) (heard .counts) in
+    (sym (said .0) ∙ place .0, sym (said .1) ∙ place .1)
 
 -- two rounds with one phase and number are one round
 one-place : (crew : Crew) (i j : ℕ) → phaseAt crew i ≡ phaseAt crew j → roundAt crew i ≡ roundAt crew j → i ≡ j
@@ -113,12 +92,12 @@ module _ (s : Schedule) (crew : Crew) (run : ℕ) (pre : SchedulePremises s crew
   concludes = demand3 list crew run (in-step .premises)
 
   -- a record that is not spent stands at its round's place
-  place-is : (p j : ℕ) → T (isHonest s p) → j ≤ roundsTaken s p → ownRecord s p j .phase < 64
+  place-is : (p j : ℕ) → T (isHonest s p) → j ≤ roundsTaken s p → ownRecord s p j .phase < spentPhase
       → (ownRecord s p j .phase ≡ phaseAt crew j) × (ownRecord s p j .round ≡ roundAt crew j)
   place-is p j h l left =
       let same = in-step .records p j h l in
       let inside = in-step .long p h in
-      elim (decLt (phaseAt crew j) 64) [
+      elim (decLt (phaseAt crew j) spentPhase) [
         | yes early ↦
             let at = concludes .places p j h (omega arith) early in
             (sym (ap (λ (d : Node). d .phase) same) ∙ at .0, sym (ap (λ (d : Node). d .round) same) ∙ at .1)
@@ -140,11 +119,12 @@ module _ (s : Schedule) (crew : Crew) (run : ℕ) (pre : SchedulePremises s crew
         let d = ownRecord s q i in
         let round = one-round (startRecord s q) (callsOf q (s .events)) i in
         let made = round-wrote d (ownCalls s q i) (ltb i (roundsTaken s q)) w round wrote in
-        let here = heard-place d (recordAfter s p) inbox q b (made .0) w rest (typed l) (made .1) slot counts in
+        let heard = slot-heard d (recordAfter s p) inbox (made .0) w rest q b (typed l) (made .1) slot counts in
+        let here = heard-place d (recordAfter s p) b heard in
         let left = write-accepted d (made .0) (length w) (made .1 .0) .1 in
         let mine = place-is q i hq l left in
         let end = last-record (startRecord s p) (callsOf p (s .events)) in
-        let still : ownRecord s p (roundsTaken s p) .phase < 64 =
+        let still : ownRecord s p (roundsTaken s p) .phase < spentPhase =
         omega (arith, left, here .0, ap (λ (x : Node). x .phase) end) in
         let theirs = place-is p (roundsTaken s p) hp (omega arith) still in
         one-place crew i (roundsTaken s p)

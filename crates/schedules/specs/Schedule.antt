@@ -8,13 +8,15 @@ use mathlib.Core.Bool.{Bool, false, not, cond}
 use mathlib.Core.List.{List, [], _∷_, _++_, map, flatten}
 use mathlib.Core.Logic.{_⊎_, _≢_, _↔_}
 use mathlib.Core.Option.{Option, none, some}
-use Prim.Native.Nat.{ℕ, zero, suc, _+_, _-_, _*_, _^_, _≤_, _<_, max}
+use Prim.Native.Nat.{ℕ, zero, suc, _+_, _-_, _*_, _≤_, _<_, max}
 use lib.ListN.{length, getD, replicate, take, drop}
 use lib.Dec.{T, ltb}
+use Rattle.wire.specs.Sizes.{planLimit, runLimit}
 use Rattle.wire.specs.Outcome.{accepted, isAccepted}
 use Rattle.wire.specs.Bytes.{AreBytes}
 use Rattle.crew.specs.declared.Crew.{Crew}
 use Rattle.crew.specs.Acceptance.{acceptOf}
+use Rattle.message.specs.Layout.{slotSize}
 use Rattle.ballot.specs.Count.{bit, tally, holds}
 use Rattle.ballot.specs.Ballot.{Ballot}
 use Rattle.node.specs.declared.Node.{Node}
@@ -109,7 +111,7 @@ pub record TakesAfter (s : Schedule) (before : List Event) (p : ℕ) (inbox : Li
 -- Demand 3's premises but for whole rounds, and nothing in their place: a node may make any calls, also none.
 pub record SchedulePremises (s : Schedule) (crew : Crew) (run : ℕ) : Type 0 where
   -- on the starts, word for word as in demand 3
-  pub typed : Every (λ x. (x .run < 256 ^ 4) × (x .plan < 256 ^ 2)) (s .starts)
+  pub typed : Every (λ x. (x .run < runLimit) × (x .plan < planLimit)) (s .starts)
   pub crew-accepted : acceptOf crew ≡ accepted tt
   pub one-crew : Every (λ d. (d .crew ≡ crew) × (d .run ≡ run)) (made (s .starts))
   pub distinct : (q : ℕ) → numbered q (made (s .starts)) ≤ 1
@@ -181,7 +183,7 @@ Exchange =
 
 -- An inbox of n slots of which every one was lost: zero bytes, so that nothing counts.
 abbrev pub emptyInbox : ℕ → List ℕ
-emptyInbox n = replicate (202 * n) 0
+emptyInbox n = replicate (slotSize * n) 0
 
 -- What p does in round j of the run: its calls of its own round j, and, where no take of its own has ended that round,
 -- a take of the empty inbox after them. In either case its last call is the take.

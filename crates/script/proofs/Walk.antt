@@ -11,7 +11,7 @@ use lib.Dec.{eqb, ltb, leb}
 use borrow.Author.Tests.{eq-eqb, ne-eqb, leb-true}
 use Rattle.wire.proofs.Tests.{both-true}
 use Rattle.script.specs.Lines.{until}
-use Rattle.script.specs.Fields.{digitOf, valueFrom, starts}
+use Rattle.script.specs.Fields.{largest, digitOf, valueFrom, starts}
 use Rattle.script.specs.declared.Number.{Number}
 use Rattle.script.specs.declared.Number.the-variants.{Value, Bad}
 
@@ -29,33 +29,37 @@ module _ (b i : ℕ) (s : List ℕ) where
   until-end h = rw (drop-of-length-le s h)
 
 module _ (s : List ℕ) (v i : ℕ) where
+  -- what the digit at the place is worth
+  abbrev here : ℕ
+  here = digitOf (getD s i 0)
+
   pub value-step : i < length s
       → valueFrom v (drop i s)
-      ≡ cond (ltb (digitOf (getD s i 0)) 10 && leb (10 * v + digitOf (getD s i 0)) 65535)
-      (valueFrom (10 * v + digitOf (getD s i 0)) (drop (i + 1) s)) Bad
+      ≡ cond (ltb here 10 && leb (10 * v + here) largest)
+      (valueFrom (10 * v + here) (drop (i + 1) s)) Bad
   unfolding valueFrom
   value-step h = rw (drop-cons s i 0 h, add-one i)
 
-  pub value-more : (d w : ℕ) (r : Number) → i < length s → d ≡ digitOf (getD s i 0) → w ≡ 10 * v + d
-      → ltb d 10 && leb w 65535 ≡ true
+  pub value-more : (d w : ℕ) (r : Number) → i < length s → d ≡ here → w ≡ 10 * v + d
+      → ltb d 10 && leb w largest ≡ true
       → valueFrom v (drop i s) ≡ r → valueFrom w (drop (i + 1) s) ≡ r
   value-more d w r h ed ew t e =
-      let z : ltb (digitOf (getD s i 0)) 10 && leb (10 * v + digitOf (getD s i 0)) 65535 ≡ true = rw (← ed, ← ew) t in
+      let z : ltb here 10 && leb (10 * v + here) largest ≡ true = rw (← ed, ← ew) t in
       rw (ew, ed) (sym (value-step h ∙ rw z) ∙ e)
 
-  pub value-stop : (d w : ℕ) (r : Number) → i < length s → d ≡ digitOf (getD s i 0) → w ≡ 10 * v + d
-      → ltb d 10 && leb w 65535 ≡ false
+  pub value-stop : (d w : ℕ) (r : Number) → i < length s → d ≡ here → w ≡ 10 * v + d
+      → ltb d 10 && leb w largest ≡ false
       → valueFrom v (drop i s) ≡ r → Bad ≡ r
   value-stop d w r h ed ew t e =
-      let z : ltb (digitOf (getD s i 0)) 10 && leb (10 * v + digitOf (getD s i 0)) 65535 ≡ false = rw (← ed, ← ew) t in
+      let z : ltb here 10 && leb (10 * v + here) largest ≡ false = rw (← ed, ← ew) t in
       sym (value-step h ∙ rw z) ∙ e
 
   pub value-end : (r : Number) → length s ≤ i → valueFrom v (drop i s) ≡ r → Value v ≡ r
   unfolding valueFrom
   value-end r h e = rw (drop-of-length-le s h) at e
 
-pub value-low : (d w : ℕ) → ltb d 10 && leb w 65535 ≡ true → w ≤ 65535
-value-low d w e = leb-true w 65535 (both-true (ltb d 10) (leb w 65535) e .1)
+pub value-low : (d w : ℕ) → ltb d 10 && leb w largest ≡ true → w ≤ largest
+value-low d w e = leb-true w largest (both-true (ltb d 10) (leb w largest) e .1)
 
 pub starts-short : (w l : List ℕ) → length l < length w → starts w l ≡ false
 unfolding starts

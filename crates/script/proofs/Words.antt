@@ -11,8 +11,8 @@ use borrow.Author.Tests.{le-leb, lt-leb, lt-ltb, le-ltb, ltb-true, ltb-false}
 use Rattle.script.specs.declared.Numbers.{Numbers}
 use Rattle.script.specs.declared.Number.{Number}
 use Rattle.script.specs.declared.Number.the-variants.{Value, Bad}
-use Rattle.script.specs.Fields.{numberOf, numbersFrom, noNumbers}
-use Rattle.script.specs.Lines.{until, split, onto}
+use Rattle.script.specs.Fields.{mostNumbers, numberOf, numbersFrom, noNumbers}
+use Rattle.script.specs.Lines.{space, until, split, onto}
 
 le-go : (t : Bool) (u n : ℕ) → u ≤ n → cond t 0 (suc u) ≤ suc n
 le-go true u n h = omega arith
@@ -74,11 +74,11 @@ module _ (w : List ℕ) (ws : List (List ℕ)) (k : ℕ) (vs : List ℕ) (r : Nu
   unfolding numbersFrom
   numbers-bad e = rw e at whole
 
-  numbers-full : (v : ℕ) → numberOf w ≡ Value v → 32 ≤ k → noNumbers ≡ r
+  numbers-full : (v : ℕ) → numberOf w ≡ Value v → mostNumbers ≤ k → noNumbers ≡ r
   unfolding numbersFrom
   numbers-full v e h = rw (e, le-leb _ _ h) at whole
 
-  numbers-more : (v : ℕ) → numberOf w ≡ Value v → k < 32 → numbersFrom ws (k + 1) (set vs k v) ≡ r
+  numbers-more : (v : ℕ) → numberOf w ≡ Value v → k < mostNumbers → numbersFrom ws (k + 1) (set vs k v) ≡ r
   unfolding numbersFrom
   numbers-more v e h = rw (e, lt-leb _ _ h) at whole
 
@@ -92,28 +92,28 @@ abbrev after : ℕ → ℕ → List ℕ → List (List ℕ)
 after b e s = cond (ltb e (length s)) (split b (drop (e + 1) s)) []
 
 module _ (at e k : ℕ) (s vs : List ℕ) (r : Numbers) (inside : at ≤ length s)
-    (found : e ≡ at + until 32 (drop at s))
-    (inv : numbersFrom (split 32 (drop at s)) k vs ≡ r)
+    (found : e ≡ at + until space (drop at s))
+    (inv : numbersFrom (split space (drop at s)) k vs ≡ r)
     (m : Number) (read : m ≡ numberOf (take (e - at) (drop at s))) where
   piece : (t : Bool) → ltb e (length s) ≡ t
-      → split 32 (drop at s) ≡ take (e - at) (drop at s) ∷ cond t (split 32 (drop (e + 1) s)) []
-  piece true h = piece-first 32 at e s inside found (ltb-true _ _ h)
-  piece false h = piece-last 32 at e s inside found (ltb-false _ _ h)
+      → split space (drop at s) ≡ take (e - at) (drop at s) ∷ cond t (split space (drop (e + 1) s)) []
+  piece true h = piece-first space at e s inside found (ltb-true _ _ h)
+  piece false h = piece-last space at e s inside found (ltb-false _ _ h)
 
-  whole : numbersFrom (take (e - at) (drop at s) ∷ after 32 e s) k vs ≡ r
+  whole : numbersFrom (take (e - at) (drop at s) ∷ after space e s) k vs ≡ r
   whole = rw (← piece (ltb e (length s)) refl) inv
 
   pub turn-bad : m ≡ Bad → noNumbers ≡ r
   turn-bad h = numbers-bad _ _ k vs r whole (sym read ∙ h)
 
-  pub turn-full : (v : ℕ) → m ≡ Value v → 32 ≤ k → noNumbers ≡ r
+  pub turn-full : (v : ℕ) → m ≡ Value v → mostNumbers ≤ k → noNumbers ≡ r
   turn-full v h = numbers-full _ _ k vs r whole v (sym read ∙ h)
 
-  pub turn-more : (v : ℕ) → m ≡ Value v → k < 32 → e < length s
-      → numbersFrom (split 32 (drop (e + 1) s)) (k + 1) (set vs k v) ≡ r
+  pub turn-more : (v : ℕ) → m ≡ Value v → k < mostNumbers → e < length s
+      → numbersFrom (split space (drop (e + 1) s)) (k + 1) (set vs k v) ≡ r
   turn-more v h l f = rw (lt-ltb _ _ f) at (numbers-more _ _ k vs r whole v (sym read ∙ h) l)
 
-  pub turn-last : (v : ℕ) → m ≡ Value v → k < 32 → length s ≤ e
+  pub turn-last : (v : ℕ) → m ≡ Value v → k < mostNumbers → length s ≤ e
       → record { good = true; count = k + 1; values = set vs k v } ≡ r
   turn-last v h l f =
       numbers-none (k + 1) (set vs k v) r

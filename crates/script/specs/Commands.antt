@@ -4,6 +4,8 @@ use mathlib.Core.Bool.{Bool, true, false, cond, _&&_}
 use mathlib.Core.List.{List, [], _∷_}
 use lib.ListN.{length, getD, drop, replicate}
 use lib.Dec.{leb, eqb}
+use Rattle.crew.specs.Parts.{crewOf, mostNodes}
+use Rattle.script.specs.Lines.{space}
 use Rattle.script.specs.Fields.{numbersOn, starts}
 use Rattle.script.specs.declared.Numbers.{Numbers}
 use Rattle.script.specs.declared.Plans.{Plans}
@@ -24,14 +26,14 @@ has w k = w .good && eqb (w .count) k
 abbrev pub byte : Numbers → ℕ → Bool
 byte w i = leb (nth w i) 255
 
--- 01: "A crew is five one-byte numbers"; "Line 1: class n b f D."
-abbrev pub crewOf : Numbers → CrewLine
-crewOf w =
+-- 01: "Line 1: class n b f D."; each is one byte
+abbrev pub crewLineOf : Numbers → CrewLine
+crewLineOf w =
     cond (has w 5 && byte w 0 && byte w 1 && byte w 2 && byte w 3 && byte w 4)
-    (Crew (nth w 0) (nth w 1) (nth w 2) (nth w 3) (nth w 4)) NoCrew
+    (Crew (crewOf (nth w 0) (nth w 1) (nth w 2) (nth w 3) (nth w 4))) NoCrew
 
 abbrev pub noPlans : Plans
-noPlans = record { good = false; plans = replicate 32 0 }
+noPlans = record { good = false; plans = replicate mostNodes 0 }
 
 -- 01: "Line 2: n initial plans"
 abbrev pub plansOf : Numbers → ℕ → Plans
@@ -48,11 +50,11 @@ sayOf w =
 
 -- "cut "
 abbrev pub cutWord : List ℕ
-cutWord = 99 ∷ 117 ∷ 116 ∷ 32 ∷ []
+cutWord = 99 ∷ 117 ∷ 116 ∷ space ∷ []
 
 -- "say "
 abbrev pub sayWord : List ℕ
-sayWord = 115 ∷ 97 ∷ 121 ∷ 32 ∷ []
+sayWord = 115 ∷ 97 ∷ 121 ∷ space ∷ []
 
 -- "go"
 abbrev pub goWord : List ℕ

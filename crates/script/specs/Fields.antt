@@ -1,33 +1,42 @@
--- Decimal fields: document 01, 'The drill'. No bound of a script is above 65,535, the largest plan, so a larger number
--- is as bad as a byte that is no digit.
+-- Decimal fields: document 01, 'The drill'.
 use Prim.Native.Nat.{ℕ, _+_, _*_, _-_}
 use mathlib.Core.Bool.{Bool, true, false, cond, _&&_}
 use mathlib.Core.List.{List, [], _∷_}
 use lib.ListN.{length, getD, set, replicate}
 use lib.Dec.{ltb, leb, eqb}
-use Rattle.script.specs.Lines.{split}
+use Rattle.wire.specs.Sizes.{planLimit}
+use Rattle.crew.specs.Parts.{mostNodes}
+use Rattle.script.specs.Lines.{space, split}
 use Rattle.script.specs.declared.Number.{Number}
 use Rattle.script.specs.declared.Number.the-variants.{Value, Bad}
 use Rattle.script.specs.declared.Numbers.{Numbers}
+
+-- No bound of a script is above the largest plan, so a larger number is as bad as a byte that is no digit.
+abbrev pub largest : ℕ
+largest = planLimit - 1
+
+-- no line has more numbers: line 2 has one for each node
+abbrev pub mostNumbers : ℕ
+mostNumbers = mostNodes
 
 -- a digit's value; 10 for a byte that is none
 abbrev pub digitOf : ℕ → ℕ
 digitOf c = cond (ltb c 48) 10 (cond (ltb 57 c) 10 (c - 48))
 
--- the number whose first digits have the value a: bad at a byte that is no digit, and beyond 65,535
+-- the number whose first digits have the value a: bad at a byte that is no digit, and beyond the largest
 unfoldable pub valueFrom : ℕ → List ℕ → Number
 valueFrom a [] = Value a
 valueFrom a (c ∷ cs) =
-    cond (ltb (digitOf c) 10 && leb (10 * a + digitOf c) 65535) (valueFrom (10 * a + digitOf c) cs) Bad
+    cond (ltb (digitOf c) 10 && leb (10 * a + digitOf c) largest) (valueFrom (10 * a + digitOf c) cs) Bad
 
 -- A field: not empty, and no zero before other digits.
 -- 01: "Fields are decimal without leading zeros"
 unfoldable pub numberOf : List ℕ → Number
 numberOf w = cond (eqb (length w) 0) Bad (cond (leb 2 (length w) && eqb (getD w 0 0) 48) Bad (valueFrom 0 w))
 
--- the answer where a field is no number, or there are more than 32 of them
+-- the answer where a field is no number, or there are too many of them
 abbrev pub noNumbers : Numbers
-noNumbers = record { good = false; count = 0; values = replicate 32 0 }
+noNumbers = record { good = false; count = 0; values = replicate mostNumbers 0 }
 
 abbrev pub andThen : Number → (ℕ → Numbers) → Numbers
 andThen (Value v) next = next v
@@ -37,11 +46,11 @@ andThen Bad next = noNumbers
 unfoldable pub numbersFrom : List (List ℕ) → ℕ → List ℕ → Numbers
 numbersFrom [] k values = record { good = true; count = k; values = values }
 numbersFrom (w ∷ ws) k values =
-    andThen (numberOf w) (λ v. cond (leb 32 k) noNumbers (numbersFrom ws (k + 1) (set values k v)))
+    andThen (numberOf w) (λ v. cond (leb mostNumbers k) noNumbers (numbersFrom ws (k + 1) (set values k v)))
 
 -- 01: "parted by one space"
 abbrev pub numbersOn : List ℕ → Numbers
-numbersOn l = numbersFrom (split 32 l) 0 (replicate 32 0)
+numbersOn l = numbersFrom (split space l) 0 (replicate mostNumbers 0)
 
 -- the list begins with the word
 unfoldable pub starts : List ℕ → List ℕ → Bool

@@ -4,6 +4,13 @@ use mathlib.Core.Bool.{cond}
 use mathlib.Core.List.{List, [], _∷_}
 use lib.Dec.{eqb}
 
+-- the bytes that part a line's fields and end the line
+abbrev pub space : ℕ
+space = 32
+
+abbrev pub newline : ℕ
+newline = 10
+
 -- how many elements stand before the first b
 unfoldable pub until : ℕ → List ℕ → ℕ
 until b [] = 0

@@ -1,30 +1,37 @@
 // A drill's script, line by line: where a line ends, its decimal fields, and what it asks for.
 // Each function is what a definition says: specs/Lines.antt, specs/Fields.antt and specs/Commands.antt.
+use crew::Crew;
+use crew::MOST_NODES;
+use wire::PLAN_SIZE;
+use wire::Plan;
 ghost use mathlib.Core.Path.{_≡_};
 ghost use Prim.Native.Nat.{_+_, _≤_};
 ghost use lib.ListN.{drop};
 ghost use Rattle.script.specs.Lines.{until};
 ghost use Rattle.script.specs.Fields.{digitOf, numberOf, noNumbers, numbersOn, starts};
-ghost use Rattle.script.specs.Commands.{crewOf, plansOf, cutOf, sayOf, commandOf};
+ghost use Rattle.script.specs.Commands.{crewLineOf, plansOf, cutOf, sayOf, commandOf};
 
 // Ends each line.
-pub const NEWLINE: u8 = 10;
+pub const NEWLINE: u8 = b'\n';
+// Parts the fields of a line.
+pub const SPACE: u8 = b' ';
 
-const SPACE: u8 = 32;
+const ZERO: u8 = b'0';
 
-const ZERO: u8 = 48;
-
-const NINE: u8 = 57;
+const NINE: u8 = b'9';
 // What `digit` answers for a byte that is no digit.
 const NO_DIGIT: u32 = 10;
-// No number of a script is larger: plans have two bytes, and every other bound is lower.
-const LARGEST: u32 = 65535;
+// The largest plan, all bits of its bytes set. No number of a script is larger: every other bound is lower.
+const LARGEST: u32 = (1 << (8 * PLAN_SIZE)) - 1;
 // No line has more numbers: line 2 has one for each node.
-const MOST_NUMBERS: usize = 32;
+const MOST_NUMBERS: usize = MOST_NODES;
+
+// A field's number. It has a plan's type: no field is larger than the largest plan.
+pub type Field = Plan;
 
 // A decimal field.
 pub enum Number {
-    Value(u16),
+    Value(Field),
     Bad,
 }
 
@@ -32,25 +39,19 @@ pub enum Number {
 pub struct Numbers {
     pub good: bool,
     pub count: usize,
-    pub values: [u16; 32],
+    pub values: [Field; MOST_NUMBERS],
 }
 
-// Line 1: five numbers of one byte. Whether they are a crew is not asked here.
+// Line 1: five numbers of one byte. Whether they are a crew that is accepted is not asked here.
 pub enum CrewLine {
-    Crew {
-        class: u8,
-        n: u8,
-        b: u8,
-        f: u8,
-        d: u8,
-    },
+    Crew(Crew),
     NoCrew,
 }
 
 // Line 2: the initial plan of each node, 0 for one that is not honest.
 pub struct Plans {
     pub good: bool,
-    pub plans: [u16; 32],
+    pub plans: [Plan; MOST_NODES],
 }
 
 // A line after these. No node has a number of two bytes and no phase is a stamp of two, so a larger one is bad already.
@@ -62,7 +63,7 @@ pub enum Command {
     Say {
         sender: u8,
         receiver: u8,
-        plan: u16,
+        plan: Plan,
         stamp: u8,
     },
     Go,
@@ -118,7 +119,7 @@ fn decimal(s: &[u8]) -> Number
             return Number::Bad;
         }
     }
-    Number::Value(value as u16)
+    Number::Value(value as Field)
 }
 
 fn no_numbers() -> Numbers
@@ -127,7 +128,7 @@ fn no_numbers() -> Numbers
     Numbers {
         good: false,
         count: 0,
-        values: [0u16; MOST_NUMBERS],
+        values: [0; MOST_NUMBERS],
     }
 }
 
@@ -135,7 +136,7 @@ fn no_numbers() -> Numbers
 fn numbers_on(s: &[u8]) -> Numbers
     ensures { λ r. ⌜ r ≡ numbersOn (now (s .entry)) ⌝ }
 {
-    let mut values = [0u16; MOST_NUMBERS];
+    let mut values = [0; MOST_NUMBERS];
     let mut count: usize = 0;
     let mut at: usize = 0;
     loop {
@@ -182,7 +183,7 @@ fn begins(s: &[u8], word: &[u8]) -> bool
 }
 
 fn to_crew(w: Numbers) -> CrewLine
-    ensures { λ r. ⌜ r ≡ crewOf w ⌝ }
+    ensures { λ r. ⌜ r ≡ crewLineOf w ⌝ }
 {
     let v = w.values;
     let good = w.good
@@ -193,20 +194,21 @@ fn to_crew(w: Numbers) -> CrewLine
         & (v[3] <= 255)
         & (v[4] <= 255);
     if good {
-        return CrewLine::Crew {
+        let crew = Crew {
             class: v[0] as u8,
             n: v[1] as u8,
             b: v[2] as u8,
             f: v[3] as u8,
             d: v[4] as u8,
         };
+        return CrewLine::Crew(crew);
     }
     CrewLine::NoCrew
 }
 
 // Line 1.
 pub fn crew_line(s: &[u8]) -> CrewLine
-    ensures { λ r. ⌜ r ≡ crewOf (numbersOn (now (s .entry))) ⌝ }
+    ensures { λ r. ⌜ r ≡ crewLineOf (numbersOn (now (s .entry))) ⌝ }
 {
     to_crew(numbers_on(s))
 }
@@ -225,7 +227,7 @@ pub fn plans_line(s: &[u8], n: usize) -> Plans
     }
     Plans {
         good: false,
-        plans: [0u16; MOST_NUMBERS],
+        plans: [0; MOST_NODES],
     }
 }
 

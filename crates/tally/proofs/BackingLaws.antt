@@ -1,10 +1,10 @@
 -- Which votes the marked slots have, told by the least vote and by a count of those with another.
 -- Assumes nothing.
-use mathlib.Core.Path.{_≡_, refl, sym, _∙_}
+use mathlib.Core.Path.{_≡_, refl, ap, sym, _∙_}
 use mathlib.Core.Bool.{Bool, true, false, not, cond, _&&_}
 use mathlib.Core.Logic.{_≢_}
 use mathlib.Core.Option.{Option, none, some}
-use Prim.Native.Nat.{ℕ, zero, suc, _+_, _<_, _≤_, min}
+use Prim.Native.Nat.{ℕ, zero, suc, _+_, _<_, min}
 use native.Mathlib.Numerals.{add-one}
 use native.Mathlib.Omega.{arith}
 use lib.Dec.{eqb}
@@ -13,29 +13,7 @@ use Rattle.wire.proofs.Tests.{by-equality}
 use Rattle.ballot.specs.Count.{bit, tally}
 use Rattle.ballot.specs.Least.{lower}
 use Rattle.ballot.specs.Selection.{Backing, nobody, sole, several}
-use Rattle.tally.specs.Marks.{TopOf, leastMarked, besideIt, besidesMarked, backingMarked, joined, settled}
-
-module _ (test : ℕ → Bool) (vote : ℕ → ℕ) (n top : ℕ) (is : TopOf top (leastMarked test vote n)) where
-  pub backing-nobody : 65536 ≤ top → nobody ≡ backingMarked test vote n
-  backing-nobody past = go (leastMarked test vote n) is
-    where
-      go : (o : Option ℕ) → TopOf top o → nobody ≡ besidesMarked test vote n o
-      go none is = refl
-      go (some v) is = absurd (omega (arith, past, is .0, is .1 v refl))
-
-  pub backing-sole : top < 65536 → tally (besideIt test vote top) n ≡ 0 → sole top ≡ backingMarked test vote n
-  backing-sole below alone = go (leastMarked test vote n) is
-    where
-      go : (o : Option ℕ) → TopOf top o → sole top ≡ besidesMarked test vote n o
-      go none is = absurd (omega (arith, below, is .0))
-      go (some v) is = rw (← is .0, eq-eqb _ 0 alone)
-
-  pub backing-several : top < 65536 → tally (besideIt test vote top) n ≢ 0 → several ≡ backingMarked test vote n
-  backing-several below more = go (leastMarked test vote n) is
-    where
-      go : (o : Option ℕ) → TopOf top o → several ≡ besidesMarked test vote n o
-      go none is = absurd (omega (arith, below, is .0))
-      go (some v) is = rw (← is .0, ne-eqb _ 0 more)
+use Rattle.tally.specs.Marks.{leastMarked, besideIt, besidesMarked, backingMarked, joined, settled}
 
 -- a vote that adds nothing leaves the votes as they are
 pub settled-joined : (votes : Backing) (v : ℕ) → settled votes v ≡ true → joined votes v ≡ votes
@@ -111,6 +89,41 @@ module _ (test : ℕ → Bool) (vote : ℕ → ℕ) where
     where
       more : 0 ≡ bit (test n && not (eqb (vote n) (min (vote n) u))) + beside (min (vote n) u) n
       more = sym alone ∙ beside-more (min (vote n) u) n
+
+  -- a marked slot with another vote is counted
+  counted-beside : (w n q : ℕ) → q < n → test q ≡ true → vote q ≢ w → 0 < beside w n
+  unfolding tally
+  counted-beside w zero q less here other = absurd (omega arith)
+  counted-beside w (suc n) q less here other =
+      by-equality q n
+      (λ same. rw (ap test (sym same) ∙ here, ne-eqb (vote n) w (λ e. other (ap vote same ∙ e))) (omega arith))
+      (λ apart. let found = counted-beside w n q (omega (arith, apart)) here other in omega (arith, found))
+
+  -- Told by any marked slot: its vote is the only one where no marked slot has another.
+  module _ (n q : ℕ) (less : q < n) (here : test q ≡ true) where
+    pub one-backed : beside (vote q) n ≡ 0 → sole (vote q) ≡ backingMarked test vote n
+    one-backed alone = go (leastMarked test vote n) refl
+      where
+        go : (o : Option ℕ) → leastMarked test vote n ≡ o → sole (vote q) ≡ besidesMarked test vote n o
+        go none is =
+            let next : vote q ≢ vote q + 1 = λ e. omega (arith, e) in
+            let found = counted-beside (vote q + 1) n q less here next in
+            absurd (omega (arith, found, none-beside (vote q + 1) n is))
+        go (some u) is =
+            by-equality (vote q) u
+            (λ same. rw (← same, eq-eqb _ 0 alone))
+            (λ other. absurd (omega (arith, alone, least-beside u (vote q) n is other)))
+
+    pub more-backed : beside (vote q) n ≢ 0 → several ≡ backingMarked test vote n
+    more-backed others = go (leastMarked test vote n) refl
+      where
+        go : (o : Option ℕ) → leastMarked test vote n ≡ o → several ≡ besidesMarked test vote n o
+        go none is = absurd (others (none-beside (vote q) n is))
+        go (some u) is =
+            by-equality (vote q) u
+            (λ same. rw (← same, ne-eqb _ 0 others))
+            (λ other. let found = counted-beside u n q less here other in
+            rw (ne-eqb (beside u n) 0 (λ e. omega (arith, e, found))))
 
   step : (n : ℕ) (here : Bool) → test n ≡ here → (o : Option ℕ) → leastMarked test vote n ≡ o
       → besidesMarked test vote (suc n) (cond here (lower (vote n) o) o)

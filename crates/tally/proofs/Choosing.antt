@@ -4,14 +4,15 @@ use mathlib.Core.Path.{_≡_, refl, sym, ap, ap₂, _∙_}
 use mathlib.Core.Bool.{Bool, true, false, cond}
 use mathlib.Core.List.{List}
 use Prim.Native.Nat.{ℕ, _<_}
+use native.Mathlib.Omega.{arith}
 use lib.Dec.{ltb}
 use Rattle.crew.specs.declared.Crew.{Crew}
 use Rattle.crew.specs.Thresholds.{Class, one, two, three, anyAbove}
 use Rattle.wire.specs.Entry.{Entry}
 use Rattle.ballot.specs.Count.{tally}
-use Rattle.ballot.specs.Selection.{Backing, Choice, backed, enough, answer, selection}
+use Rattle.ballot.specs.Selection.{Backing, nobody, sole, several, Choice, backed, enough, answer, selection}
 use Rattle.inbox.specs.Columns.{Columns, polled}
-use Rattle.tally.specs.Marks.{Marks, marked, stampedWith, freshSlot, backingMarked}
+use Rattle.tally.specs.Marks.{Marks, marked, stampedWith, freshSlot, backingMarked, isBacked}
 use Rattle.tally.proofs.Tallies.{tally-same}
 use Rattle.tally.proofs.Polling.{voteAt, onSlot, backing-polled, backing-same}
 use Rattle.tally.proofs.Ruling.{counting, unstamped}
@@ -44,19 +45,26 @@ module _ (crew : Crew) (read : Columns) (h : ℕ → List Entry) (n : ℕ) where
   pub enough-one : (count : ℕ) → count ≡ tally (marked (read .present)) n
       → ltb (anyAbove one crew) count ≡ enough one crew (polled read h n)
   unfolding enough
-  enough-one count is = ap (ltb (anyAbove one crew)) (is ∙ sym (counting crew read h n))
+  enough-one count is = ap (ltb (anyAbove one crew)) (is ∙ sym (counting read h n))
 
   pub enough-two : (count : ℕ) → count ≡ tally (marked (read .present)) n
       → ltb (anyAbove two crew) count ≡ enough two crew (polled read h n)
   unfolding enough
-  enough-two count is = ap (ltb (anyAbove two crew)) (is ∙ sym (counting crew read h n))
+  enough-two count is = ap (ltb (anyAbove two crew)) (is ∙ sym (counting read h n))
 
   pub enough-three : (count : ℕ) (marks : List Bool) → count ≡ tally (marked marks) n
       → Marks marks n (stampedWith (read .present) (read .stamps) 0)
       → ltb (anyAbove three crew) count ≡ enough three crew (polled read h n)
   unfolding enough
   enough-three count marks is are =
-      ap (ltb (anyAbove three crew)) (is ∙ tally-same (marked marks) _ n are ∙ sym (unstamped crew read h n))
+      ap (ltb (anyAbove three crew)) (is ∙ tally-same (marked marks) _ n are ∙ sym (unstamped read h n))
+
+-- in class 3 the slots without a stamp play no part where a plan is backed
+pub backed-anyway : (votes : Backing) (slots : Bool) → isBacked votes ≡ true
+    → answer three votes false ≡ answer three votes slots
+backed-anyway nobody slots e = absurd (let z : _≡_ {A = ℕ} 0 1 = cc in omega arith)
+backed-anyway (sole u) slots e = refl
+backed-anyway several slots e = refl
 
 -- classes 2 and 3 count the same slots in a decision
 pub fresh-later : (second : Bool) (present : List Bool) (stamps : List ℕ) (phase q : ℕ)

@@ -9,24 +9,26 @@ use lib.ListN.{length}
 use borrow.Author.Tests.{leb-true, eqb-true, le-leb, eq-eqb}
 use Rattle.wire.proofs.Tests.{both-true}
 use Rattle.crew.specs.declared.Crew.{Crew}
+use Rattle.crew.specs.Parts.{mostNodes}
 use Rattle.crew.specs.Thresholds.{classOf}
+use Rattle.message.specs.Layout.{slotSize}
 use Rattle.ballot.specs.Selection.{selection, taken, takenOn}
 use Rattle.ballot.specs.Validation.{validated}
 use Rattle.ballot.specs.Decision.{decision}
 use Rattle.tally.specs.Rules.{countable, heard, choiceOf, selected, validIn, decidedIn}
 
 pub record Countable (crew : Crew) (size : ℕ) : Type 0 where
-  pub places : crew .n ≤ 32
+  pub places : crew .n ≤ mostNodes
   pub some : 1 ≤ crew .d
   pub within : crew .d ≤ crew .n
-  pub whole : size ≡ 202 * crew .n
+  pub whole : size ≡ slotSize * crew .n
 
 pub countable-facts : (crew : Crew) (size : ℕ) → countable crew size ≡ true → Countable crew size
 countable-facts crew size e =
-    let places = leb (crew .n) 32 && leb 1 (crew .d) in
-    let all = both-true (places && leb (crew .d) (crew .n)) (eqb size (202 * crew .n)) e in
+    let places = leb (crew .n) mostNodes && leb 1 (crew .d) in
+    let all = both-true (places && leb (crew .d) (crew .n)) (eqb size (slotSize * crew .n)) e in
     let parts = both-true places (leb (crew .d) (crew .n)) (all .0) in
-    let sizes = both-true (leb (crew .n) 32) (leb 1 (crew .d)) (parts .0) in
+    let sizes = both-true (leb (crew .n) mostNodes) (leb 1 (crew .d)) (parts .0) in
     record {
       places = leb-true _ _ (sizes .0);
       some = leb-true _ _ (sizes .1);

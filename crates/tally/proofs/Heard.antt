@@ -7,6 +7,7 @@ use Prim.Native.Nat.{ℕ, _≤_}
 use native.Mathlib.Omega.{arith}
 use lib.ListN.{length}
 use Rattle.crew.specs.declared.Crew.{Crew}
+use Rattle.crew.specs.Parts.{mostNodes}
 use Rattle.crew.specs.Thresholds.{classOf}
 use Rattle.message.specs.Reading.{readOf}
 use Rattle.ballot.specs.Ballot.{Ballot}
@@ -38,7 +39,7 @@ module _ (crew : Crew) (run phase : ℕ) (bytes : List ℕ) (read : Columns) (fa
 
   -- what selection asks of the columns and the inbox
   pub ready : ReadTo 1
-      → (crew .n ≤ 32) × (crew .d ≤ crew .n) × (crew .n ≤ slotsIn (length bytes))
+      → (crew .n ≤ mostNodes) × (crew .d ≤ crew .n) × (crew .n ≤ slotsIn (length bytes))
       × AllListable (read .present) bytes (crew .n)
   ready is = (
     facts .places,

@@ -3,8 +3,8 @@
 use mathlib.Core.Path.{_≡_, refl, ap, ap₂, _∙_}
 use mathlib.Core.Bool.{Bool, true, false, cond, _&&_}
 use mathlib.Core.List.{List}
-use mathlib.Core.Option.{Option, none, some}
-use Prim.Native.Nat.{ℕ, zero, suc, _+_, _<_, _≤_, min, max}
+use mathlib.Core.Option.{none, some}
+use Prim.Native.Nat.{ℕ, zero, suc, _+_, _<_, max}
 use native.Mathlib.Numerals.{add-one}
 use native.Mathlib.Omega.{arith}
 use lib.Dec.{ltb}
@@ -12,8 +12,8 @@ use lib.ListN.{length, getD, set}
 use lib.Seq.{getD-set-same, getD-set-other}
 use borrow.Author.Tests.{ltb-true, ltb-false}
 use Rattle.wire.proofs.Tests.{by-equality}
-use Rattle.ballot.specs.Least.{lower, orZero}
-use Rattle.tally.specs.Marks.{Marks, Counts, marked, over, orTop, leastMarked, highest}
+use Rattle.ballot.specs.Least.{lower}
+use Rattle.tally.specs.Marks.{Marks, Counts, marked, over, leastMarked, highest}
 
 -- one slot more of a column is as it should be
 column-next : {A : Type 0} (column : List A) (q : ℕ) (is : ℕ → A) (here other : A) → q < length column
@@ -48,45 +48,28 @@ pub either-below : (here : Bool) (a b bound : ℕ) → a < bound → b < bound �
 either-below true a b bound first second = first
 either-below false a b bound first second = second
 
--- no marked slot, or its vote, as the loop's number says
-pub top-none : (o : Option ℕ) → 65536 ≤ orTop o → ((v : ℕ) → o ≡ some v → v < 65536) → 0 ≡ orZero o
-top-none none top small = refl
-top-none (some v) top small = absurd (omega (arith, small v refl))
-
-pub top-some : (o : Option ℕ) → orTop o < 65536 → orTop o ≡ orZero o
-top-some none below = absurd (omega arith)
-top-some (some v) below = refl
-
 module _ (test : ℕ → Bool) (number : ℕ → ℕ) where
   -- one slot more
-  pub least-turn : (q least : ℕ) → number q < 65536 → least ≡ orTop (leastMarked test number q)
-      → cond (test q && ltb (number q) least) (number q) least ≡ orTop (leastMarked test number (q + 1))
+  pub least-first : (q : ℕ) → test q ≡ true → none ≡ leastMarked test number q
+      → some (number q) ≡ leastMarked test number (q + 1)
   unfolding leastMarked
-  least-turn q least small is =
-      rw (add-one q) (go (test q) (ltb (number q) least) refl (leastMarked test number q) is)
-    where
-      go : (here lower-here : Bool) → ltb (number q) least ≡ lower-here → (o : Option ℕ) → least ≡ orTop o
-          → cond (here && lower-here) (number q) least ≡ orTop (cond here (lower (number q) o) o)
-      go false lower-here e o is = is
-      go true true e none is = refl
-      go true true e (some w) is = omega (arith, ltb-true (number q) least e)
-      go true false e none is = absurd (omega (arith, ltb-false (number q) least e))
-      go true false e (some w) is = omega (arith, ltb-false (number q) least e)
+  least-first q here is = rw (add-one q, here, ← is)
 
-  -- a least vote is one of the votes, so it stays below the mark for none
-  pub small-turn : (q : ℕ) → number q < 65536 → ((v : ℕ) → leastMarked test number q ≡ some v → v < 65536)
-      → (v : ℕ) → leastMarked test number (q + 1) ≡ some v → v < 65536
+  pub least-passed : (q : ℕ) → test q ≡ false → none ≡ leastMarked test number q
+      → none ≡ leastMarked test number (q + 1)
   unfolding leastMarked
-  small-turn q small below v e = go (test q) (leastMarked test number q) below (rw (add-one q) at e)
-    where
-      same : (a b : ℕ) → some a ≡ some b → a ≡ b
-      same a b e = cc
+  least-passed q absent is = rw (add-one q, absent) is
 
-      go : (here : Bool) (o : Option ℕ) → ((w : ℕ) → o ≡ some w → w < 65536)
-          → cond here (lower (number q) o) o ≡ some v → v < 65536
-      go false o below e = below v e
-      go true none below e = omega (arith, small, same (number q) v e)
-      go true (some w) below e = omega (arith, small, below w refl, same (min (number q) w) v e)
+  pub least-turn : (q least : ℕ) → some least ≡ leastMarked test number q
+      → some (cond (test q && ltb (number q) least) (number q) least) ≡ leastMarked test number (q + 1)
+  unfolding leastMarked
+  least-turn q least is = rw (add-one q, ← is) (go (test q) (ltb (number q) least) refl)
+    where
+      go : (here lower-here : Bool) → ltb (number q) least ≡ lower-here
+          → some (cond (here && lower-here) (number q) least) ≡ cond here (lower (number q) (some least)) (some least)
+      go false lower-here e = refl
+      go true true e = ap some (omega (arith, ltb-true (number q) least e))
+      go true false e = ap some (omega (arith, ltb-false (number q) least e))
 
   pub highest-turn : (q best : ℕ) → best ≡ highest test number q
       → cond (test q && ltb best (number q)) (number q) best ≡ highest test number (q + 1)

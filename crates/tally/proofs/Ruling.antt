@@ -112,51 +112,29 @@ nobody-least test vote zero absent = refl
 nobody-least test vote (suc n) absent =
     rw (absent n (omega arith)) (nobody-least test vote n (λ q less. absent q (omega arith)))
 
-module _ (crew : Crew) (read : Columns) (h : ℕ → List Entry) (n : ℕ) where
+-- twice a count passes n + b where the count passes half of it
+half : (sum k : ℕ) → ltb sum (2 * k) ≡ ltb (sum / 2) k
+half sum k = go (ltb (sum / 2) k) refl
+  where
+    go : (b : Bool) → ltb (sum / 2) k ≡ b → ltb sum (2 * k) ≡ b
+    go true e = lt-ltb sum (2 * k) (omega (arith, ltb-true (sum / 2) k e))
+    go false e = le-ltb sum (2 * k) (omega (arith, ltb-false (sum / 2) k e))
+
+-- at least so many is more than one less: D slots, or as many as the most voted plan has
+reach : (d k : ℕ) → 1 ≤ d → leb d k ≡ ltb (d - 1) k
+reach d k h = go (ltb (d - 1) k) refl
+  where
+    go : (b : Bool) → ltb (d - 1) k ≡ b → leb d k ≡ b
+    go true e = le-leb d k (omega (arith, ltb-true (d - 1) k e))
+    go false e = lt-leb d k (omega (arith, ltb-false (d - 1) k e))
+
+module _ (read : Columns) (h : ℕ → List Entry) (n : ℕ) where
   abbrev ballots : List Ballot
   ballots = polled read h n
 
   -- a test of a slot that is present
   abbrev here : ℕ → Bool → Bool
   here q b = marked (read .present) q && b
-
-  pub possible-slot : (q : ℕ) → onSlot read h (possible crew ballots) q
-      ≡ above (read .present) (read .present) (read .votes) (read .stamps) n (E crew) true q
-  unfolding possible
-  possible-slot q =
-      on-slot read h (possible crew ballots) q
-      ∙ ap (λ k. here q (ltb (E crew) k)) (supports-polled read h n (voteAt read h q) (getD (read .stamps) q 0))
-
-  pub backed-one-slot : (q : ℕ) → onSlot read h (backed one crew ballots) q
-      ≡ above (read .present) (read .present) (read .votes) (read .stamps) n (E crew) false q
-  unfolding backed
-  backed-one-slot q =
-      on-slot read h (backed one crew ballots) q
-      ∙ ap (λ k. here q (ltb (E crew) k)) (votes-polled read h n (voteAt read h q))
-
-  -- with marks for the possible slots
-  module _ (marks : List Bool) (are : Marks marks n (onSlot read h (possible crew ballots))) where
-    pub backed-two-slot : (q : ℕ) → onSlot read h (backed two crew ballots) q
-        ≡ above (read .present) marks (read .votes) (read .stamps) n (crew .b) false q
-    unfolding backed
-    backed-two-slot q =
-        on-slot read h (backed two crew ballots) q
-        ∙ ap (λ k. here q (ltb (crew .b) k))
-        (marked-polled read h n (voteAt read h q) (possible crew ballots) marks are)
-
-    pub backed-three-slot : (bytes : List ℕ)
-        → ((v t k : ℕ) → k < n → here k (lists v t (rowOf read h k)) ≡ listing (read .present) bytes v t k)
-        → (q : ℕ) → q < n
-        → onSlot read h (backed three crew ballots) q
-        ≡ listedAbove marks (read .present) (read .votes) (read .stamps) bytes n (crew .b) q
-    unfolding backed
-    backed-three-slot bytes listed q less =
-        let v = voteAt read h q in
-        let t = getD (read .stamps) q 0 in
-        let listers = count-polled read h n (lists v t) (listing (read .present) bytes v t) (listed v t) in
-        on-slot read h (backed three crew ballots) q
-        ∙ sym (and-assoc (marked (read .present) q) (possible crew ballots (rowOf read h q)) _)
-        ∙ ap₂ (λ a k. a && ltb (crew .b) k) (sym (are q less ∙ on-slot read h (possible crew ballots) q)) listers
 
   -- how many slots 'any' counts
   pub counting : length ballots ≡ tally (marked (read .present)) n
@@ -172,40 +150,6 @@ module _ (crew : Crew) (read : Columns) (h : ℕ → List Entry) (n : ℕ) where
   least-of f marks are =
       ap orZero (least-polled read h n (λ m. f (m .vote))
       ∙ sym (least-same (marked marks) (onSlot read h (λ m. f (m .vote))) (voteAt read h) n are))
-
-  -- twice a count passes n + b where the count passes half of it
-  half : (sum k : ℕ) → ltb sum (2 * k) ≡ ltb (sum / 2) k
-  half sum k = go (ltb (sum / 2) k) refl
-    where
-      go : (b : Bool) → ltb (sum / 2) k ≡ b → ltb sum (2 * k) ≡ b
-      go true e = lt-ltb sum (2 * k) (omega (arith, ltb-true (sum / 2) k e))
-      go false e = le-ltb sum (2 * k) (omega (arith, ltb-false (sum / 2) k e))
-
-  pub valid-slot : (q : ℕ) → onSlot read h (λ m. valid crew ballots (m .vote)) q
-      ≡ above (read .present) (read .present) (read .votes) (read .stamps) n (validAbove crew / 2) false q
-  unfolding valid
-  valid-slot q =
-      on-slot read h (λ m. valid crew ballots (m .vote)) q
-      ∙ ap (here q)
-      (half (validAbove crew) _ ∙ ap (ltb (validAbove crew / 2)) (votes-polled read h n (voteAt read h q)))
-
-  -- at least D is more than D − 1
-  reach : (d k : ℕ) → 1 ≤ d → leb d k ≡ ltb (d - 1) k
-  reach d k h = go (ltb (d - 1) k) refl
-    where
-      go : (b : Bool) → ltb (d - 1) k ≡ b → leb d k ≡ b
-      go true e = le-leb d k (omega (arith, ltb-true (d - 1) k e))
-      go false e = lt-leb d k (omega (arith, ltb-false (d - 1) k e))
-
-  pub decides-slot : (class : Class) (phase : ℕ) (marks : List Bool) → 1 ≤ crew .d
-      → Marks marks n (onSlot read h (fresh class phase)) → (q : ℕ)
-      → onSlot read h (λ m. decides class crew phase ballots (m .vote)) q
-      ≡ above (read .present) marks (read .votes) (read .stamps) n (crew .d - 1) false q
-  unfolding decides
-  decides-slot class phase marks some are q =
-      on-slot read h (λ m. decides class crew phase ballots (m .vote)) q
-      ∙ ap (here q) (reach (crew .d) _ some
-      ∙ ap (ltb (crew .d - 1)) (marked-polled read h n (voteAt read h q) (fresh class phase) marks are))
 
   -- in class 1 every slot's vote counts; in the others those with the phase's stamp
   pub fresh-slot : (class : Class) (phase q : ℕ)
@@ -256,3 +200,61 @@ module _ (crew : Crew) (read : Columns) (h : ℕ → List Entry) (n : ℕ) where
           (itself q e) in
           let bound = at-most-highest (marked (read .present)) (λ k. votesFor (voteAt read h k)) n q less (rw e tt) in
           absurd (omega (arith, own, bound, none-voted))
+
+  -- the rules of a crew
+  module _ (crew : Crew) where
+    pub possible-slot : (q : ℕ) → onSlot read h (possible crew ballots) q
+        ≡ above (read .present) (read .present) (read .votes) (read .stamps) n (E crew) true q
+    unfolding possible
+    possible-slot q =
+        on-slot read h (possible crew ballots) q
+        ∙ ap (λ k. here q (ltb (E crew) k)) (supports-polled read h n (voteAt read h q) (getD (read .stamps) q 0))
+
+    pub backed-one-slot : (q : ℕ) → onSlot read h (backed one crew ballots) q
+        ≡ above (read .present) (read .present) (read .votes) (read .stamps) n (E crew) false q
+    unfolding backed
+    backed-one-slot q =
+        on-slot read h (backed one crew ballots) q
+        ∙ ap (λ k. here q (ltb (E crew) k)) (votes-polled read h n (voteAt read h q))
+
+    -- with marks for the possible slots
+    module _ (marks : List Bool) (are : Marks marks n (onSlot read h (possible crew ballots))) where
+      pub backed-two-slot : (q : ℕ) → onSlot read h (backed two crew ballots) q
+          ≡ above (read .present) marks (read .votes) (read .stamps) n (crew .b) false q
+      unfolding backed
+      backed-two-slot q =
+          on-slot read h (backed two crew ballots) q
+          ∙ ap (λ k. here q (ltb (crew .b) k))
+          (marked-polled read h n (voteAt read h q) (possible crew ballots) marks are)
+
+      pub backed-three-slot : (bytes : List ℕ)
+          → ((v t k : ℕ) → k < n → here k (lists v t (rowOf read h k)) ≡ listing (read .present) bytes v t k)
+          → (q : ℕ) → q < n
+          → onSlot read h (backed three crew ballots) q
+          ≡ listedAbove marks (read .present) (read .votes) (read .stamps) bytes n (crew .b) q
+      unfolding backed
+      backed-three-slot bytes listed q less =
+          let v = voteAt read h q in
+          let t = getD (read .stamps) q 0 in
+          let listers = count-polled read h n (lists v t) (listing (read .present) bytes v t) (listed v t) in
+          on-slot read h (backed three crew ballots) q
+          ∙ sym (and-assoc (marked (read .present) q) (possible crew ballots (rowOf read h q)) _)
+          ∙ ap₂ (λ a k. a && ltb (crew .b) k) (sym (are q less ∙ on-slot read h (possible crew ballots) q)) listers
+
+    pub valid-slot : (q : ℕ) → onSlot read h (λ m. valid crew ballots (m .vote)) q
+        ≡ above (read .present) (read .present) (read .votes) (read .stamps) n (validAbove crew / 2) false q
+    unfolding valid
+    valid-slot q =
+        on-slot read h (λ m. valid crew ballots (m .vote)) q
+        ∙ ap (here q)
+        (half (validAbove crew) _ ∙ ap (ltb (validAbove crew / 2)) (votes-polled read h n (voteAt read h q)))
+
+    pub decides-slot : (class : Class) (phase : ℕ) (marks : List Bool) → 1 ≤ crew .d
+        → Marks marks n (onSlot read h (fresh class phase)) → (q : ℕ)
+        → onSlot read h (λ m. decides class crew phase ballots (m .vote)) q
+        ≡ above (read .present) marks (read .votes) (read .stamps) n (crew .d - 1) false q
+    unfolding decides
+    decides-slot class phase marks some are q =
+        on-slot read h (λ m. decides class crew phase ballots (m .vote)) q
+        ∙ ap (here q) (reach (crew .d) _ some
+        ∙ ap (ltb (crew .d - 1)) (marked-polled read h n (voteAt read h q) (fresh class phase) marks are))

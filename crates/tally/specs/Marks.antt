@@ -16,6 +16,8 @@ use Rattle.inbox.specs.Inbox.{slotAt}
 use Rattle.inbox.specs.Columns.{Listable, listsAt}
 use Rattle.tally.specs.declared.Backing.{Backing as DeclaredBacking}
 use Rattle.tally.specs.declared.Backing.the-variants.{Nobody, Sole, Several}
+use Rattle.tally.specs.declared.First.{First}
+use Rattle.tally.specs.declared.First.the-variants.{Slot, NoSlot}
 
 abbrev pub marked : List Bool → ℕ → Bool
 marked marks q = getD marks q false
@@ -78,14 +80,6 @@ unfoldable pub leastMarked : (ℕ → Bool) → (ℕ → ℕ) → ℕ → Option
 leastMarked test vote zero = none
 leastMarked test vote (suc n) = cond (test n) (lower (vote n) (leastMarked test vote n)) (leastMarked test vote n)
 
--- a least vote as one number: past all votes where there is none
-abbrev pub orTop : Option ℕ → ℕ
-orTop none = 65536
-orTop (some v) = v
-
-abbrev pub TopOf : ℕ → Option ℕ → Type 0
-TopOf number o = (number ≡ orTop o) × ((v : ℕ) → o ≡ some v → v < 65536)
-
 -- a marked slot has another vote
 abbrev pub besideIt : (ℕ → Bool) → (ℕ → ℕ) → ℕ → ℕ → Bool
 besideIt test vote v q = test q && not (eqb (vote q) v)
@@ -109,10 +103,22 @@ settled nobody v = false
 settled (sole u) v = eqb u v
 settled several v = true
 
+-- a plan is backed, be it one or several
+abbrev pub isBacked : Backing → Bool
+isBacked nobody = false
+isBacked (sole u) = true
+isBacked several = true
+
 -- the highest of the numbers of the marked slots below n, 0 where there is none
 unfoldable pub highest : (ℕ → Bool) → (ℕ → ℕ) → ℕ → ℕ
 highest test number zero = 0
 highest test number (suc n) = cond (test n) (max (number n) (highest test number n)) (highest test number n)
+
+-- a first marked slot, or that there is none: no slot before it is marked, so that none has a least vote
+abbrev pub FirstOf : List Bool → ℕ → First → Type 0
+FirstOf marks n (Slot q) =
+    (q < n) × (marked marks q ≡ true) × ((vote : ℕ → ℕ) → none ≡ leastMarked (marked marks) vote q)
+FirstOf marks n NoSlot = (vote : ℕ → ℕ) → none ≡ leastMarked (marked marks) vote n
 
 -- what the code's answer stands for in crate ballot
 abbrev pub backingAs : DeclaredBacking → Backing

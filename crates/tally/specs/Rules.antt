@@ -7,7 +7,9 @@ use mathlib.Core.List.{List}
 use lib.ListN.{length}
 use lib.Dec.{leb, eqb}
 use Rattle.crew.specs.declared.Crew.{Crew}
+use Rattle.crew.specs.Parts.{mostNodes}
 use Rattle.crew.specs.Thresholds.{classOf}
+use Rattle.message.specs.Layout.{slotSize}
 use Rattle.message.specs.Reading.{readOf}
 use Rattle.ballot.specs.Ballot.{Ballot, inbox}
 use Rattle.ballot.specs.Selection.{Choice, plan, any, nothing, selection, takenOn}
@@ -21,7 +23,7 @@ use Rattle.tally.specs.declared.Choice.the-variants.{Plan, Any, Nothing}
 -- with an inbox of its own is so
 abbrev pub countable : Crew → ℕ → Bool
 countable crew size =
-    leb (crew .n) 32 && leb 1 (crew .d) && leb (crew .d) (crew .n) && eqb size (202 * crew .n)
+    leb (crew .n) mostNodes && leb 1 (crew .d) && leb (crew .d) (crew .n) && eqb size (slotSize * crew .n)
 
 -- the ballots that a node in this run, phase and round hears from its crew
 abbrev pub heard : Crew → ℕ → ℕ → ℕ → List ℕ → List Ballot

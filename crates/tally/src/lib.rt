@@ -3,21 +3,24 @@
 // answer holds whatever these are.
 // What each answers stands in specs/Rules.antt, the counts in specs/Marks.antt. Crate rounds acts on the answers.
 use crew::Crew;
-use inbox::SLOT;
-use inbox::SLOTS;
+use crew::MOST_NODES;
+use message::SLOT;
 use node::Node;
+use wire::Plan;
 ghost use mathlib.Core.Path.{_≡_};
 ghost use mathlib.Core.Bool.{cond, _&&_};
 ghost use mathlib.Core.List.{List};
+ghost use mathlib.Core.Option.{some};
 ghost use lib.Dec.{ltb};
-ghost use Prim.Native.Nat.{ℕ, _-_, _<_, _≤_};
+ghost use Prim.Native.Nat.{ℕ, _+_, _-_, _<_, _≤_};
 ghost use lib.ListN.{length, getD};
 ghost use Rattle.wire.specs.Entry.{Entry};
 ghost use Rattle.ballot.specs.Count.{bit, tally};
 ghost use Rattle.ballot.specs.Least.{orZero};
-ghost use Rattle.ballot.specs.Selection.{anyIf, answer, selection, anyPlan, takenOn};
+ghost use Rattle.ballot.specs.Selection.{anyIf, answer, selection, mostVoted, anyPlan, takenOn};
 ghost use Rattle.ballot.specs.Validation.{validated};
 ghost use Rattle.ballot.specs.Decision.{decision};
+ghost use Rattle.crew.specs.Parts.{mostNodes};
 ghost use Rattle.crew.specs.Thresholds.{one, two, three, classOf, E};
 ghost use Rattle.inbox.specs.Columns.{columns, slotsIn, historiesIn, polled, listsAt};
 ghost use Rattle.tally.specs.Marks.{
@@ -34,19 +37,17 @@ ghost use Rattle.tally.specs.Marks.{
   listing,
   AllListable,
   listedAbove,
-  TopOf,
   leastMarked,
+  FirstOf,
   besideIt,
   backingMarked,
   backingAs,
   joined,
   settled,
+  isBacked,
   highest,
 };
 ghost use Rattle.tally.specs.Rules.{countable, choiceAs, choiceOf, selected, validIn, decidedIn};
-
-// One past every vote.
-const TOP: u32 = 65536;
 
 fn one_if(test: bool) -> u16
     ensures { λ r. ⌜ (r ≡ bit test) × (r ≤ 1) ⌝ }
@@ -56,14 +57,14 @@ fn one_if(test: bool) -> u16
 
 // How many marked slots have the vote, or a stamp below the bound.
 fn count_supporting(
-    marks: &[bool; 32],
-    votes: &[u16; 32],
-    stamps: &[u8; 32],
+    marks: &[bool; MOST_NODES],
+    votes: &[Plan; MOST_NODES],
+    stamps: &[u8; MOST_NODES],
     n: usize,
-    vote: u16,
+    vote: Plan,
     below: u8,
 ) -> u16
-    requires { ⌜ n ≤ 32 ⌝ }
+    requires { ⌜ n ≤ mostNodes ⌝ }
     ensures { λ r. ⌜ (r ≡ tally
         (supporting (now (marks .entry)) (now (votes .entry)) (now (stamps .entry)) vote below) n)
         × (r ≤ n) ⌝ }
@@ -78,8 +79,8 @@ fn count_supporting(
 }
 
 // How many slots are marked.
-fn count_marks(marks: &[bool; 32], n: usize) -> u16
-    requires { ⌜ n ≤ 32 ⌝ }
+fn count_marks(marks: &[bool; MOST_NODES], n: usize) -> u16
+    requires { ⌜ n ≤ mostNodes ⌝ }
     ensures { λ r. ⌜ (r ≡ tally (marked (now (marks .entry))) n) × (r ≤ n) ⌝ }
 {
     let mut count: u16 = 0;
@@ -93,7 +94,7 @@ fn count_marks(marks: &[bool; 32], n: usize) -> u16
 
 // Whether a slot is present and lists the plan at a phase. One that is absent is not looked at: its bytes may be
 // anything.
-fn is_listing(present: bool, inbox: &[u8], q: usize, plan: u16, phase: u8) -> bool
+fn is_listing(present: bool, inbox: &[u8], q: usize, plan: Plan, phase: u8) -> bool
     ensures { λ r. ⌜ r ≡ (present && listsAt (now (inbox .entry)) q plan phase) ⌝ }
 {
     if present {
@@ -103,8 +104,8 @@ fn is_listing(present: bool, inbox: &[u8], q: usize, plan: u16, phase: u8) -> bo
 }
 
 // How many slots list the plan at a phase.
-fn count_listing(present: &[bool; 32], inbox: &[u8], n: usize, plan: u16, phase: u8) -> u16
-    requires { ⌜ n ≤ 32 ⌝ }
+fn count_listing(present: &[bool; MOST_NODES], inbox: &[u8], n: usize, plan: Plan, phase: u8) -> u16
+    requires { ⌜ n ≤ mostNodes ⌝ }
     ensures { λ r. ⌜ (r ≡ tally (listing (now (present .entry)) (now (inbox .entry)) plan phase) n) × (r ≤ n) ⌝ }
 {
     let mut count: u16 = 0;
@@ -116,26 +117,26 @@ fn count_listing(present: &[bool; 32], inbox: &[u8], n: usize, plan: u16, phase:
     count
 }
 
-// The bound on stamps where they play a part; no stamp is below 0.
+// The bound on stamps where they play a part; no stamp is below that of an unstamped vote.
 fn below_of(stamped: bool, stamp: u8) -> u8
     ensures { λ r. ⌜ r ≡ belowOf stamped stamp ⌝ }
 {
-    if stamped { stamp } else { 0 }
+    if stamped { stamp } else { Node::UNSTAMPED }
 }
 
 // How many marked slots support what slot q says. Where a slot that was counted before says the same, its count holds
 // again.
 fn count_next(
-    marks: &[bool; 32],
-    votes: &[u16; 32],
-    stamps: &[u8; 32],
+    marks: &[bool; MOST_NODES],
+    votes: &[Plan; MOST_NODES],
+    stamps: &[u8; MOST_NODES],
     n: usize,
     stamped: bool,
     q: usize,
     last: usize,
     before: u16,
 ) -> u16
-    requires { ⌜ (n ≤ 32) × (q < 32) × (last < 32)
+    requires { ⌜ (n ≤ mostNodes) × (q < mostNodes) × (last < mostNodes)
         × (before ≡ supporters (now marks) (now votes) (now stamps) n stamped last) ⌝ }
     ensures { λ r. ⌜ r ≡ supporters (now (marks .entry)) (now (votes .entry)) (now (stamps .entry)) n stamped q ⌝ }
 {
@@ -158,16 +159,16 @@ fn last_counted(present: bool, q: usize, last: usize) -> usize
 // Counts for slot q where it is present. An absent slot, of which nothing is asked, is passed over.
 fn count_present(
     present: bool,
-    marks: &[bool; 32],
-    votes: &[u16; 32],
-    stamps: &[u8; 32],
+    marks: &[bool; MOST_NODES],
+    votes: &[Plan; MOST_NODES],
+    stamps: &[u8; MOST_NODES],
     n: usize,
     stamped: bool,
     q: usize,
     last: usize,
     before: u16,
 ) -> u16
-    requires { ⌜ (n ≤ 32) × (q < 32) × (last < 32)
+    requires { ⌜ (n ≤ mostNodes) × (q < mostNodes) × (last < mostNodes)
         × (before ≡ supporters (now marks) (now votes) (now stamps) n stamped last) ⌝ }
     ensures { λ r. ⌜ r ≡ supporters (now (marks .entry)) (now (votes .entry)) (now (stamps .entry)) n stamped
         (cond present q last) ⌝ }
@@ -181,14 +182,14 @@ fn count_present(
 // How many marked slots support what each slot says. Counts and marks are put into an array that the caller lends: an
 // answered one would be copied.
 fn count_each(
-    counts: &mut [u16; 32],
-    marks: &[bool; 32],
-    votes: &[u16; 32],
-    stamps: &[u8; 32],
+    counts: &mut [u16; MOST_NODES],
+    marks: &[bool; MOST_NODES],
+    votes: &[Plan; MOST_NODES],
+    stamps: &[u8; MOST_NODES],
     n: usize,
     stamped: bool,
 )
-    requires { ⌜ (n ≤ 32) × (length (now counts) ≡ 32) ⌝ }
+    requires { ⌜ (n ≤ mostNodes) × (length (now counts) ≡ mostNodes) ⌝ }
     ensures { λ _. ⌜ Counts (now (counts .exit)) n
         (supporters (now (marks .entry)) (now (votes .entry)) (now (stamps .entry)) n stamped) ⌝ }
 {
@@ -205,13 +206,13 @@ fn count_each(
 
 // Marks each slot that is present and has a count above the threshold.
 fn mark_over(
-    out: &mut [bool; 32],
-    present: &[bool; 32],
-    counts: &[u16; 32],
+    out: &mut [bool; MOST_NODES],
+    present: &[bool; MOST_NODES],
+    counts: &[u16; MOST_NODES],
     n: usize,
     threshold: u16,
 )
-    requires { ⌜ (n ≤ 32) × (length (now out) ≡ 32) ⌝ }
+    requires { ⌜ (n ≤ mostNodes) × (length (now out) ≡ mostNodes) ⌝ }
     ensures { λ _. ⌜ Marks (now (out .exit)) n
         (over (now (present .entry)) (λ q. getD (now (counts .entry)) q 0) threshold) ⌝ }
 {
@@ -224,16 +225,16 @@ fn mark_over(
 
 // Marks each slot whose vote, or vote and stamp, more than `threshold` of the marked slots support.
 fn mark_above(
-    out: &mut [bool; 32],
-    present: &[bool; 32],
-    marks: &[bool; 32],
-    votes: &[u16; 32],
-    stamps: &[u8; 32],
+    out: &mut [bool; MOST_NODES],
+    present: &[bool; MOST_NODES],
+    marks: &[bool; MOST_NODES],
+    votes: &[Plan; MOST_NODES],
+    stamps: &[u8; MOST_NODES],
     n: usize,
     threshold: u16,
     stamped: bool,
 )
-    requires { ⌜ (n ≤ 32) × (length (now out) ≡ 32) ⌝ }
+    requires { ⌜ (n ≤ mostNodes) × (length (now out) ≡ mostNodes) ⌝ }
     ensures { λ _. ⌜ Marks (now (out .exit)) n
         (above (now (present .entry)) (now (marks .entry)) (now (votes .entry)) (now (stamps .entry)) n threshold
         stamped) ⌝ }
@@ -252,8 +253,14 @@ fn mark_above(
 }
 
 // Marks each slot with this stamp.
-fn mark_stamped(out: &mut [bool; 32], present: &[bool; 32], stamps: &[u8; 32], n: usize, stamp: u8)
-    requires { ⌜ (n ≤ 32) × (length (now out) ≡ 32) ⌝ }
+fn mark_stamped(
+    out: &mut [bool; MOST_NODES],
+    present: &[bool; MOST_NODES],
+    stamps: &[u8; MOST_NODES],
+    n: usize,
+    stamp: u8,
+)
+    requires { ⌜ (n ≤ mostNodes) × (length (now out) ≡ mostNodes) ⌝ }
     ensures { λ _. ⌜ Marks (now (out .exit)) n (stampedWith (now (present .entry)) (now (stamps .entry)) stamp) ⌝ }
 {
     let mut q = 0;
@@ -266,14 +273,14 @@ fn mark_stamped(out: &mut [bool; 32], present: &[bool; 32], stamps: &[u8; 32], n
 // Whether a slot is marked and more than `threshold` slots list its vote at its stamp.
 fn is_listed(
     mark: bool,
-    present: &[bool; 32],
+    present: &[bool; MOST_NODES],
     inbox: &[u8],
     n: usize,
-    vote: u16,
+    vote: Plan,
     stamp: u8,
     threshold: u16,
 ) -> bool
-    requires { ⌜ n ≤ 32 ⌝ }
+    requires { ⌜ n ≤ mostNodes ⌝ }
     ensures { λ r. ⌜ r ≡ (mark && ltb threshold
         (tally (listing (now (present .entry)) (now (inbox .entry)) vote stamp) n)) ⌝ }
 {
@@ -283,27 +290,52 @@ fn is_listed(
     false
 }
 
-fn wide(x: u16) -> u32
-    ensures { λ r. ⌜ (r ≡ x) × (r < 65536) ⌝ }
+// The first slot that is marked, or that none is: no number stands for that.
+enum First {
+    Slot(usize),
+    NoSlot,
+}
+
+fn first_marked(marks: &[bool; MOST_NODES], n: usize) -> First
+    requires { ⌜ n ≤ mostNodes ⌝ }
+    ensures { λ r. ⌜ FirstOf (now (marks .entry)) n r ⌝ }
 {
-    x as u32
+    let mut q = 0;
+    while q < n {
+        if marks[q] {
+            return First::Slot(q);
+        }
+        q = q + 1;
+    }
+    First::NoSlot
 }
 
 // The lower of two votes, where the slot is marked.
-fn lower_of(mark: bool, vote: u16, least: u32) -> u32
-    ensures { λ r. ⌜ (r ≡ cond (mark && ltb vote least) vote least) × (vote < 65536) ⌝ }
+fn lower_of(mark: bool, vote: Plan, least: Plan) -> Plan
+    ensures { λ r. ⌜ r ≡ cond (mark && ltb vote least) vote least ⌝ }
 {
-    let lowers = mark & (wide(vote) < least);
-    if lowers { wide(vote) } else { least }
+    if vote < least {
+        if mark {
+            return vote;
+        }
+    }
+    least
 }
 
-// The least vote of the marked slots, or the number past every vote where there is none.
-fn least_or_top(marks: &[bool; 32], votes: &[u16; 32], n: usize) -> u32
-    requires { ⌜ n ≤ 32 ⌝ }
-    ensures { λ r. ⌜ TopOf r (leastMarked (marked (now (marks .entry))) (λ q. getD (now (votes .entry)) q 0) n) ⌝ }
+// The least vote of the marked slots, where `first` is the first of them.
+fn least_from(
+    marks: &[bool; MOST_NODES],
+    votes: &[Plan; MOST_NODES],
+    n: usize,
+    first: usize,
+) -> Plan
+    requires { ⌜ (n ≤ mostNodes) × (first < n)
+        × (some (getD (now votes) first 0)
+        ≡ leastMarked (marked (now marks)) (λ q. getD (now votes) q 0) (first + 1)) ⌝ }
+    ensures { λ r. ⌜ some r ≡ leastMarked (marked (now (marks .entry))) (λ q. getD (now (votes .entry)) q 0) n ⌝ }
 {
-    let mut least: u32 = TOP;
-    let mut q = 0;
+    let mut least = votes[first];
+    let mut q = first + 1;
     while q < n {
         least = lower_of(marks[q], votes[q], least);
         q = q + 1;
@@ -312,17 +344,19 @@ fn least_or_top(marks: &[bool; 32], votes: &[u16; 32], n: usize) -> u32
 }
 
 // The least vote of the marked slots, 0 where there is none.
-fn least_marked(marks: &[bool; 32], votes: &[u16; 32], n: usize) -> u16
-    requires { ⌜ n ≤ 32 ⌝ }
+fn least_marked(marks: &[bool; MOST_NODES], votes: &[Plan; MOST_NODES], n: usize) -> Plan
+    requires { ⌜ n ≤ mostNodes ⌝ }
     ensures { λ r. ⌜ r ≡ orZero (leastMarked (marked (now (marks .entry))) (λ q. getD (now (votes .entry)) q 0) n) ⌝ }
 {
-    let least = least_or_top(marks, votes, n);
-    if least < TOP { least as u16 } else { 0 }
+    match first_marked(marks, n) {
+        First::Slot(first) => least_from(marks, votes, n, first),
+        First::NoSlot => Node::NO_PLAN,
+    }
 }
 
 // How many marked slots have another vote.
-fn count_others(marks: &[bool; 32], votes: &[u16; 32], n: usize, vote: u16) -> u16
-    requires { ⌜ n ≤ 32 ⌝ }
+fn count_others(marks: &[bool; MOST_NODES], votes: &[Plan; MOST_NODES], n: usize, vote: Plan) -> u16
+    requires { ⌜ n ≤ mostNodes ⌝ }
     ensures { λ r. ⌜ (r ≡ tally (besideIt (marked (now (marks .entry))) (λ q. getD (now (votes .entry)) q 0) vote) n)
         × (r ≤ n) ⌝ }
 {
@@ -344,8 +378,8 @@ fn higher_of(mark: bool, count: u16, best: u16) -> u16
 }
 
 // The highest count of the slots that are present, 0 where none is.
-fn highest_count(present: &[bool; 32], counts: &[u16; 32], n: usize) -> u16
-    requires { ⌜ n ≤ 32 ⌝ }
+fn highest_count(present: &[bool; MOST_NODES], counts: &[u16; MOST_NODES], n: usize) -> u16
+    requires { ⌜ n ≤ mostNodes ⌝ }
     ensures { λ r. ⌜ r ≡ highest (marked (now (present .entry))) (λ q. getD (now (counts .entry)) q 0) n ⌝ }
 {
     let mut best: u16 = 0;
@@ -360,36 +394,37 @@ fn highest_count(present: &[bool; 32], counts: &[u16; 32], n: usize) -> u16
 // Which votes the marked slots have.
 enum Backing {
     Nobody,
-    Sole(u16),
+    Sole(Plan),
     Several,
 }
 
 // What selection answers.
 pub enum Choice {
-    Plan(u16),
+    Plan(Plan),
     Any,
     Nothing,
 }
 
-// Exactly one vote is backed where no marked slot has another than the least one.
-fn backing_of(marks: &[bool; 32], votes: &[u16; 32], n: usize) -> Backing
-    requires { ⌜ n ≤ 32 ⌝ }
+// Exactly one vote is backed where no marked slot has another than the first.
+fn backing_of(marks: &[bool; MOST_NODES], votes: &[Plan; MOST_NODES], n: usize) -> Backing
+    requires { ⌜ n ≤ mostNodes ⌝ }
     ensures { λ r. ⌜ backingAs r ≡ backingMarked (marked (now (marks .entry))) (λ q. getD (now (votes .entry)) q 0)
         n ⌝ }
 {
-    let top = least_or_top(marks, votes, n);
-    if top < TOP {
-        let least = top as u16;
-        if count_others(marks, votes, n, least) == 0 {
-            return Backing::Sole(least);
+    match first_marked(marks, n) {
+        First::Slot(first) => {
+            let vote = votes[first];
+            if count_others(marks, votes, n, vote) == 0 {
+                return Backing::Sole(vote);
+            }
+            Backing::Several
         }
-        return Backing::Several;
+        First::NoSlot => Backing::Nobody,
     }
-    Backing::Nobody
 }
 
 // One vote more among those that are backed.
-fn with_vote(backing: Backing, vote: u16) -> Backing
+fn with_vote(backing: Backing, vote: Plan) -> Backing
     ensures { λ r. ⌜ backingAs r ≡ joined (backingAs backing) vote ⌝ }
 {
     match backing {
@@ -405,7 +440,7 @@ fn with_vote(backing: Backing, vote: u16) -> Backing
 }
 
 // Whether a vote adds nothing to those that are backed: it is the only one, or there are several anyway.
-fn is_settled(backing: Backing, vote: u16) -> bool
+fn is_settled(backing: Backing, vote: Plan) -> bool
     ensures { λ r. ⌜ r ≡ settled (backingAs backing) vote ⌝ }
 {
     match backing {
@@ -415,19 +450,29 @@ fn is_settled(backing: Backing, vote: u16) -> bool
     }
 }
 
+fn is_backed(backing: Backing) -> bool
+    ensures { λ r. ⌜ r ≡ isBacked (backingAs backing) ⌝ }
+{
+    match backing {
+        Backing::Nobody => false,
+        Backing::Sole(_) => true,
+        Backing::Several => true,
+    }
+}
+
 // With a slot's vote, where the slot is marked and more than `threshold` slots list its vote at its stamp. A vote that
 // adds nothing is not looked up.
 fn with_listed(
     backing: Backing,
     mark: bool,
-    present: &[bool; 32],
+    present: &[bool; MOST_NODES],
     inbox: &[u8],
     n: usize,
-    vote: u16,
+    vote: Plan,
     stamp: u8,
     threshold: u16,
 ) -> Backing
-    requires { ⌜ n ≤ 32 ⌝ }
+    requires { ⌜ n ≤ mostNodes ⌝ }
     ensures { λ r. ⌜ backingAs r ≡ cond (mark && ltb threshold
         (tally (listing (now (present .entry)) (now (inbox .entry)) vote stamp) n))
         (joined (backingAs backing) vote) (backingAs backing) ⌝ }
@@ -443,15 +488,15 @@ fn with_listed(
 
 // Which votes the marked slots have whose vote more than `threshold` slots list at its stamp.
 fn backing_listed(
-    marks: &[bool; 32],
-    present: &[bool; 32],
-    votes: &[u16; 32],
-    stamps: &[u8; 32],
+    marks: &[bool; MOST_NODES],
+    present: &[bool; MOST_NODES],
+    votes: &[Plan; MOST_NODES],
+    stamps: &[u8; MOST_NODES],
     inbox: &[u8],
     n: usize,
     threshold: u16,
 ) -> Backing
-    requires { ⌜ n ≤ 32 ⌝ }
+    requires { ⌜ n ≤ mostNodes ⌝ }
     ensures { λ r. ⌜ backingAs r ≡ backingMarked
         (listedAbove (now (marks .entry)) (now (present .entry)) (now (votes .entry)) (now (stamps .entry))
         (now (inbox .entry)) n threshold)
@@ -508,23 +553,28 @@ fn answer_three(backing: Backing, enough: bool) -> Choice
 fn is_countable(crew: Crew, size: usize) -> bool
     ensures { λ r. ⌜ r ≡ countable crew size ⌝ }
 {
-    (crew.n <= Crew::MOST_NODES)
+    (crew.n as usize <= MOST_NODES)
         & (1 <= crew.d)
         & (crew.d <= crew.n)
         & (size == SLOT * (crew.n as usize))
 }
 
-// 01's E = n − D + b.
+// 01's E = n − D + b: the sum of two bytes, so that twice E and E + b have room in 16 bits.
 fn bound(crew: Crew) -> u16
     requires { ⌜ crew .d ≤ crew .n ⌝ }
-    ensures { λ r. ⌜ (r ≡ E crew) × (r ≤ 510) ⌝ }
+    ensures { λ r. ⌜ (r ≡ E crew) × (r ≤ 255 + 255) ⌝ }
 {
     (crew.n - crew.d) as u16 + crew.b as u16
 }
 
 // Selection in class 1.
-fn choose_one(crew: Crew, present: &[bool; 32], votes: &[u16; 32], stamps: &[u8; 32]) -> Choice
-    requires { ⌜ (crew .n ≤ 32) × (crew .d ≤ crew .n) ⌝ }
+fn choose_one(
+    crew: Crew,
+    present: &[bool; MOST_NODES],
+    votes: &[Plan; MOST_NODES],
+    stamps: &[u8; MOST_NODES],
+) -> Choice
+    requires { ⌜ (crew .n ≤ mostNodes) × (crew .d ≤ crew .n) ⌝ }
     ensures { λ r. ⌜ ((h : ℕ → List Entry) → choiceAs r ≡ selection one crew
         (polled (columns (now (present .entry)) (now (votes .entry)) (now (stamps .entry))) h
         (crew .n))) ⌝ }
@@ -532,15 +582,20 @@ fn choose_one(crew: Crew, present: &[bool; 32], votes: &[u16; 32], stamps: &[u8;
     let n = crew.n as usize;
     let e = bound(crew);
     let arrivals = count_marks(present, n);
-    let mut backed = [false; SLOTS];
+    let mut backed = [false; MOST_NODES];
     mark_above(&mut backed, present, present, votes, stamps, n, e, false);
     let backing = backing_of(&backed, votes, n);
     answer_below_three(backing, 2 * e < arrivals)
 }
 
 // Selection in class 2.
-fn choose_two(crew: Crew, present: &[bool; 32], votes: &[u16; 32], stamps: &[u8; 32]) -> Choice
-    requires { ⌜ (crew .n ≤ 32) × (crew .d ≤ crew .n) ⌝ }
+fn choose_two(
+    crew: Crew,
+    present: &[bool; MOST_NODES],
+    votes: &[Plan; MOST_NODES],
+    stamps: &[u8; MOST_NODES],
+) -> Choice
+    requires { ⌜ (crew .n ≤ mostNodes) × (crew .d ≤ crew .n) ⌝ }
     ensures { λ r. ⌜ ((h : ℕ → List Entry) → choiceAs r ≡ selection two crew
         (polled (columns (now (present .entry)) (now (votes .entry)) (now (stamps .entry))) h
         (crew .n))) ⌝ }
@@ -549,9 +604,9 @@ fn choose_two(crew: Crew, present: &[bool; 32], votes: &[u16; 32], stamps: &[u8;
     let b = crew.b as u16;
     let e = bound(crew);
     let arrivals = count_marks(present, n);
-    let mut possible = [false; SLOTS];
+    let mut possible = [false; MOST_NODES];
     mark_above(&mut possible, present, present, votes, stamps, n, e, true);
-    let mut backed = [false; SLOTS];
+    let mut backed = [false; MOST_NODES];
     mark_above(&mut backed, present, &possible, votes, stamps, n, b, false);
     let backing = backing_of(&backed, votes, n);
     answer_below_three(backing, e + b < arrivals)
@@ -561,11 +616,11 @@ fn choose_two(crew: Crew, present: &[bool; 32], votes: &[u16; 32], stamps: &[u8;
 fn choose_three(
     crew: Crew,
     inbox: &[u8],
-    present: &[bool; 32],
-    votes: &[u16; 32],
-    stamps: &[u8; 32],
+    present: &[bool; MOST_NODES],
+    votes: &[Plan; MOST_NODES],
+    stamps: &[u8; MOST_NODES],
 ) -> Choice
-    requires { ⌜ (crew .n ≤ 32) × (crew .d ≤ crew .n) × (crew .n ≤ slotsIn (length (now inbox)))
+    requires { ⌜ (crew .n ≤ mostNodes) × (crew .d ≤ crew .n) × (crew .n ≤ slotsIn (length (now inbox)))
         × AllListable (now present) (now inbox) (crew .n) ⌝ }
     ensures { λ r. ⌜ choiceAs r ≡ selection three crew
         (polled (columns (now (present .entry)) (now (votes .entry)) (now (stamps .entry)))
@@ -574,11 +629,15 @@ fn choose_three(
     let n = crew.n as usize;
     let b = crew.b as u16;
     let e = bound(crew);
-    let mut possible = [false; SLOTS];
+    let mut possible = [false; MOST_NODES];
     mark_above(&mut possible, present, present, votes, stamps, n, e, true);
     let backing = backing_listed(&possible, present, votes, stamps, inbox, n, b);
-    let mut unstamped = [false; SLOTS];
-    mark_stamped(&mut unstamped, present, stamps, n, 0);
+    // Where a plan is backed, it plays no part how many slots have no stamp.
+    if is_backed(backing) {
+        return answer_three(backing, false);
+    }
+    let mut unstamped = [false; MOST_NODES];
+    mark_stamped(&mut unstamped, present, stamps, n, Node::UNSTAMPED);
     answer_three(backing, e < count_marks(&unstamped, n))
 }
 
@@ -586,20 +645,20 @@ fn choose_three(
 fn choose_by_class(
     crew: Crew,
     inbox: &[u8],
-    present: &[bool; 32],
-    votes: &[u16; 32],
-    stamps: &[u8; 32],
+    present: &[bool; MOST_NODES],
+    votes: &[Plan; MOST_NODES],
+    stamps: &[u8; MOST_NODES],
 ) -> Choice
-    requires { ⌜ (crew .n ≤ 32) × (crew .d ≤ crew .n) × (crew .n ≤ slotsIn (length (now inbox)))
+    requires { ⌜ (crew .n ≤ mostNodes) × (crew .d ≤ crew .n) × (crew .n ≤ slotsIn (length (now inbox)))
         × AllListable (now present) (now inbox) (crew .n) ⌝ }
     ensures { λ r. ⌜ choiceAs r ≡ selection (classOf crew) crew
         (polled (columns (now (present .entry)) (now (votes .entry)) (now (stamps .entry)))
         (historiesIn (now (inbox .entry))) (crew .n)) ⌝ }
 {
-    if crew.class == 1 {
+    if crew.class == Crew::CLASS_ONE {
         return choose_one(crew, present, votes, stamps);
     }
-    if crew.class == 2 {
+    if crew.class == Crew::CLASS_TWO {
         return choose_two(crew, present, votes, stamps);
     }
     choose_three(crew, inbox, present, votes, stamps)
@@ -610,9 +669,9 @@ pub fn choose(crew: Crew, run: u32, phase: u8, inbox: &[u8]) -> Choice
     ensures { λ r. ⌜ choiceAs r ≡ choiceOf crew run phase (now (inbox .entry)) ⌝ }
 {
     if is_countable(crew, inbox.len()) {
-        let mut present = [false; SLOTS];
-        let mut votes = [0u16; SLOTS];
-        let mut stamps = [0u8; SLOTS];
+        let mut present = [false; MOST_NODES];
+        let mut votes = [Node::NO_PLAN; MOST_NODES];
+        let mut stamps = [Node::UNSTAMPED; MOST_NODES];
         inbox::read_slots(
             inbox,
             run,
@@ -627,34 +686,53 @@ pub fn choose(crew: Crew, run: u32, phase: u8, inbox: &[u8]) -> Choice
     Choice::Nothing
 }
 
+// The vote of most slots, the least plan on a tie; 0 where no slot is present.
+fn most_voted(
+    present: &[bool; MOST_NODES],
+    votes: &[Plan; MOST_NODES],
+    stamps: &[u8; MOST_NODES],
+    n: usize,
+) -> Plan
+    requires { ⌜ n ≤ mostNodes ⌝ }
+    ensures { λ r. ⌜ ((h : ℕ → List Entry) → r ≡ mostVoted
+        (polled (columns (now (present .entry)) (now (votes .entry)) (now (stamps .entry))) h n)) ⌝ }
+{
+    let mut counts = [0u16; MOST_NODES];
+    count_each(&mut counts, present, votes, stamps, n, false);
+    let most = highest_count(present, &counts, n);
+    if most == 0 {
+        return Node::NO_PLAN;
+    }
+    let mut leaders = [false; MOST_NODES];
+    mark_over(&mut leaders, present, &counts, n, most - 1);
+    least_marked(&leaders, votes, n)
+}
+
 // 01: "For 'any' the node takes the vote of most slots, the least plan on a tie"
-fn any_plan(crew: Crew, present: &[bool; 32], votes: &[u16; 32], stamps: &[u8; 32]) -> u16
-    requires { ⌜ crew .n ≤ 32 ⌝ }
+fn any_plan(
+    crew: Crew,
+    present: &[bool; MOST_NODES],
+    votes: &[Plan; MOST_NODES],
+    stamps: &[u8; MOST_NODES],
+) -> Plan
+    requires { ⌜ crew .n ≤ mostNodes ⌝ }
     ensures { λ r. ⌜ ((h : ℕ → List Entry) → r ≡ anyPlan crew
         (polled (columns (now (present .entry)) (now (votes .entry)) (now (stamps .entry))) h
         (crew .n))) ⌝ }
 {
     let n = crew.n as usize;
-    let mut counts = [0u16; SLOTS];
-    count_each(&mut counts, present, votes, stamps, n, false);
-    let most = highest_count(present, &counts, n);
-    if most == 0 {
-        return 0;
-    }
-    let mut leaders = [false; SLOTS];
-    mark_over(&mut leaders, present, &counts, n, most - 1);
-    least_marked(&leaders, votes, n)
+    most_voted(present, votes, stamps, n)
 }
 
 // What a node takes on an answer: the plan, or 0 for 'none'.
 fn take_on(
     crew: Crew,
     choice: Choice,
-    present: &[bool; 32],
-    votes: &[u16; 32],
-    stamps: &[u8; 32],
-) -> u16
-    requires { ⌜ crew .n ≤ 32 ⌝ }
+    present: &[bool; MOST_NODES],
+    votes: &[Plan; MOST_NODES],
+    stamps: &[u8; MOST_NODES],
+) -> Plan
+    requires { ⌜ crew .n ≤ mostNodes ⌝ }
     ensures { λ r. ⌜ ((h : ℕ → List Entry) → r ≡ takenOn crew
         (polled (columns (now (present .entry)) (now (votes .entry)) (now (stamps .entry))) h
         (crew .n)) (choiceAs choice)) ⌝ }
@@ -662,18 +740,18 @@ fn take_on(
     match choice {
         Choice::Plan(plan) => plan,
         Choice::Any => any_plan(crew, present, votes, stamps),
-        Choice::Nothing => 0,
+        Choice::Nothing => Node::NO_PLAN,
     }
 }
 
 // 01: "Select is the plan, or 0 for 'none'"
-pub fn select(crew: Crew, run: u32, phase: u8, inbox: &[u8]) -> u16
+pub fn select(crew: Crew, run: u32, phase: u8, inbox: &[u8]) -> Plan
     ensures { λ r. ⌜ r ≡ selected crew run phase (now (inbox .entry)) ⌝ }
 {
     if is_countable(crew, inbox.len()) {
-        let mut present = [false; SLOTS];
-        let mut votes = [0u16; SLOTS];
-        let mut stamps = [0u8; SLOTS];
+        let mut present = [false; MOST_NODES];
+        let mut votes = [Node::NO_PLAN; MOST_NODES];
+        let mut stamps = [Node::UNSTAMPED; MOST_NODES];
         inbox::read_slots(
             inbox,
             run,
@@ -690,27 +768,32 @@ pub fn select(crew: Crew, run: u32, phase: u8, inbox: &[u8]) -> u16
 }
 
 // The plan that more than half of n + b slots hold, 0 where none does.
-fn least_valid(crew: Crew, present: &[bool; 32], votes: &[u16; 32], stamps: &[u8; 32]) -> u16
-    requires { ⌜ crew .n ≤ 32 ⌝ }
+fn least_valid(
+    crew: Crew,
+    present: &[bool; MOST_NODES],
+    votes: &[Plan; MOST_NODES],
+    stamps: &[u8; MOST_NODES],
+) -> Plan
+    requires { ⌜ crew .n ≤ mostNodes ⌝ }
     ensures { λ r. ⌜ ((h : ℕ → List Entry) → r ≡ validated crew
         (polled (columns (now (present .entry)) (now (votes .entry)) (now (stamps .entry))) h
         (crew .n))) ⌝ }
 {
     let n = crew.n as usize;
     let half = (crew.n as u16 + crew.b as u16) / 2;
-    let mut valid = [false; SLOTS];
+    let mut valid = [false; MOST_NODES];
     mark_above(&mut valid, present, present, votes, stamps, n, half, false);
     least_marked(&valid, votes, n)
 }
 
 // 01: "If a plan stands in c slots with 2c > n + b": that plan, 0 where there is none.
-pub fn validate(crew: Crew, run: u32, phase: u8, inbox: &[u8]) -> u16
+pub fn validate(crew: Crew, run: u32, phase: u8, inbox: &[u8]) -> Plan
     ensures { λ r. ⌜ r ≡ validIn crew run phase (now (inbox .entry)) ⌝ }
 {
     if is_countable(crew, inbox.len()) {
-        let mut present = [false; SLOTS];
-        let mut votes = [0u16; SLOTS];
-        let mut stamps = [0u8; SLOTS];
+        let mut present = [false; MOST_NODES];
+        let mut votes = [Node::NO_PLAN; MOST_NODES];
+        let mut stamps = [Node::UNSTAMPED; MOST_NODES];
         inbox::read_slots(
             inbox,
             run,
@@ -726,12 +809,18 @@ pub fn validate(crew: Crew, run: u32, phase: u8, inbox: &[u8]) -> u16
 }
 
 // The slots whose votes decide. 01: "in classes 2 and 3 only slots whose stamp is the phase"
-fn mark_fresh(out: &mut [bool; 32], crew: Crew, phase: u8, present: &[bool; 32], stamps: &[u8; 32])
-    requires { ⌜ (crew .n ≤ 32) × (length (now out) ≡ 32) ⌝ }
+fn mark_fresh(
+    out: &mut [bool; MOST_NODES],
+    crew: Crew,
+    phase: u8,
+    present: &[bool; MOST_NODES],
+    stamps: &[u8; MOST_NODES],
+)
+    requires { ⌜ (crew .n ≤ mostNodes) × (length (now out) ≡ mostNodes) ⌝ }
     ensures { λ _. ⌜ Marks (now (out .exit)) (crew .n)
         (freshSlot (classOf crew) (now (present .entry)) (now (stamps .entry)) phase) ⌝ }
 {
-    if crew.class == 1 {
+    if crew.class == Crew::CLASS_ONE {
         *out = *present;
         return;
     }
@@ -742,19 +831,19 @@ fn mark_fresh(out: &mut [bool; 32], crew: Crew, phase: u8, present: &[bool; 32],
 fn least_deciding(
     crew: Crew,
     phase: u8,
-    present: &[bool; 32],
-    votes: &[u16; 32],
-    stamps: &[u8; 32],
-) -> u16
-    requires { ⌜ (crew .n ≤ 32) × (1 ≤ crew .d) ⌝ }
+    present: &[bool; MOST_NODES],
+    votes: &[Plan; MOST_NODES],
+    stamps: &[u8; MOST_NODES],
+) -> Plan
+    requires { ⌜ (crew .n ≤ mostNodes) × (1 ≤ crew .d) ⌝ }
     ensures { λ r. ⌜ ((h : ℕ → List Entry) → r ≡ decision (classOf crew) crew phase
         (polled (columns (now (present .entry)) (now (votes .entry)) (now (stamps .entry))) h
         (crew .n))) ⌝ }
 {
     let n = crew.n as usize;
-    let mut fresh = [false; SLOTS];
+    let mut fresh = [false; MOST_NODES];
     mark_fresh(&mut fresh, crew, phase, present, stamps);
-    let mut deciding = [false; SLOTS];
+    let mut deciding = [false; MOST_NODES];
     mark_above(
         &mut deciding,
         present,
@@ -769,13 +858,13 @@ fn least_deciding(
 }
 
 // 01: "plans in at least D slots": the least, 0 where there is none.
-pub fn decide(crew: Crew, run: u32, phase: u8, inbox: &[u8]) -> u16
+pub fn decide(crew: Crew, run: u32, phase: u8, inbox: &[u8]) -> Plan
     ensures { λ r. ⌜ r ≡ decidedIn crew run phase (now (inbox .entry)) ⌝ }
 {
     if is_countable(crew, inbox.len()) {
-        let mut present = [false; SLOTS];
-        let mut votes = [0u16; SLOTS];
-        let mut stamps = [0u8; SLOTS];
+        let mut present = [false; MOST_NODES];
+        let mut votes = [Node::NO_PLAN; MOST_NODES];
+        let mut stamps = [Node::UNSTAMPED; MOST_NODES];
         inbox::read_slots(
             inbox,
             run,

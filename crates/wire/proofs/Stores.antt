@@ -1,12 +1,16 @@
 -- Stores of bytes one after the other: what the writers of messages, texts and images go by.
 -- Assumes nothing.
-use mathlib.Core.Path.{_≡_, ap, sym, _∙_}
+use mathlib.Core.Path.{_≡_, refl, ap, sym, _∙_}
+use mathlib.Core.Bool.{Bool, true, false}
 use mathlib.Core.List.{List, [], _∷_, _++_, append-nil}
-use Prim.Native.Nat.{ℕ, suc, _+_, _≤_}
+use Prim.Native.Nat.{ℕ, suc, _+_, _-_, _≤_}
 use native.Mathlib.Nat.{add-zero, add-suc, suc-add, zero-add}
 use native.Mathlib.Omega.{arith}
 use lib.ListN.{length, set, drop, drop-of-length-le}
 use lib.Seq.{sets, sets-eq}
+use lib.Dec.{leb}
+use borrow.Author.Tests.{leb-true, leb-false, le-leb, lt-leb}
+use Rattle.wire.specs.Bytes.{laid}
 
 -- two runs of bytes, one after the other
 pub sets-append : (xs ys l : List ℕ) (i : ℕ) → sets l i (xs ++ ys) ≡ sets (sets l i xs) (i + length xs) ys
@@ -27,3 +31,17 @@ sets-whole bs l same =
     let room : length bs ≤ length l = omega arith in
     let over : length l ≤ length bs = omega arith in
     sets-front bs l room ∙ ap (λ (rest : List ℕ). bs ++ rest) (drop-of-length-le l over) ∙ append-nil bs
+
+-- so many bytes have room from a place on where the place is no later than the last that leaves room for them
+pub room-after : (size place count : ℕ) → count ≤ size → leb place (size - count) ≡ leb (place + count) size
+room-after size place count h = go (leb (place + count) size) refl
+  where
+    go : (b : Bool) → leb (place + count) size ≡ b → leb place (size - count) ≡ b
+    go true e = le-leb place (size - count) (omega (arith, leb-true (place + count) size e))
+    go false e = lt-leb place (size - count) (omega (arith, leb-false (place + count) size e))
+
+-- what is laid where it has room is stored
+pub laid-room : {after : List ℕ} (buffer bytes : List ℕ) (place : ℕ) → after ≡ laid buffer place bytes
+    → place + length bytes ≤ length buffer → after ≡ sets buffer place bytes
+unfolding laid
+laid-room buffer bytes place e room = e ∙ rw (le-leb (place + length bytes) (length buffer) room)

@@ -1,8 +1,11 @@
 -- Numbers in bytes, the least byte first: once over the width, in bytes.
 -- 01: "byte order is little-endian"
 use Prim.Native.Nat.{ℕ, zero, suc, _+_, _*_, _/_, _%_, _<_}
+use mathlib.Core.Bool.{cond}
 use mathlib.Core.List.{List, [], _∷_}
-use lib.ListN.{getD}
+use lib.ListN.{length, getD}
+use lib.Seq.{sets}
+use lib.Dec.{leb}
 
 -- the number that stands in `width` bytes from a place on
 abbrev pub numberAt : ℕ → List ℕ → ℕ → ℕ
@@ -17,3 +20,7 @@ bytesOf (suc width) number = number % 256 ∷ bytesOf width (number / 256)
 -- a list of bytes: numbers below 256
 abbrev pub AreBytes : List ℕ → Type 0
 AreBytes s = (place : ℕ) → getD s place 0 < 256
+
+-- bytes laid into a buffer from a place on; a buffer without room for them stays as it is
+unfoldable pub laid : List ℕ → ℕ → List ℕ → List ℕ
+laid buffer place bytes = cond (leb (place + length bytes) (length buffer)) (sets buffer place bytes) buffer

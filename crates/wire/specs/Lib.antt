@@ -1,4 +1,5 @@
 pub mod Outcome
 pub mod Entry
+pub mod Sizes
 pub mod Bytes
 pub mod Plan

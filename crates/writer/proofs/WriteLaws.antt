@@ -12,6 +12,7 @@ use borrow.Author.Tests.{le-leb, lt-leb, leb-true}
 use Rattle.wire.specs.Outcome.{accepted, refused}
 use Rattle.wire.proofs.Stores.{sets-front}
 use Rattle.wire.proofs.Tests.{both-true}
+use Rattle.wire.specs.Sizes.{lastPhase}
 use Rattle.message.specs.Fields.{Message}
 use Rattle.message.specs.Bounds.{phaseOk, planOk, within}
 use Rattle.message.specs.Encoding.{sizeOf, encode}
@@ -56,13 +57,13 @@ module _ (run phase vote stamp : ℕ) (history : List ℕ) (phases : ℕ) where
   all-true : (a b c d : Bool) → a ≡ true → b ≡ true → c ≡ true → d ≡ true → a && (b && c && d) ≡ true
   all-true a b c d ha hb hc hd = rw (ha, hb, hc, hd)
 
-  pub allowed-within : allowed ≡ true → (leb phases phase ≡ true) × (within message ≡ true) × (phases ≤ 63)
+  pub allowed-within : allowed ≡ true → (leb phases phase ≡ true) × (within message ≡ true) × (phases ≤ lastPhase)
   allowed-within e =
       let parts = both-true (leb phases phase) _ e in
       let scalars = both-true (phaseOk phase) (planOk vote && ltb stamp phase) (parts .1) in
       let below : phases ≤ phase = leb-true _ _ (parts .0) in
-      let last : phase ≤ 63 = leb-true _ _ (both-true (leb 1 phase) (leb phase 63) (scalars .0) .1) in
-      let few : length (listed history 0 phases) ≤ 63 = omega (arith, listed-count history 0 phases) in
+      let last : phase ≤ lastPhase = leb-true _ _ (both-true (leb 1 phase) (leb phase lastPhase) (scalars .0) .1) in
+      let few : length (listed history 0 phases) ≤ lastPhase = omega (arith, listed-count history 0 phases) in
       let rising = listed-ok history 0 phases 0 phase (omega arith) (omega arith) in
       (parts .0, all-true _ _ _ _ (scalars .0) (scalars .1) (le-leb _ _ few) rising, omega arith)
 

@@ -16,12 +16,15 @@ use message::SELECTION_LENGTH;
 use message::STAMP_AT;
 use message::VALIDATION;
 use message::VALIDATION_LENGTH;
+use wire::PHASES;
+use wire::Plan;
 ghost use mathlib.Core.Path.{_≡_};
 ghost use Prim.Native.Nat.{_+_, _<_, _≤_};
 ghost use lib.ListN.{length};
 ghost use lib.Seq.{sets};
-ghost use Rattle.wire.specs.Bytes.{bytesOf};
+ghost use Rattle.wire.specs.Sizes.{lastPhase};
 ghost use Rattle.message.specs.Encoding.{header, entryBytes};
+ghost use Rattle.message.specs.Layout.{headerSize, entriesPlace};
 ghost use Rattle.writer.specs.Writing.{
   entryOf,
   listed,
@@ -48,36 +51,18 @@ pub enum Writing {
     Refused(WriteRefusal),
 }
 
-fn put16(buf: &mut [u8], place: usize, number: u16)
-    requires { ⌜ place + 1 < length (now buf) ⌝ }
-    ensures { λ _. ⌜ now (buf .exit) ≡ sets (now (buf .entry)) place (bytesOf 2 number) ⌝ }
-{
-    buf[place] = (number % 256) as u8;
-    buf[place + 1] = (number / 256 % 256) as u8;
-}
-
-fn put_run(buf: &mut [u8], run: u32)
-    requires { ⌜ 9 ≤ length (now buf) ⌝ }
-    ensures { λ _. ⌜ now (buf .exit) ≡ sets (now (buf .entry)) 4 (bytesOf 4 run) ⌝ }
-{
-    buf[RUN_AT] = (run % 256) as u8;
-    buf[RUN_AT + 1] = (run / 256 % 256) as u8;
-    buf[RUN_AT + 2] = (run / 256 / 256 % 256) as u8;
-    buf[RUN_AT + 3] = (run / 256 / 256 / 256 % 256) as u8;
-}
-
 fn put_header(buf: &mut [u8], size: u16, kind: u16, run: u32, phase: u8)
-    requires { ⌜ 9 ≤ length (now buf) ⌝ }
+    requires { ⌜ headerSize ≤ length (now buf) ⌝ }
     ensures { λ _. ⌜ now (buf .exit) ≡ sets (now (buf .entry)) 0 (header size kind run phase) ⌝ }
 {
-    put16(buf, LENGTH_AT, size);
-    put16(buf, KIND_AT, kind);
-    put_run(buf, run);
+    wire::put_u16(buf, LENGTH_AT, size);
+    wire::put_u16(buf, KIND_AT, kind);
+    wire::put_u32(buf, RUN_AT, run);
     buf[PHASE_AT] = phase;
 }
 
 // Writes a validation. Fields that break a bound are refused, then a buffer that is too short.
-pub fn write_validation(buf: &mut [u8], run: u32, phase: u8, plan: u16) -> Writing
+pub fn write_validation(buf: &mut [u8], run: u32, phase: u8, plan: Plan) -> Writing
     ensures { λ r. ⌜ (writtenAs r ≡ writeOf (validationOf run phase plan) (now (buf .entry)))
         × (now (buf .exit) ≡ bufferOf (validationOf run phase plan) (now (buf .entry))) ⌝ }
 {
@@ -87,14 +72,14 @@ pub fn write_validation(buf: &mut [u8], run: u32, phase: u8, plan: u16) -> Writi
             return Writing::Refused(WriteRefusal::Short);
         }
         put_header(buf, VALIDATION_LENGTH, VALIDATION, run, phase);
-        put16(buf, PLAN_AT, plan);
+        wire::put_plan(buf, PLAN_AT, plan);
         return Writing::Bytes(VALIDATION_LENGTH as usize);
     }
     Writing::Refused(WriteRefusal::OutOfBounds)
 }
 
 // Writes a decision. Fields that break a bound are refused, then a buffer that is too short.
-pub fn write_decision(buf: &mut [u8], run: u32, phase: u8, vote: u16, stamp: u8) -> Writing
+pub fn write_decision(buf: &mut [u8], run: u32, phase: u8, vote: Plan, stamp: u8) -> Writing
     ensures { λ r. ⌜ (writtenAs r ≡ writeOf (decisionOf run phase vote stamp) (now (buf .entry)))
         × (now (buf .exit) ≡ bufferOf (decisionOf run phase vote stamp) (now (buf .entry))) ⌝ }
 {
@@ -104,7 +89,7 @@ pub fn write_decision(buf: &mut [u8], run: u32, phase: u8, vote: u16, stamp: u8)
             return Writing::Refused(WriteRefusal::Short);
         }
         put_header(buf, DECISION_LENGTH, DECISION, run, phase);
-        put16(buf, PLAN_AT, vote);
+        wire::put_plan(buf, PLAN_AT, vote);
         buf[STAMP_AT] = stamp;
         return Writing::Bytes(DECISION_LENGTH as usize);
     }
@@ -112,15 +97,15 @@ pub fn write_decision(buf: &mut [u8], run: u32, phase: u8, vote: u16, stamp: u8)
 }
 
 // 1 for a phase that has a plan, else 0.
-fn one_if_plan(phase: u8, plan: u16) -> usize
+fn one_if_plan(phase: u8, plan: Plan) -> usize
     ensures { λ r. ⌜ (r ≡ length (entryOf phase plan)) × (r ≤ 1) ⌝ }
 {
     if message::is_plan(plan) { 1 } else { 0 }
 }
 
 // How many of the first phases have a plan.
-fn count_entries(history: [u16; 64], phases: u8) -> usize
-    requires { ⌜ phases ≤ 63 ⌝ }
+fn count_entries(history: [Plan; PHASES], phases: u8) -> usize
+    requires { ⌜ phases ≤ lastPhase ⌝ }
     ensures { λ r. ⌜ (r ≡ length (listed history 0 phases)) × (r ≤ phases) ⌝ }
 {
     let mut count: usize = 0;
@@ -133,14 +118,14 @@ fn count_entries(history: [u16; 64], phases: u8) -> usize
 }
 
 // Writes the entry of a phase that has a plan, and answers the place after it.
-fn put_entry(buf: &mut [u8], place: usize, phase: u8, plan: u16) -> usize
+fn put_entry(buf: &mut [u8], place: usize, phase: u8, plan: Plan) -> usize
     requires { ⌜ place + length (entryBytes (entryOf phase plan)) ≤ length (now buf) ⌝ }
     ensures { λ r. ⌜ (r ≡ place + length (entryBytes (entryOf phase plan)))
         × (now (buf .exit) ≡ sets (now (buf .entry)) place (entryBytes (entryOf phase plan))) ⌝ }
 {
     if message::is_plan(plan) {
         buf[place] = phase;
-        put16(buf, place + 1, plan);
+        wire::put_plan(buf, place + 1, plan);
         place + ENTRY_SIZE
     } else {
         place
@@ -148,9 +133,10 @@ fn put_entry(buf: &mut [u8], place: usize, phase: u8, plan: u16) -> usize
 }
 
 // Writes the entries of the first phases.
-fn put_entries(buf: &mut [u8], history: [u16; 64], phases: u8)
-    requires { ⌜ (phases ≤ 63) × (13 + length (entryBytes (listed history 0 phases)) ≤ length (now buf)) ⌝ }
-    ensures { λ _. ⌜ now (buf .exit) ≡ sets (now (buf .entry)) 13 (entryBytes (listed history 0 phases)) ⌝ }
+fn put_entries(buf: &mut [u8], history: [Plan; PHASES], phases: u8)
+    requires { ⌜ (phases ≤ lastPhase)
+        × (entriesPlace + length (entryBytes (listed history 0 phases)) ≤ length (now buf)) ⌝ }
+    ensures { λ _. ⌜ now (buf .exit) ≡ sets (now (buf .entry)) entriesPlace (entryBytes (listed history 0 phases)) ⌝ }
 {
     let mut place: usize = ENTRIES_AT;
     let mut phase: u8 = 0;
@@ -166,9 +152,9 @@ pub fn write_selection(
     buf: &mut [u8],
     run: u32,
     phase: u8,
-    vote: u16,
+    vote: Plan,
     stamp: u8,
-    history: [u16; 64],
+    history: [Plan; PHASES],
     phases: u8,
 ) -> Writing
     ensures { λ r. ⌜ (writtenAs r ≡ writeSelectionOf run phase vote stamp history phases (now (buf .entry)))
@@ -183,7 +169,7 @@ pub fn write_selection(
             return Writing::Refused(WriteRefusal::Short);
         }
         put_header(buf, size as u16, SELECTION, run, phase);
-        put16(buf, PLAN_AT, vote);
+        wire::put_plan(buf, PLAN_AT, vote);
         buf[STAMP_AT] = stamp;
         buf[COUNT_AT] = count as u8;
         put_entries(buf, history, phases);

@@ -39,7 +39,7 @@ pub fn compare(boundary: Boundary, seed: u64) -> Result<(), String> {
 }
 
 /// The second engine's answer as the archive's.
-fn answer(answer: Result<u32, Refusal>) -> Answer {
+fn answer(answer: Result<u64, Refusal>) -> Answer {
     answer.map_err(|refusal| Refused(refusal.number()))
 }
 
@@ -143,7 +143,7 @@ fn compare_images(random: &mut Random) -> Result<(), String> {
         same(&case(), found, expected)?;
     }
     let asked = rounds::ask(&node, &inbox).map(|selection| match selection {
-        Selection::Plan(plan) => u32::from(plan),
+        Selection::Plan(plan) => u64::from(plan),
         Selection::Any => rail::ANY,
         Selection::None => 0,
     });
@@ -176,7 +176,7 @@ fn compare_write(random: &mut Random, node: &Node, image: &[u8]) -> Result<(), S
     let bytes = random.bytes(length);
     let lent = Lent::new(random, &bytes);
     let mut after = bytes.clone();
-    let written = answer(node.write(&mut after).map(|length| length as u32));
+    let written = answer(node.write(&mut after).map(|length| length as u64));
     same(&(node, &bytes), lent.after(|buffer| rail::write(image, buffer)), (written, lent.with(&after)))
 }
 
@@ -184,7 +184,7 @@ fn compare_results(random: &mut Random) -> Result<(), String> {
     let node = records::any(random);
     let image = any_image(random, &node);
     let node = image::node(&image);
-    let expected = if node.is_sound() { Ok(u32::from(node.result)) } else { Err(Refused(Refusal::NotSound.number())) };
+    let expected = if node.is_sound() { Ok(u64::from(node.result)) } else { Err(Refused(Refusal::NotSound.number())) };
     same(&node, rail::result(&image), expected)
 }
 
@@ -204,7 +204,9 @@ fn compare_messages(random: &mut Random) -> Result<(), String> {
         let entry = entries.chunks_exact(ENTRY).nth(i);
         let expected = match (read, entry) {
             (Err(refusal), _) => Err(Refused(refusal.number())),
-            (Ok(_), Some(entry)) => Ok(u32::from_le_bytes([entry[1], entry[2], entry[0], 0])),
+            (Ok(_), Some(entry)) => {
+                Ok(rail::ENTRY_PHASE * u64::from(entry[0]) + u64::from(u16::from_le_bytes([entry[1], entry[2]])))
+            }
             (Ok(_), None) => Err(Refused::NO_ENTRY),
         };
         same(&(&slice, i), rail::entry(&slice, i), expected)?;

@@ -11,7 +11,10 @@ fn numbers() -> BTreeMap<&'static str, usize> {
     let text = include_str!("../../../include/rail.h");
     let number = |line: &'static str| {
         let mut words = line.strip_prefix("#define ")?.split_whitespace();
-        Some((words.next()?, words.next()?.parse().ok()?))
+        let (name, text) = (words.next()?, words.next()?);
+        // A number of more than 32 bits stands in C's macro for it.
+        let digits = text.strip_prefix("UINT64_C(").and_then(|rest| rest.strip_suffix(')')).unwrap_or(text);
+        Some((name, digits.parse().ok()?))
     };
     text.lines().filter_map(number).collect()
 }

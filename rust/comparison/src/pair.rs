@@ -66,8 +66,8 @@ impl Pair<'_> {
         Ok(answer)
     }
 
-    /// The answer to a call that is handed this inbox, and the record after it. An inbox is shown only where the engines
-    /// differ: that takes long.
+    /// The answer to a call that is handed this inbox, and the record after it. An inbox is shown only where the
+    /// engines differ: that takes long.
     fn of_inbox<A: PartialEq + Debug>(
         &self,
         before: Node,

@@ -5,7 +5,7 @@
 //! the functions keep no pointer once they have returned. They need nothing of the bytes' values.
 
 unsafe extern "C" {
-    fn rail_accept(class: u8, n: u8, b: u8, f: u8, d: u8) -> u32;
+    fn rail_accept(class: u8, n: u8, b: u8, f: u8, d: u8) -> u64;
     fn rail_start(
         class: u8,
         n: u8,
@@ -17,51 +17,51 @@ unsafe extern "C" {
         plan: u16,
         record: *mut u8,
         record_length: usize,
-    ) -> u32;
-    fn rail_write(record: *const u8, record_length: usize, buffer: *mut u8, buffer_length: usize) -> u32;
-    fn rail_take(record: *mut u8, record_length: usize, inbox: *const u8, inbox_length: usize) -> u32;
-    fn rail_ask(record: *const u8, record_length: usize, inbox: *const u8, inbox_length: usize) -> u32;
-    fn rail_result(record: *const u8, record_length: usize) -> u32;
-    fn rail_read(bytes: *const u8, bytes_length: usize, fields: *mut u8, fields_length: usize) -> u32;
-    fn rail_entry(bytes: *const u8, bytes_length: usize, i: usize) -> u32;
+    ) -> u64;
+    fn rail_write(record: *const u8, record_length: usize, buffer: *mut u8, buffer_length: usize) -> u64;
+    fn rail_take(record: *mut u8, record_length: usize, inbox: *const u8, inbox_length: usize) -> u64;
+    fn rail_ask(record: *const u8, record_length: usize, inbox: *const u8, inbox_length: usize) -> u64;
+    fn rail_result(record: *const u8, record_length: usize) -> u64;
+    fn rail_read(bytes: *const u8, bytes_length: usize, fields: *mut u8, fields_length: usize) -> u64;
+    fn rail_entry(bytes: *const u8, bytes_length: usize, i: usize) -> u64;
 }
 
-pub fn accept([class, n, b, f, d]: [u8; 5]) -> u32 {
+pub fn accept([class, n, b, f, d]: [u8; 5]) -> u64 {
     // SAFETY: it takes numbers only.
     unsafe { rail_accept(class, n, b, f, d) }
 }
 
-pub fn start([class, n, b, f, d]: [u8; 5], own: u8, run: u32, plan: u16, record: &mut [u8]) -> u32 {
+pub fn start([class, n, b, f, d]: [u8; 5], own: u8, run: u32, plan: u16, record: &mut [u8]) -> u64 {
     // SAFETY: pointer and length are those of a slice that is lent to be written.
     unsafe { rail_start(class, n, b, f, d, own, run, plan, record.as_mut_ptr(), record.len()) }
 }
 
-pub fn write(record: &[u8], buffer: &mut [u8]) -> u32 {
+pub fn write(record: &[u8], buffer: &mut [u8]) -> u64 {
     // SAFETY: each pointer and length are those of a slice; only the buffer, which is lent to be, is written.
     unsafe { rail_write(record.as_ptr(), record.len(), buffer.as_mut_ptr(), buffer.len()) }
 }
 
-pub fn take(record: &mut [u8], inbox: &[u8]) -> u32 {
+pub fn take(record: &mut [u8], inbox: &[u8]) -> u64 {
     // SAFETY: each pointer and length are those of a slice; only the record, which is lent to be, is written.
     unsafe { rail_take(record.as_mut_ptr(), record.len(), inbox.as_ptr(), inbox.len()) }
 }
 
-pub fn ask(record: &[u8], inbox: &[u8]) -> u32 {
+pub fn ask(record: &[u8], inbox: &[u8]) -> u64 {
     // SAFETY: each pointer and length are those of a slice; nothing is written.
     unsafe { rail_ask(record.as_ptr(), record.len(), inbox.as_ptr(), inbox.len()) }
 }
 
-pub fn result(record: &[u8]) -> u32 {
+pub fn result(record: &[u8]) -> u64 {
     // SAFETY: pointer and length are those of a slice; nothing is written.
     unsafe { rail_result(record.as_ptr(), record.len()) }
 }
 
-pub fn read(bytes: &[u8], fields: &mut [u8]) -> u32 {
+pub fn read(bytes: &[u8], fields: &mut [u8]) -> u64 {
     // SAFETY: each pointer and length are those of a slice; only the fields, which are lent to be, are written.
     unsafe { rail_read(bytes.as_ptr(), bytes.len(), fields.as_mut_ptr(), fields.len()) }
 }
 
-pub fn entry(bytes: &[u8], i: usize) -> u32 {
+pub fn entry(bytes: &[u8], i: usize) -> u64 {
     // SAFETY: pointer and length are those of a slice; nothing is written.
     unsafe { rail_entry(bytes.as_ptr(), bytes.len(), i) }
 }

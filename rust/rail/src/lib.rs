@@ -10,7 +10,9 @@ pub const FIELDS: usize = 10;
 /// How many bytes an inbox has for each node. A buffer of so many is long enough for every message.
 pub const SLOT: usize = 202;
 /// What asking answers for 'any', which is no plan's number; 0 is 'none'.
-pub const ANY: u32 = 65_536;
+pub const ANY: u64 = 1 << 32;
+/// The value of an entry is this times its phase, plus its plan.
+pub const ENTRY_PHASE: u64 = 1 << 32;
 
 /// The number of a refusal: 01's 1 to 14, or one of the three below.
 #[derive(Clone, Copy, Debug, PartialEq, Eq)]
@@ -25,12 +27,12 @@ impl Refused {
     pub const NO_ENTRY: Refused = Refused(27);
 }
 
-/// A value below 2^24, or the refusal; where a call is refused, no lent byte is written.
-pub type Answer = Result<u32, Refused>;
+/// A value below 2^56, or the refusal; where a call is refused, no lent byte is written.
+pub type Answer = Result<u64, Refused>;
 
-/// An answer is a value, or 2^24 times the number of a refusal.
-fn answer(number: u32) -> Answer {
-    match (number >> 24) as u8 {
+/// An answer is a value, or 2^56 times the number of a refusal.
+fn answer(number: u64) -> Answer {
+    match (number >> 56) as u8 {
         0 => Ok(number),
         refused => Err(Refused(refused)),
     }
@@ -71,7 +73,7 @@ pub fn read(bytes: &[u8], fields: &mut [u8]) -> Answer {
     answer(calls::read(bytes, fields))
 }
 
-/// Entry i of the message at the front of a slice: 65,536 times its phase, and its plan.
+/// Entry i of the message at the front of a slice: `ENTRY_PHASE` times its phase, plus its plan.
 pub fn entry(bytes: &[u8], i: usize) -> Answer {
     answer(calls::entry(bytes, i))
 }

@@ -5,6 +5,7 @@ use Rattle.node.specs.Starting.{startOf}
 use Rattle.node.specs.Record.{blank}
 use Rattle.wire.specs.Outcome.{valueOr}
 use lib.ListN.{getD}
+use Rattle.crew.specs.Parts.{mostNodes}
 use Prim.Native.Nat.{_-_}
 use mathlib.Core.Path.{refl}
 use borrow.Author.Needs.{needs}
@@ -12,16 +13,17 @@ use Rattle.aisle.proofs.begin.Statement.{statement}
 use Rattle.aisle.proofs.begin.Tie as tie
 
 abbrev Inv-loop : tie.InvT-loop
-Inv-loop crew plans nodes₀ i₀ nodes i = Filled (λ j. valueOr blank (startOf crew j 1 (getD plans j 0))) 32 nodes i
+Inv-loop crew plans nodes₀ i₀ nodes i =
+    Filled (λ j. valueOr blank (startOf crew j 1 (getD plans j 0))) mostNodes nodes i
 
 abbrev μ-loop : tie.MeasureT-loop
-μ-loop crew plans nodes₀ i₀ nodes i = 32 - i
+μ-loop crew plans nodes₀ i₀ nodes i = mostNodes - i
 
 start-node-requires : tie.Need-start-node-requires Inv-loop μ-loop
 start-node-requires c κs = search needs
 
 loop-holds : tie.Need-loop-holds Inv-loop μ-loop
-loop-holds c = filled-none _ 32 _ refl
+loop-holds c = filled-none _ mostNodes _ refl
 
 mul-start-node : tie.Need-mul-start-node Inv-loop μ-loop
 mul-start-node c = search needs
@@ -46,7 +48,7 @@ loop-less c = search needs
 
 loop-again : tie.Need-loop-again Inv-loop μ-loop
 loop-again c =
-    filled-more _ 32 _ _ _ (c .before .loop-test .taken) (c .start-node2 .ensures) (c .before .before .loop .inv)
+    filled-more _ mostNodes _ _ _ (c .before .loop-test .taken) (c .start-node2 .ensures) (c .before .before .loop .inv)
 
 honest-of-requires : tie.Need-honest-of-requires Inv-loop μ-loop
 honest-of-requires c κs = search needs
@@ -59,7 +61,7 @@ unfolding begunOf
 returns c =
     let b3 = c .before .before .before in
     rw (
-      ← filled-all _ 32 _ _ (c .before .before .loop-test .left) (b3 .loop .inv),
+      ← filled-all _ mostNodes _ _ (c .before .before .loop-test .left) (b3 .loop .inv),
       ← c .before .honest-of .ensures,
       ←
           c .empty .ensures,

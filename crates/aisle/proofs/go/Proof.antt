@@ -1,8 +1,12 @@
 -- `go` meets its contract.
 use Rattle.aisle.specs.Round.{gone}
 use Rattle.aisle.proofs.Going.{ready-facts}
+use borrow.Author.Needs.{needs}
 use Rattle.aisle.proofs.go.Statement.{statement}
 use Rattle.aisle.proofs.go.Tie as tie
+
+cast-ready : tie.Need-cast-ready
+cast-ready c = search needs
 
 whole-round-requires : tie.Need-whole-round-requires
 whole-round-requires c κs = ready-facts (c .before .before .before .args .state) (c .if1 .taken)
@@ -16,4 +20,4 @@ unfolding gone
 returns-2 c = rw (c .if1 .left)
 
 pub go-spec : {M : Type 1} → statement M
-go-spec = tie.close (tie.spec whole-round-requires returns returns-2)
+go-spec = tie.close (tie.spec cast-ready whole-round-requires returns returns-2)

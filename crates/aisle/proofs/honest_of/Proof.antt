@@ -2,6 +2,7 @@
 use Rattle.aisle.proofs.Tables.{Filled, filled-none, filled-more, filled-all}
 use lib.Dec.{leb}
 use lib.ListN.{take, getD}
+use Rattle.crew.specs.Parts.{mostNodes}
 use Prim.Native.Nat.{_-_}
 use mathlib.Core.Path.{refl}
 use borrow.Author.Needs.{needs}
@@ -9,13 +10,13 @@ use Rattle.aisle.proofs.honest_of.Statement.{statement}
 use Rattle.aisle.proofs.honest_of.Tie as tie
 
 abbrev Inv-loop : tie.InvT-loop
-Inv-loop plans honest₀ i₀ honest i = Filled (λ j. leb 1 (getD plans j 0)) 32 honest i
+Inv-loop plans honest₀ i₀ honest i = Filled (λ j. leb 1 (getD plans j 0)) mostNodes honest i
 
 abbrev μ-loop : tie.MeasureT-loop
-μ-loop plans honest₀ i₀ honest i = 32 - i
+μ-loop plans honest₀ i₀ honest i = mostNodes - i
 
 loop-holds : tie.Need-loop-holds Inv-loop μ-loop
-loop-holds c = filled-none _ 32 _ refl
+loop-holds c = filled-none _ mostNodes _ refl
 
 mul-honest : tie.Need-mul-honest Inv-loop μ-loop
 mul-honest c = search needs
@@ -33,10 +34,10 @@ loop-less : tie.Need-loop-less Inv-loop μ-loop
 loop-less c = search needs
 
 loop-again : tie.Need-loop-again Inv-loop μ-loop
-loop-again c = filled-more _ 32 _ _ _ (c .loop-test .taken) refl (c .before .loop .inv)
+loop-again c = filled-more _ mostNodes _ _ _ (c .loop-test .taken) refl (c .before .loop .inv)
 
 returns : tie.Need-returns Inv-loop μ-loop
-returns c = filled-all _ 32 _ _ (c .loop-test .left) (c .before .loop .inv)
+returns c = filled-all _ mostNodes _ _ (c .loop-test .left) (c .before .loop .inv)
 
 pub honest-of-spec : {M : Type 1} → statement M
 honest-of-spec =

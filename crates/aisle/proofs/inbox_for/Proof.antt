@@ -1,6 +1,7 @@
 -- `inbox_for` meets its contract. The invariant: the slots of the first senders hold what reaches the receiver.
 use mathlib.Core.Path.{refl, _≡_}
 use native.Mathlib.Omega.{arith}
+use Rattle.aisle.specs.Round.{inboxSize}
 use Rattle.aisle.proofs.Slots.{Laid, laid-none, laid-more, laid-long, laid-all}
 use lib.ListN.{length}
 use Prim.Native.Nat.{_≤_, _-_}
@@ -10,7 +11,7 @@ use Rattle.aisle.proofs.inbox_for.Tie as tie
 
 abbrev Inv-loop : tie.InvT-loop
 Inv-loop state receiver inbox₀ n sender₀ inbox sender =
-    (sender ≤ n) × (length inbox ≡ 6464) × Laid state receiver inbox sender
+    (sender ≤ n) × (length inbox ≡ inboxSize) × Laid state receiver inbox sender
 
 abbrev μ-loop : tie.MeasureT-loop
 μ-loop state receiver inbox₀ n sender₀ inbox sender = n - sender

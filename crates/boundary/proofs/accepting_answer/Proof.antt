@@ -7,8 +7,6 @@ use Rattle.crew.specs.Acceptance.{answered}
 use Rattle.boundary.proofs.accepting_answer.Statement.{statement}
 use Rattle.boundary.proofs.accepting_answer.Tie as tie
 
--- `accepting_answer` meets its contract.
-
 enum-told : tie.Need-enum-told
 enum-told c = search needs
 

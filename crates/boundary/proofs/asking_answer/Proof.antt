@@ -7,8 +7,6 @@ use Rattle.rounds.specs.Asking.{answered}
 use Rattle.boundary.proofs.asking_answer.Statement.{statement}
 use Rattle.boundary.proofs.asking_answer.Tie as tie
 
--- `asking_answer` meets its contract.
-
 enum-known-answer : tie.Need-enum-known-answer
 enum-known-answer c = search needs
 

@@ -7,8 +7,6 @@ use Rattle.boundary.specs.Answers.{entryNumber}
 use Rattle.boundary.proofs.entry_in.Statement.{statement}
 use Rattle.boundary.proofs.entry_in.Tie as tie
 
--- `entry_in` meets its contract.
-
 entry-at-requires : tie.Need-entry-at-requires
 entry-at-requires c κs = search needs
 

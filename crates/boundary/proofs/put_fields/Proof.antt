@@ -1,86 +1,80 @@
 -- `put_fields` meets its contract.
+use mathlib.Core.Path.{_≡_, _∙_}
 use native.Mathlib.Omega.{arith}
-use lib.ListN.{length-set}
-use borrow.Author.Needs.{needs}
+use lib.ListN.{length, set, length-set}
 use denote.Ref.{now}
+use Rattle.wire.proofs.Stores.{laid-room}
+use Rattle.boundary.specs.Answers.{kindField, phaseField, fieldsSize}
 use Rattle.boundary.proofs.Verdicts.{fields-laid}
+use borrow.Author.Needs.{needs}
 use Rattle.boundary.proofs.put_fields.Statement.{statement}
 use Rattle.boundary.proofs.put_fields.Tie as tie
+use Rattle.boundary.proofs.put_fields.Reads as reads
+use Rattle.boundary.proofs.put_fields.Lts as lts
+use Rattle.wire.proofs.put_plan.Reads as put-plan-reads
+use Rattle.wire.proofs.put_u32.Reads as put-u32-reads
+
+-- no store changes the length: not those of the kind, of the run and the phase, and of the plan
+lengths : (c : lts.After-slice-known3
+    (put-u32-reads.Asked, put-u32-reads.Learnt, put-plan-reads.Asked, put-plan-reads.Learnt) reads.Pre reads.Post)
+    → let start = c .before .before .before .before .before .before .before .before .before in
+    let run = c .before .before .before .before .before .before .put-u32 in
+    (length (set (now (start .args .fields)) kindField (start .args .kind)) ≡ fieldsSize)
+    × (length (set (run .last .0) phaseField (start .args .phase)) ≡ fieldsSize)
+    × (length (c .before .before .put-plan .last .0) ≡ fieldsSize)
+lengths c =
+    let start = c .before .before .before .before .before .before .before .before .before in
+    let a = start .args in
+    let run = c .before .before .before .before .before .before .put-u32 in
+    let first : length (set (now (a .fields)) kindField (a .kind)) ≡ fieldsSize =
+    length-set (now (a .fields)) kindField (a .kind) ∙ start .pre in
+    let second : length (set (run .last .0) phaseField (a .phase)) ≡ fieldsSize =
+    length-set (run .last .0) phaseField (a .phase) ∙ run .kept .0 ∙ first in
+    (first, second, c .before .before .put-plan .kept .0 ∙ second)
 
 slice-write-fields : tie.Need-slice-write-fields
 slice-write-fields c = search needs
 
-cast-fields : tie.Need-cast-fields
-cast-fields c = search needs
+put-u32-requires : tie.Need-put-u32-requires
+put-u32-requires c κs = search needs
 
 slice-write-fields-2 : tie.Need-slice-write-fields-2
 slice-write-fields-2 c = search needs
 
-cast-fields-2 : tie.Need-cast-fields-2
-cast-fields-2 c = search needs
+put-plan-requires : tie.Need-put-plan-requires
+put-plan-requires c κs = search needs
 
 slice-write-fields-3 : tie.Need-slice-write-fields-3
-slice-write-fields-3 c = search needs
-
-cast-fields-3 : tie.Need-cast-fields-3
-cast-fields-3 c = search needs
+slice-write-fields-3 c = omega (arith, lengths c)
 
 slice-write-fields-4 : tie.Need-slice-write-fields-4
-slice-write-fields-4 c = search needs
-
-cast-fields-4 : tie.Need-cast-fields-4
-cast-fields-4 c = search needs
-
-slice-write-fields-5 : tie.Need-slice-write-fields-5
-slice-write-fields-5 c = simp length-set (omega arith)
-
-slice-write-fields-6 : tie.Need-slice-write-fields-6
-slice-write-fields-6 c = simp length-set (omega arith)
-
-cast-fields-5 : tie.Need-cast-fields-5
-cast-fields-5 c = search needs
-
-slice-write-fields-7 : tie.Need-slice-write-fields-7
-slice-write-fields-7 c = simp length-set (omega arith)
-
-cast-fields-6 : tie.Need-cast-fields-6
-cast-fields-6 c = search needs
-
-slice-write-fields-8 : tie.Need-slice-write-fields-8
-slice-write-fields-8 c = simp length-set (omega arith)
-
-slice-write-fields-9 : tie.Need-slice-write-fields-9
-slice-write-fields-9 c = simp length-set (omega arith)
-
-slice-write-fields-10 : tie.Need-slice-write-fields-10
-slice-write-fields-10 c = simp length-set (omega arith)
+slice-write-fields-4 c = simp length-set (omega (arith, lengths c))
 
 same-length : tie.Need-same-length
-same-length c = simp length-set (omega arith)
+same-length c =
+    let start = c .before .before .before .before .before .before .before .before .before in
+    simp length-set (omega (arith, lengths c, start .pre))
 
 returns : tie.Need-returns
-returns c = fields-laid (now (c .args .fields)) (c .args .kind) (c .args .run) (c .args .phase) (c .args .plan)
-    (c .args .stamp) (c .args .count) (c .pre)
+returns c =
+    let start = c .before .before .before .before .before .before .before .before .before in
+    let a = start .args in
+    let run = c .before .before .before .before .before .before .put-u32 in
+    simp (
+      laid-room _ _ _ (c .before .before .put-plan .ensures) (omega (arith, lengths c)),
+      laid-room _ _ _ (run .ensures) (omega (arith, lengths c)),
+    )
+    (fields-laid (now (a .fields)) (a .kind) (a .run) (a .phase) (a .plan) (a .stamp) (a .count) (start .pre))
 
 pub put-fields-spec : {M : Type 1} → statement M
 put-fields-spec =
     tie.close
     (tie.spec
     slice-write-fields
-    cast-fields
+    put-u32-requires
     slice-write-fields-2
-    cast-fields-2
+    put-plan-requires
     slice-write-fields-3
-    cast-fields-3
     slice-write-fields-4
-    cast-fields-4
-    slice-write-fields-5
-    slice-write-fields-6
-    cast-fields-5
-    slice-write-fields-7
-    cast-fields-6
-    slice-write-fields-8
-    slice-write-fields-9
-    slice-write-fields-10
     same-length
     returns)

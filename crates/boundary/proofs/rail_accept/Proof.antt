@@ -1,11 +1,13 @@
 -- `rail_accept` meets its contract.
 use mathlib.Core.Path.{ap, _∙_, subst}
 use borrow.Author.Needs.{needs}
+use Rattle.crew.specs.Acceptance.{acceptOf}
 use Rattle.boundary.specs.Answers.{answerOf, Apart, done}
 use Rattle.boundary.proofs.rail_accept.Statement.{statement}
 use Rattle.boundary.proofs.rail_accept.Tie as tie
 
--- `rail_accept` meets its contract.
+crew-of-requires : tie.Need-crew-of-requires
+crew-of-requires c κs = search needs
 
 accept-requires : tie.Need-accept-requires
 accept-requires c κs = search needs
@@ -14,10 +16,10 @@ accepting-answer-requires : tie.Need-accepting-answer-requires
 accepting-answer-requires c κs = search needs
 
 returns : tie.Need-returns
-returns c = (
-  c .accepting-answer .ensures .0 ∙ ap (answerOf done) (c .before .accept .ensures),
-  subst (Apart done) (c .before .accept .ensures) (c .accepting-answer .ensures .1),
+returns c = let same = c .before .accept .ensures ∙ ap acceptOf (c .before .before .crew-of .ensures) in (
+  c .accepting-answer .ensures .0 ∙ ap (answerOf done) same,
+  subst (Apart done) same (c .accepting-answer .ensures .1),
 )
 
 pub rail-accept-spec : {M : Type 1} → statement M
-rail-accept-spec = tie.close (tie.spec accept-requires accepting-answer-requires returns)
+rail-accept-spec = tie.close (tie.spec crew-of-requires accept-requires accepting-answer-requires returns)

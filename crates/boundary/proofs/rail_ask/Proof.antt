@@ -8,8 +8,6 @@ use Rattle.rounds.specs.Asking.{answered}
 use Rattle.boundary.proofs.rail_ask.Statement.{statement}
 use Rattle.boundary.proofs.rail_ask.Tie as tie
 
--- `rail_ask` meets its contract.
-
 load-requires : tie.Need-load-requires
 load-requires c κs = search needs
 

@@ -1,15 +1,12 @@
 -- `rail_read` meets its contract.
 use mathlib.Core.Path.{sym, _∙_, ap}
 use native.Mathlib.Omega.{arith}
-use borrow.Author.Needs.{needs}
 use borrow.Author.Tests.{eq-eqb, ne-eqb}
 use denote.Ref.{now}
-use Rattle.message.proofs.EntryLaws.{entries-count}
 use Rattle.message.specs.Reading.{answered}
+use borrow.Author.Needs.{needs}
 use Rattle.boundary.proofs.rail_read.Statement.{statement}
 use Rattle.boundary.proofs.rail_read.Tie as tie
-
--- `rail_read` meets its contract.
 
 read-requires : tie.Need-read-requires
 read-requires c κs = search needs
@@ -17,8 +14,8 @@ read-requires c κs = search needs
 enum-known-reading : tie.Need-enum-known-reading
 enum-known-reading c = search needs
 
-put-fields-requires : tie.Need-put-fields-requires
-put-fields-requires c κs = search needs
+put-message-requires : tie.Need-put-message-requires
+put-message-requires c κs = search needs
 
 same-length : tie.Need-same-length
 same-length c = search needs
@@ -33,68 +30,11 @@ returns c =
     let fits = eq-eqb _ _ (b8 .if1 .taken) in (
       rw (fits, as-read),
       rw (fits, as-read) (omega arith),
-      rw (
-        c .before .before .put-fields .ensures,
-        fits,
-        as-read,
-        entries-count,
-      ),
+      rw (fits, as-read) (c .before .before .put-message .ensures s),
     )
 
 enum-known-reading-2 : tie.Need-enum-known-reading-2
 enum-known-reading-2 c = search needs
-
-put-fields-requires-2 : tie.Need-put-fields-requires-2
-put-fields-requires-2 c κs = search needs
-
-same-length-2 : tie.Need-same-length-2
-same-length-2 c = search needs
-
-returns-2 : tie.Need-returns-2
-returns-2 c =
-    let b4 = c .before .before .before .before in
-    let b8 = b4 .before .before .before .before in
-    let s = now (b8 .before .before .before .args .bytes) in
-    let as-read = sym (b4 .before .before .before .read .ensures) ∙ ap (λ r. answered r s)
-    (b4 .before .reading2 .given .1) in
-    let fits = eq-eqb _ _ (b8 .if1 .taken) in (
-      rw (fits, as-read),
-      rw (fits, as-read) (omega arith),
-      rw (
-        c .before .before .put-fields2 .ensures,
-        fits,
-        as-read,
-      ),
-    )
-
-enum-known-reading-3 : tie.Need-enum-known-reading-3
-enum-known-reading-3 c = search needs
-
-put-fields-requires-3 : tie.Need-put-fields-requires-3
-put-fields-requires-3 c κs = search needs
-
-same-length-3 : tie.Need-same-length-3
-same-length-3 c = search needs
-
-returns-3 : tie.Need-returns-3
-returns-3 c =
-    let b4 = c .before .before .before .before in
-    let b8 = b4 .before .before .before .before in
-    let s = now (b8 .before .before .before .args .bytes) in
-    let as-read = sym (b4 .before .before .before .read .ensures) ∙ ap (λ r. answered r s)
-    (b4 .before .reading3 .given .1) in
-    let fits = eq-eqb _ _ (b8 .if1 .taken) in (
-      rw (fits, as-read),
-      rw (fits, as-read) (omega arith),
-      rw (
-        c .before .before .put-fields3 .ensures,
-        fits,
-        as-read,
-      ),
-    )
-
-enum-known-reading-4 : tie.Need-enum-known-reading-4
-enum-known-reading-4 c = search needs
 
 read-number-requires : tie.Need-read-number-requires
 read-number-requires c κs = search needs
@@ -102,13 +42,13 @@ read-number-requires c κs = search needs
 refusal-requires : tie.Need-refusal-requires
 refusal-requires c κs = search needs
 
-returns-4 : tie.Need-returns-4
-returns-4 c =
+returns-2 : tie.Need-returns-2
+returns-2 c =
     let b4 = c .before .before .before .before in
     let b8 = b4 .before .before .before .before in
     let s = now (b8 .before .args .bytes) in
     let as-read = sym (b4 .before .read .ensures) ∙ ap (λ r. answered r s)
-    (c .before .before .before .reading4 .given .1) in
+    (c .before .before .before .reading2 .given .1) in
     let fits = eq-eqb _ _ (b4 .before .before .if1 .taken) in
     let number = c .before .read-number .ensures in (
       rw (c .refusal .ensures, number .0, fits, as-read),
@@ -119,8 +59,9 @@ returns-4 c =
 refusal-requires-2 : tie.Need-refusal-requires-2
 refusal-requires-2 c κs = search needs
 
-returns-5 : tie.Need-returns-5
-returns-5 c = let fits = ne-eqb _ _ (c .before .if1 .left) in
+returns-3 : tie.Need-returns-3
+returns-3 c =
+    let fits = ne-eqb _ _ (c .before .if1 .left) in
     (rw (c .refusal2 .ensures, fits), rw fits (omega arith, omega arith), rw fits)
 
 pub rail-read-spec : {M : Type 1} → statement M
@@ -129,20 +70,12 @@ rail-read-spec =
     (tie.spec
     read-requires
     enum-known-reading
-    put-fields-requires
+    put-message-requires
     same-length
     returns
     enum-known-reading-2
-    put-fields-requires-2
-    same-length-2
-    returns-2
-    enum-known-reading-3
-    put-fields-requires-3
-    same-length-3
-    returns-3
-    enum-known-reading-4
     read-number-requires
     refusal-requires
-    returns-4
+    returns-2
     refusal-requires-2
-    returns-5)
+    returns-3)

@@ -6,8 +6,6 @@ use Rattle.node.specs.Soundness.{sound}
 use Rattle.boundary.proofs.rail_result.Statement.{statement}
 use Rattle.boundary.proofs.rail_result.Tie as tie
 
--- `rail_result` meets its contract.
-
 load-requires : tie.Need-load-requires
 load-requires c κs = search needs
 

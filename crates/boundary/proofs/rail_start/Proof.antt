@@ -1,19 +1,20 @@
 -- `rail_start` meets its contract.
-use mathlib.Core.Path.{sym, _∙_, ap}
+use mathlib.Core.Path.{_≡_, sym, _∙_, ap}
 use native.Mathlib.Omega.{arith}
 use borrow.Author.Needs.{needs}
 use denote.Ref.{now}
 use Rattle.boundary.proofs.Verdicts.{when-accepted, when-refused}
-use Rattle.boundary.specs.Answers.{crewOf}
+use Rattle.crew.specs.Parts.{crewOf}
 use Rattle.node.specs.Record.{blank}
 use Rattle.node.specs.Starting.{startOf, answered}
 use Rattle.boundary.proofs.rail_start.Statement.{statement}
 use Rattle.boundary.proofs.rail_start.Tie as tie
 
--- `rail_start` meets its contract.
-
 fits-requires : tie.Need-fits-requires
 fits-requires c κs = search needs
+
+crew-of-requires : tie.Need-crew-of-requires
+crew-of-requires c κs = search needs
 
 start-requires : tie.Need-start-requires
 start-requires c κs = search needs
@@ -31,14 +32,15 @@ returns : tie.Need-returns
 returns c =
     let b4 = c .before .before .before .before in
     let b8 = b4 .before .before .before .before in
-    let a = b8 .before .before .before .args in
-    let fits = sym (b8 .fits2 .ensures) ∙ b4 .before .before .before .if1 .taken in
+    let a = b8 .before .before .before .before .args in
+    let fits = sym (b8 .before .fits2 .ensures) ∙ b8 .if1 .taken in
     let told = sym (ap answered (b4 .enum-told .given .1)) ∙ b4 .before .before .start .ensures .0 in
-    let crew = crewOf (a .class) (a .n) (a .b) (a .f) (a .d) in
+    let crew = b4 .before .before .before .crew-of .result in
+    let is : crew ≡ crewOf (a .class) (a .n) (a .b) (a .f) (a .d) = b4 .before .before .before .crew-of .ensures in
     let w = when-accepted (now (a .image)) blank (startOf crew (a .own) (a .run) (a .plan)) told in (
-      rw fits (w .0),
-      rw fits (w .1),
-      rw (c .before .before .store .ensures .1, fits, b4 .before .before .start .ensures .1) (w .2),
+      rw (fits, ← is) (w .0),
+      rw (fits, ← is) (w .1),
+      rw (c .before .before .store .ensures .1, fits, b4 .before .before .start .ensures .1, ← is) (w .2),
     )
 
 enum-known-answer : tie.Need-enum-known-answer
@@ -57,16 +59,17 @@ returns-2 : tie.Need-returns-2
 returns-2 c =
     let b4 = c .before .before .before .before in
     let b8 = b4 .before .before .before .before in
-    let a = b8 .before .before .args in
-    let fits = sym (b4 .before .before .before .fits2 .ensures) ∙ b4 .before .before .if1 .taken in
+    let a = b8 .before .before .before .args in
+    let fits = sym (b8 .fits2 .ensures) ∙ b4 .before .before .before .if1 .taken in
     let number = c .before .start-number .ensures in
     let told = sym (ap answered (c .before .before .before .answer .given .1)) ∙ b4 .before .start .ensures .0 in
-    let crew = crewOf (a .class) (a .n) (a .b) (a .f) (a .d) in
+    let crew = b4 .before .before .crew-of .result in
+    let is : crew ≡ crewOf (a .class) (a .n) (a .b) (a .f) (a .d) = b4 .before .before .crew-of .ensures in
     let w = when-refused (now (a .image)) blank (startOf crew (a .own) (a .run) (a .plan)) _ told
     (omega (arith, number .0, number .1), omega (arith, number .0, number .2)) in (
-      rw (c .refusal .ensures, number .0, fits) (w .0),
-      rw fits (w .1),
-      rw fits (w .2),
+      rw (c .refusal .ensures, number .0, fits, ← is) (w .0),
+      rw (fits, ← is) (w .1),
+      rw (fits, ← is) (w .2),
     )
 
 refusal-requires-2 : tie.Need-refusal-requires-2
@@ -84,6 +87,7 @@ rail-start-spec =
     tie.close
     (tie.spec
     fits-requires
+    crew-of-requires
     start-requires
     enum-told
     store-requires

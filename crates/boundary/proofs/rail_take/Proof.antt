@@ -8,8 +8,6 @@ use Rattle.rounds.specs.Taking.{takeOf, answered}
 use Rattle.boundary.proofs.rail_take.Statement.{statement}
 use Rattle.boundary.proofs.rail_take.Tie as tie
 
--- `rail_take` meets its contract.
-
 load-requires : tie.Need-load-requires
 load-requires c κs = search needs
 

@@ -9,8 +9,6 @@ use Rattle.node.specs.Sending.{answered}
 use Rattle.boundary.proofs.rail_write.Statement.{statement}
 use Rattle.boundary.proofs.rail_write.Tie as tie
 
--- `rail_write` meets its contract.
-
 load-requires : tie.Need-load-requires
 load-requires c κs = search needs
 

@@ -8,17 +8,8 @@ use Rattle.wire.specs.Outcome.{valueOr}
 use Rattle.boundary.proofs.sending_answer.Statement.{statement}
 use Rattle.boundary.proofs.sending_answer.Tie as tie
 
--- `sending_answer` meets its contract.
-
 enum-known-answer : tie.Need-enum-known-answer
 enum-known-answer c = search needs
-
-cast-result : tie.Need-cast-result
-cast-result c = let same = ap (λ a. valueOr 0 (answered a)) (c .before .answer .given .1) in omega (
-  arith,
-  same,
-  c .before .before .before .pre,
-)
 
 enum-known-answer-2 : tie.Need-enum-known-answer-2
 enum-known-answer-2 c = search needs
@@ -52,7 +43,6 @@ sending-answer-spec =
     tie.close
     (tie.spec
     enum-known-answer
-    cast-result
     enum-known-answer-2
     send-number-requires
     refusal-requires

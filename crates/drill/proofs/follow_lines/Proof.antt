@@ -4,8 +4,9 @@ use Rattle.drill.proofs.Following.{follow-end, follow-unended, follow-b
 use Rattle.drill.proofs.Stepping.{still-small}
 use Rattle.drill.specs.Run.{follow}
 use Rattle.print.proofs.Writing.{wrote-all}
-use Rattle.print.specs.Texts.{Wrote}
-use Rattle.script.specs.Lines.{split}
+use Rattle.print.specs.Texts.{Wrote, resultMost}
+use Rattle.crew.specs.Parts.{mostNodes}
+use Rattle.script.specs.Lines.{newline, split}
 use lib.Seq.{sets}
 use lib.ListN.{length, drop}
 use native.Mathlib.Omega.{arith}
@@ -17,14 +18,14 @@ use Rattle.drill.proofs.follow_lines.Tie as tie
 
 abbrev Inv-loop : tie.InvT-loop
 Inv-loop input from out₀ state₀ at₀ line₀ written₀ out state at line written =
-    (state .crew .n ≤ 32)
+    (state .crew .n ≤ mostNodes)
     × (at ≤ length input)
     × (line ≤ at + 3)
-    × (written ≤ 204 * line)
+    × (written ≤ resultMost * line)
     × (length out ≡ length out₀)
-    × Wrote out written (follow state line (split 10 (drop at input)))
-    (sets out₀ 0 (follow state₀ 3 (split 10 (drop from input))))
-    (0 + length (follow state₀ 3 (split 10 (drop from input))))
+    × Wrote out written (follow state line (split newline (drop at input)))
+    (sets out₀ 0 (follow state₀ 3 (split newline (drop from input))))
+    (0 + length (follow state₀ 3 (split newline (drop from input))))
 
 abbrev μ-loop : tie.MeasureT-loop
 μ-loop input from out₀ state₀ at₀ line₀ written₀ out state at line written = length input - at

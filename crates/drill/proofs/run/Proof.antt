@@ -1,5 +1,4 @@
 -- `run` meets its contract.
-use Rattle.crew.specs.declared.Crew.{Crew}
 use Rattle.drill.proofs.Following.{wrote-as, run-long, run-unended, run-good, run-refused, run-none}
 use Rattle.drill.proofs.Stepping.{crew-small}
 use lib.Seq.{length-take-le}
@@ -47,8 +46,8 @@ slice-aggregate-crew-line c =
 crew-line-requires : tie.Need-crew-line-requires
 crew-line-requires c κs = search needs
 
-enum-known-class : tie.Need-enum-known-class
-enum-known-class c = search needs
+enum-known-crew : tie.Need-enum-known-crew
+enum-known-crew c = search needs
 
 is-accepted-requires : tie.Need-is-accepted-requires
 is-accepted-requires c κs = search needs
@@ -74,7 +73,7 @@ returns-3 c =
     let b13 = b12 .before in
     wrote-as _
     (run-good _ _ (b13 .if1 .left) (b12 .find .ensures) (b11 .if2 .left) _ (b9 .crew-line .ensures) _
-    (b7 .class .given .1) _ (b5 .is-accepted .ensures) (b4 .if3 .taken))
+    (b7 .crew .given .1) _ (b5 .is-accepted .ensures) (b4 .if3 .taken))
     (c .before .before .follow-crew .ensures)
 
 put-bad-requires-2 : tie.Need-put-bad-requires-2
@@ -98,11 +97,9 @@ returns-4 c =
     let ended = read .before .before in
     let found = ended .before in
     let short = found .before in
-    let v = told .class .given .0 in
-    let crew : Crew = record { class = v .0; n = v .1 .0; b = v .1 .1 .0; f = v .1 .1 .1 .0; d = v .1 .1 .1 .1 .0 } in
     wrote-as _
     (run-refused _ _ (short .if1 .left) (found .find .ensures) (ended .if2 .left)
-    _ (read .crew-line .ensures) crew (told .class .given .1)
+    _ (read .crew-line .ensures) _ (told .crew .given .1)
     _ (asked .is-accepted .ensures) (refused .if3 .left))
     (c .before .before .put-bad2 .ensures)
 
@@ -134,7 +131,7 @@ run-spec =
     returns-2
     slice-aggregate-crew-line
     crew-line-requires
-    enum-known-class
+    enum-known-crew
     is-accepted-requires
     add-follow-crew
     follow-crew-requires

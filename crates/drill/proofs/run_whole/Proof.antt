@@ -5,6 +5,7 @@ use native.Mathlib.Omega.{arith}
 use lib.ListN.{replicate}
 use borrow.Author.Needs.{needs}
 use denote.Ref.{now}
+use Rattle.drill.specs.Run.{mostPrinted}
 use Rattle.drill.proofs.Bound.{output-whole}
 use Rattle.drill.proofs.run_whole.Statement.{statement}
 use Rattle.drill.proofs.run_whole.Tie as tie
@@ -18,7 +19,7 @@ run-requires c κs = search needs
 returns : tie.Need-returns
 returns c =
     let b4 = c .before .before .before .before in (
-      c .before .run .ensures .left ∙ output-whole (now (b4 .args .input)) (replicate 38566 0) (omega arith),
+      c .before .run .ensures .left ∙ output-whole (now (b4 .args .input)) (replicate mostPrinted 0) (omega arith),
       c .before .run .ensures .next ∙ zero-add _,
     )
 

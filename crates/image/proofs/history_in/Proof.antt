@@ -6,30 +6,32 @@ use native.Mathlib.Omega.{arith}
 use lib.Seq.{sets}
 use borrow.Author.Needs.{needs}
 use denote.Ref.{now}
+use Rattle.wire.specs.Sizes.{planSize, historySize}
 use Rattle.image.proofs.Stores.{read-start, read-turn, read-end}
-use Rattle.image.specs.Layout.{plansIn}
+use Rattle.image.specs.Layout.{historyPlace, plansIn}
 use Rattle.image.proofs.history_in.Statement.{statement}
 use Rattle.image.proofs.history_in.Tie as tie
 
 abbrev Inv-loop : tie.InvT-loop
 Inv-loop s history₀ phase₀ history phase =
-    (phase ≤ 64)
-    × (sets history phase (plansIn s (21 + 2 * phase) (64 - phase)) ≡ plansIn s 21 64)
+    (phase ≤ historySize)
+    × (sets history phase (plansIn s (historyPlace + planSize * phase) (historySize - phase))
+    ≡ plansIn s historyPlace historySize)
 
 abbrev μ-loop : tie.MeasureT-loop
-μ-loop s history₀ phase₀ history phase = 64 - phase
+μ-loop s history₀ phase₀ history phase = historySize - phase
 
 loop-holds : tie.Need-loop-holds Inv-loop μ-loop
 loop-holds c = (omega arith, read-start (now (c .before .args .s)))
 
-mul-u16-at : tie.Need-mul-u16-at Inv-loop μ-loop
-mul-u16-at c = search needs
+mul-plan-at : tie.Need-mul-plan-at Inv-loop μ-loop
+mul-plan-at c = search needs
 
-add-u16-at : tie.Need-add-u16-at Inv-loop μ-loop
-add-u16-at c = search needs
+add-plan-at : tie.Need-add-plan-at Inv-loop μ-loop
+add-plan-at c = search needs
 
-u16-at-requires : tie.Need-u16-at-requires Inv-loop μ-loop
-u16-at-requires c κs = search needs
+plan-at-requires : tie.Need-plan-at-requires Inv-loop μ-loop
+plan-at-requires c κs = search needs
 
 mul-history : tie.Need-mul-history Inv-loop μ-loop
 mul-history c = search needs
@@ -49,7 +51,7 @@ loop-again c =
       omega arith,
       read-turn (now (b4 .args .s)) (c .before .before .loop .history) _ (c .before .before .loop .phase) _
           (c .before .loop-test .taken)
-          (c .u16-at .ensures) (c .before .before .loop .inv .1),
+          (c .plan-at .ensures) (c .before .before .loop .inv .1),
     )
 
 returns : tie.Need-returns Inv-loop μ-loop
@@ -63,9 +65,9 @@ history-in-spec =
     Inv-loop
     μ-loop
     loop-holds
-    mul-u16-at
-    add-u16-at
-    u16-at-requires
+    mul-plan-at
+    add-plan-at
+    plan-at-requires
     mul-history
     array-write-history
     add-phase

@@ -6,37 +6,40 @@ use native.Mathlib.Omega.{arith}
 use lib.ListN.{length, drop}
 use lib.Seq.{sets}
 use borrow.Author.Needs.{needs}
+use Rattle.wire.proofs.Stores.{laid-room}
+use Rattle.wire.specs.Sizes.{planSize, historySize}
 use Rattle.image.proofs.Stores.{lay-turn, lay-end}
-use Rattle.image.specs.Layout.{historyBytes}
+use Rattle.image.specs.Layout.{historyPlace, historyBytes}
 use Rattle.image.proofs.put_history.Statement.{statement}
 use Rattle.image.proofs.put_history.Tie as tie
 
 abbrev Inv-loop : tie.InvT-loop
 Inv-loop image₀ history phase₀ image phase =
-    (phase ≤ 64)
+    (phase ≤ historySize)
     × (length image ≡ length image₀)
-    × (sets image (21 + 2 * phase) (historyBytes (drop phase history)) ≡ sets image₀ 21 (historyBytes history))
+    × (sets image (historyPlace + planSize * phase) (historyBytes (drop phase history))
+    ≡ sets image₀ historyPlace (historyBytes history))
 
 abbrev μ-loop : tie.MeasureT-loop
-μ-loop image₀ history phase₀ image phase = 64 - phase
+μ-loop image₀ history phase₀ image phase = historySize - phase
 
 loop-holds : tie.Need-loop-holds Inv-loop μ-loop
 loop-holds c = search needs
 
-mul-put16 : tie.Need-mul-put16 Inv-loop μ-loop
-mul-put16 c = search needs
+mul-put-plan : tie.Need-mul-put-plan Inv-loop μ-loop
+mul-put-plan c = search needs
 
-add-put16 : tie.Need-add-put16 Inv-loop μ-loop
-add-put16 c = search needs
+add-put-plan : tie.Need-add-put-plan Inv-loop μ-loop
+add-put-plan c = search needs
 
-mul-put16-2 : tie.Need-mul-put16-2 Inv-loop μ-loop
-mul-put16-2 c = search needs
+mul-put-plan-2 : tie.Need-mul-put-plan-2 Inv-loop μ-loop
+mul-put-plan-2 c = search needs
 
-array-read-put16 : tie.Need-array-read-put16 Inv-loop μ-loop
-array-read-put16 c = search needs
+array-read-put-plan : tie.Need-array-read-put-plan Inv-loop μ-loop
+array-read-put-plan c = search needs
 
-put16-requires : tie.Need-put16-requires Inv-loop μ-loop
-put16-requires c κs = search needs
+put-plan-requires : tie.Need-put-plan-requires Inv-loop μ-loop
+put-plan-requires c κs = search needs
 
 add-phase : tie.Need-add-phase Inv-loop μ-loop
 add-phase c = search needs
@@ -48,9 +51,10 @@ loop-again : tie.Need-loop-again Inv-loop μ-loop
 loop-again c =
     let b4 = c .before .before .before .before in (
       omega arith,
-      c .before .before .put16 .kept .0 ∙ b4 .before .loop .inv .1,
+      c .before .before .put-plan .kept .0 ∙ b4 .before .loop .inv .1,
       lay-turn (b4 .before .before .before .args .t2) (b4 .before .loop .image) _ _ (b4 .before .loop .phase)
-          (omega arith) (c .before .before .put16 .ensures) (b4 .before .loop .inv .2),
+          (omega arith) (laid-room _ _ _ (c .before .before .put-plan .ensures) (omega arith))
+          (b4 .before .loop .inv .2),
     )
 
 same-length : tie.Need-same-length Inv-loop μ-loop
@@ -70,11 +74,11 @@ put-history-spec =
     Inv-loop
     μ-loop
     loop-holds
-    mul-put16
-    add-put16
-    mul-put16-2
-    array-read-put16
-    put16-requires
+    mul-put-plan
+    add-put-plan
+    mul-put-plan-2
+    array-read-put-plan
+    put-plan-requires
     add-phase
     loop-less
     loop-again

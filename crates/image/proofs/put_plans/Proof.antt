@@ -2,40 +2,25 @@
 use native.Mathlib.Omega.{arith}
 use lib.ListN.{length-set}
 use borrow.Author.Needs.{needs}
+use Rattle.wire.proofs.Stores.{laid-room}
+use Rattle.image.specs.Layout.{stampPlace}
 use Rattle.image.proofs.put_plans.Statement.{statement}
 use Rattle.image.proofs.put_plans.Tie as tie
 
-put16-requires : tie.Need-put16-requires
-put16-requires c κs = search needs
+put-plan-requires : tie.Need-put-plan-requires
+put-plan-requires c κs = search needs
 
-put16-requires-2 : tie.Need-put16-requires-2
-put16-requires-2 c κs = search needs
+put-plan-requires-2 : tie.Need-put-plan-requires-2
+put-plan-requires-2 c κs = search needs
 
 slice-write-image : tie.Need-slice-write-image
 slice-write-image c = search needs
 
-put16-requires-3 : tie.Need-put16-requires-3
-put16-requires-3 c κs =
-    let b4 = c .before .before .before .before in
-    simp length-set (omega (
-      arith,
-      c .before .before .before .put162 .kept .0,
-      b4 .before .before .before .put16 .kept .0,
-    ))
+put-plan-requires-3 : tie.Need-put-plan-requires-3
+put-plan-requires-3 c κs = search needs
 
-put16-requires-4 : tie.Need-put16-requires-4
-put16-requires-4 c κs =
-    let b4 = c .before .before .before .before in
-    let b8 = b4 .before .before .before .before in
-    let b12 = b8 .before .before .before .before in
-    omega (
-      arith,
-      c .before .before .before .put163 .kept .0,
-      b4 .before .before .before .put162 .kept .0,
-      b8 .before .before .before .put16 .kept .0,
-      length-set (b4 .before .before .before .put162 .last .0) 16
-          (b12 .before .before .args .node .stamp),
-    )
+put-plan-requires-4 : tie.Need-put-plan-requires-4
+put-plan-requires-4 c κs = search needs
 
 same-length : tie.Need-same-length
 same-length c =
@@ -45,12 +30,12 @@ same-length c =
     let b16 = b12 .before .before .before .before in
     omega (
       arith,
-      c .before .before .put164 .kept .0,
-      b4 .before .before .put163 .kept .0,
-      b8 .before .before .put162 .kept .0,
-      b12 .before .before .put16 .kept .0,
+      c .before .before .put-plan4 .kept .0,
+      b4 .before .before .put-plan3 .kept .0,
+      b8 .before .before .put-plan2 .kept .0,
+      b12 .before .before .put-plan .kept .0,
       length-set
-          (b8 .before .before .put162 .last .0) 16 (b16 .before .args .node .stamp),
+          (b8 .before .before .put-plan2 .last .0) stampPlace (b16 .before .args .node .stamp),
     )
 
 returns : tie.Need-returns
@@ -58,21 +43,28 @@ returns c =
     let b4 = c .before .before .before .before in
     let b8 = b4 .before .before .before .before in
     let b12 = b8 .before .before .before .before in
+    let b16 = b12 .before .before .before .before in
+    let pre = b16 .before .pre in
+    let vote = b12 .before .before .put-plan in
+    let base = b8 .before .before .put-plan2 in
+    let select = b4 .before .before .put-plan3 in
+    let result = c .before .before .put-plan4 in
+    let stamped = length-set (base .last .0) stampPlace (b16 .before .args .node .stamp) in
     simp (
-      c .before .before .put164 .ensures,
-      b4 .before .before .put163 .ensures,
-      b8 .before .before .put162 .ensures,
-      b12 .before .before .put16 .ensures,
+      laid-room _ _ _ (result .ensures) (omega (arith, select .kept .0, stamped, base .kept .0, vote .kept .0, pre)),
+      laid-room _ _ _ (select .ensures) (omega (arith, stamped, base .kept .0, vote .kept .0, pre)),
+      laid-room _ _ _ (base .ensures) (omega (arith, vote .kept .0, pre)),
+      laid-room _ _ _ (vote .ensures) (omega (arith, pre)),
     )
 
 pub put-plans-spec : {M : Type 1} → statement M
 put-plans-spec =
     tie.close
     (tie.spec
-    put16-requires
-    put16-requires-2
+    put-plan-requires
+    put-plan-requires-2
     slice-write-image
-    put16-requires-3
-    put16-requires-4
+    put-plan-requires-3
+    put-plan-requires-4
     same-length
     returns)

@@ -9,8 +9,8 @@ crew-in-requires c κs = search needs
 shared-slice-read-t4 : tie.Need-shared-slice-read-t4
 shared-slice-read-t4 c = search needs
 
-run-at-requires : tie.Need-run-at-requires
-run-at-requires c κs = search needs
+run-in-requires : tie.Need-run-in-requires
+run-in-requires c κs = search needs
 
 shared-slice-read-t7 : tie.Need-shared-slice-read-t7
 shared-slice-read-t7 c = search needs
@@ -18,20 +18,20 @@ shared-slice-read-t7 c = search needs
 shared-slice-read-t9 : tie.Need-shared-slice-read-t9
 shared-slice-read-t9 c = search needs
 
-u16-at-requires : tie.Need-u16-at-requires
-u16-at-requires c κs = search needs
+plan-at-requires : tie.Need-plan-at-requires
+plan-at-requires c κs = search needs
 
-u16-at-requires-2 : tie.Need-u16-at-requires-2
-u16-at-requires-2 c κs = search needs
+plan-at-requires-2 : tie.Need-plan-at-requires-2
+plan-at-requires-2 c κs = search needs
 
 shared-slice-read-t13 : tie.Need-shared-slice-read-t13
 shared-slice-read-t13 c = search needs
 
-u16-at-requires-3 : tie.Need-u16-at-requires-3
-u16-at-requires-3 c κs = search needs
+plan-at-requires-3 : tie.Need-plan-at-requires-3
+plan-at-requires-3 c κs = search needs
 
-u16-at-requires-4 : tie.Need-u16-at-requires-4
-u16-at-requires-4 c κs = search needs
+plan-at-requires-4 : tie.Need-plan-at-requires-4
+plan-at-requires-4 c κs = search needs
 
 history-in-requires : tie.Need-history-in-requires
 history-in-requires c κs = search needs
@@ -39,11 +39,11 @@ history-in-requires c κs = search needs
 returns : tie.Need-returns
 returns c = rw (
   c .before .before .before .before .before .before .before .before .before .before .crew-in .ensures,
-  c .before .before .before .before .before .before .before .before .run-at .ensures,
-  c .before .before .before .before .before .u16-at .ensures,
-  c .before .before .before .before .u16-at2 .ensures,
-  c .before .before .u16-at3 .ensures,
-  c .before .u16-at4 .ensures,
+  c .before .before .before .before .before .before .before .before .run-in .ensures,
+  c .before .before .before .before .before .plan-at .ensures,
+  c .before .before .before .before .plan-at2 .ensures,
+  c .before .before .plan-at3 .ensures,
+  c .before .plan-at4 .ensures,
   c .history-in .ensures,
 )
 
@@ -53,13 +53,13 @@ record-in-spec =
     (tie.spec
     crew-in-requires
     shared-slice-read-t4
-    run-at-requires
+    run-in-requires
     shared-slice-read-t7
     shared-slice-read-t9
-    u16-at-requires
-    u16-at-requires-2
+    plan-at-requires
+    plan-at-requires-2
     shared-slice-read-t13
-    u16-at-requires-3
-    u16-at-requires-4
+    plan-at-requires-3
+    plan-at-requires-4
     history-in-requires
     returns)

@@ -7,6 +7,7 @@ use borrow.Author.Needs.{needs}
 use borrow.Author.Tests.{lt-ltb, le-ltb}
 use denote.Ref.{now}
 use Rattle.message.specs.Lookup.{listsIn}
+use Rattle.message.specs.Layout.{slotSize}
 use Rattle.inbox.proofs.lists.Statement.{statement}
 use Rattle.inbox.proofs.lists.Tie as tie
 
@@ -35,10 +36,10 @@ returns : tie.Need-returns
 returns c =
     let b3 = c .before .before .before in
     let a = b3 .before .before .args in
-    let from = 202 * a .q in
+    let from = slotSize * a .q in
     let inside = rw (b3 .slots-in .ensures .0) at (c .before .before .if1 .taken) in
     let slot = ap (λ size. listsIn (take size (drop from (now (a .inbox)))) (a .plan) (a .phase))
-    (add-sub-cancel-left from 202) in
+    (add-sub-cancel-left from slotSize) in
     rw (lt-ltb _ _ inside) (c .lists .ensures ∙ slot)
 
 returns-2 : tie.Need-returns-2

@@ -1,41 +1,57 @@
 -- `read_slot` meets its contract.
 use mathlib.Core.Path.{sym, _∙_, ap}
-use borrow.Author.Needs.{needs}
 use denote.Ref.{now}
-use Rattle.message.specs.Reading.{readOf}
-use Rattle.inbox.specs.Inbox.{counted}
-use Rattle.inbox.specs.Columns.{entriesOf, saidAs}
+use Rattle.message.specs.Reading.{answered}
+use borrow.Author.Needs.{needs}
 use Rattle.inbox.proofs.read_slot.Statement.{statement}
 use Rattle.inbox.proofs.read_slot.Tie as tie
 
-hear-requires : tie.Need-hear-requires
-hear-requires c κs = search needs
+read-requires : tie.Need-read-requires
+read-requires c κs = search needs
 
-enum-known-heard : tie.Need-enum-known-heard
-enum-known-heard c = search needs
+enum-known-reading : tie.Need-enum-known-reading
+enum-known-reading c = search needs
 
 enum-told : tie.Need-enum-told
 enum-told c = search needs
 
 returns : tie.Need-returns
 returns c =
-    let a = c .before .before .before .before .args in
-    let entries = entriesOf (counted (a .run) (a .phase) (a .round) (readOf (now (a .slot)))) in
-    simp (sym (c .before .before .hear .ensures) ∙ ap (λ r. saidAs r entries) (c .enum-told .given .1))
+    let s = now (c .before .before .before .before .args .slot) in
+    let as-read = sym (c .before .before .read .ensures) ∙ ap (λ r. answered r s) (c .enum-told .given .1) in
+    simp as-read
 
-put-vote-requires : tie.Need-put-vote-requires
-put-vote-requires c κs = search needs
+kind-of-requires : tie.Need-kind-of-requires
+kind-of-requires c κs = search needs
+
+put-body-requires : tie.Need-put-body-requires
+put-body-requires c κs = search needs
 
 returns-2 : tie.Need-returns-2
 returns-2 c =
-    let b4 = c .before .before .before .before in
-    let b5 = b4 .before in
-    let a = b4 .before .before .before .before .before .args in
-    let entries = entriesOf (counted (a .run) (a .phase) (a .round) (readOf (now (a .slot)))) in
-    let heard = sym (ap (λ r. saidAs r entries) (b5 .heard .given .1)) ∙ b5 .before .before .hear .ensures in
-    simp (sym heard, c .put-vote .ensures .0, c .put-vote .ensures .1, c .put-vote .ensures .2)
+    let counting = c .before .before .before .before in
+    let kind = counting .before .before .kind-of in
+    let told = counting .before .before .before .before .before in
+    let s = now (told .before .before .before .before .args .slot) in
+    let as-read = sym (told .before .before .read .ensures) ∙ ap (λ r. answered r s) (told .reading .given .1) in
+    simp (as-read, ← kind .ensures s, counting .if1 .taken) (c .put-body .ensures s)
+
+returns-3 : tie.Need-returns-3
+returns-3 c =
+    let told = c .before .before .before .before .before in
+    let s = now (told .before .before .before .before .args .slot) in
+    let as-read = sym (told .before .before .read .ensures) ∙ ap (λ r. answered r s) (told .reading .given .1) in
+    simp (as-read, ← c .before .before .kind-of .ensures s, c .if1 .left)
 
 pub read-slot-spec : {M : Type 1} → statement M
 read-slot-spec =
     tie.close
-    (tie.spec hear-requires enum-known-heard enum-told returns put-vote-requires returns-2)
+    (tie.spec
+    read-requires
+    enum-known-reading
+    enum-told
+    returns
+    kind-of-requires
+    put-body-requires
+    returns-2
+    returns-3)

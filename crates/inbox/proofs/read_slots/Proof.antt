@@ -7,6 +7,7 @@ use native.Mathlib.Omega.{arith}
 use lib.ListN.{take, drop}
 use borrow.Author.Needs.{needs}
 use denote.Ref.{now}
+use Rattle.message.specs.Layout.{slotSize}
 use Rattle.ballot.specs.Ballot.{Ballot}
 use Rattle.message.specs.Reading.{readOf}
 use Rattle.inbox.proofs.Filling.{filled-more}
@@ -64,10 +65,10 @@ loop-again c =
     let inbox = now (a .inbox) in
     let first = columns (now (a .present)) (now (a .votes)) (now (a .stamps)) in
     let slots : ℕ → Option Ballot = λ k. counted (a .run) (a .phase) (a .round) (readOf (slotAt inbox k)) in
-    let at-q = 202 * l .q in
+    let at-q = slotSize * l .q in
     let slot =
     ap (λ size. counted (a .run) (a .phase) (a .round) (readOf (take size (drop at-q inbox))))
-    (add-sub-cancel-left at-q 202) in
+    (add-sub-cancel-left at-q slotSize) in
     (omega arith, filled-more first slots (l .q) _ _ _ (l .inv .1) slot (c .read-slot .ensures))
 
 returns : tie.Need-returns Inv-loop μ-loop

@@ -1,16 +1,17 @@
 -- `long_script` gives as many bytes as its type says; each turn keeps the length.
 use lib.ListN.{length}
-use Prim.Native.Nat.{_-_}
+use Prim.Native.Nat.{_+_, _-_}
 use mathlib.Core.Path.{_≡_}
 use borrow.Author.Needs.{needs}
+use Rattle.drill.specs.Run.{mostBytes}
 use Rattle.lessons.proofs.long_script.Statement.{statement}
 use Rattle.lessons.proofs.long_script.Tie as tie
 
 abbrev Inv-loop : tie.InvT-loop
-Inv-loop script₀ i₀ script i = length script ≡ 65537
+Inv-loop script₀ i₀ script i = length script ≡ mostBytes + 1
 
 abbrev μ-loop : tie.MeasureT-loop
-μ-loop script₀ i₀ script i = 65537 - i
+μ-loop script₀ i₀ script i = mostBytes + 1 - i
 
 loop-holds : tie.Need-loop-holds Inv-loop μ-loop
 loop-holds c = search needs

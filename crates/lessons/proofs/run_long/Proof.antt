@@ -3,6 +3,7 @@ use mathlib.Core.Path.{sym}
 use native.Mathlib.Omega.{arith}
 use lib.Seq.{length-take-le}
 use borrow.Author.Needs.{needs}
+use Rattle.drill.specs.Run.{mostBytes}
 use Rattle.lessons.proofs.run_long.Statement.{statement}
 use Rattle.lessons.proofs.run_long.Tie as tie
 
@@ -21,7 +22,7 @@ array-share-prefix-script c = search needs
 slice-aggregate-run-whole : tie.Need-slice-aggregate-run-whole
 slice-aggregate-run-whole c =
     let made = c .before .before .before .long-script in
-    sym (length-take-le 65536 (made .result) (omega (arith, made .ensures)))
+    sym (length-take-le mostBytes (made .result) (omega (arith, made .ensures)))
 
 run-whole-requires : tie.Need-run-whole-requires
 run-whole-requires c κs = search needs

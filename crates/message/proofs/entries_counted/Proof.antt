@@ -6,6 +6,7 @@ use lib.ListN.{length}
 use borrow.Author.Needs.{needs}
 use borrow.Author.Tests.{le-leb, lt-leb}
 use denote.Ref.{now}
+use Rattle.message.specs.Layout.{entriesPlace, entrySize}
 use Rattle.message.proofs.entries_counted.Statement.{statement}
 use Rattle.message.proofs.entries_counted.Tie as tie
 
@@ -37,7 +38,7 @@ returns : tie.Need-returns
 returns c =
     let b4 = c .before .before .before .before in
     let a = b4 .args in
-    let fits : 13 + 3 * a .count ≤ length (now (a .s)) = omega (
+    let fits : entriesPlace + entrySize * a .count ≤ length (now (a .s)) = omega (
       arith,
       c .before .before .wide .ensures .0,
       c .before .if1 .taken,
@@ -48,7 +49,7 @@ returns-2 : tie.Need-returns-2
 returns-2 c =
     let b4 = c .before .before .before .before in
     let a = b4 .args in
-    let short : length (now (a .s)) < 13 + 3 * a .count = omega (
+    let short : length (now (a .s)) < entriesPlace + entrySize * a .count = omega (
       arith,
       c .before .before .wide .ensures .0,
       c .before .if1 .left,

@@ -9,8 +9,8 @@ shared-slice-read-is-phase c = search needs
 is-phase-requires : tie.Need-is-phase-requires
 is-phase-requires c κs = search needs
 
-u16-at-requires : tie.Need-u16-at-requires
-u16-at-requires c κs = search needs
+plan-at-requires : tie.Need-plan-at-requires
+plan-at-requires c κs = search needs
 
 is-plan-requires : tie.Need-is-plan-requires
 is-plan-requires c κs = search needs
@@ -24,7 +24,7 @@ shared-slice-read-result-2 c = search needs
 returns : tie.Need-returns
 returns c =
     let b4 = c .before .before .before .before in
-    simp (b4 .is-phase .ensures, c .before .before .is-plan .ensures, c .before .before .before .u16-at .ensures)
+    simp (b4 .is-phase .ensures, c .before .before .is-plan .ensures, c .before .before .before .plan-at .ensures)
 
 pub is-decision-spec : {M : Type 1} → statement M
 is-decision-spec =
@@ -32,7 +32,7 @@ is-decision-spec =
     (tie.spec
     shared-slice-read-is-phase
     is-phase-requires
-    u16-at-requires
+    plan-at-requires
     is-plan-requires
     shared-slice-read-result
     shared-slice-read-result-2

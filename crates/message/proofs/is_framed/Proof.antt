@@ -14,7 +14,16 @@ cast-size : tie.Need-cast-size
 cast-size c = search needs
 
 returns-2 : tie.Need-returns-2
-returns-2 c = simp (le-leb _ _ (c .before .if1 .left), c .u16-at .ensures)
+returns-2 c =
+    let long = le-leb _ _ (c .before .before .if1 .left) in
+    let small = lt-leb _ _ (c .if2 .taken) in
+    simp (long, ← c .before .u16-at .ensures, small)
+
+returns-3 : tie.Need-returns-3
+returns-3 c =
+    let long = le-leb _ _ (c .before .before .if1 .left) in
+    let large = le-leb _ _ (c .if2 .left) in
+    simp (long, ← c .before .u16-at .ensures, large)
 
 pub is-framed-spec : {M : Type 1} → statement M
-is-framed-spec = tie.close (tie.spec returns u16-at-requires cast-size returns-2)
+is-framed-spec = tie.close (tie.spec returns u16-at-requires cast-size returns-2 returns-3)

@@ -19,8 +19,8 @@ shared-slice-read-is-phase c = search needs
 is-phase-requires : tie.Need-is-phase-requires
 is-phase-requires c κs = search needs
 
-u16-at-requires : tie.Need-u16-at-requires
-u16-at-requires c κs = search needs
+plan-at-requires : tie.Need-plan-at-requires
+plan-at-requires c κs = search needs
 
 is-plan-requires : tie.Need-is-plan-requires
 is-plan-requires c κs = search needs
@@ -47,7 +47,7 @@ returns : tie.Need-returns
 returns c = simp (
   c .before .before .before .before .before .before .before .before .is-phase .ensures,
   c .before .before .before .before .before .before .is-plan .ensures,
-  c .before .before .before .before .before .before .before .u16-at .ensures,
+  c .before .before .before .before .before .before .before .plan-at .ensures,
   c .before .before .before .before .before .before .before .before .before .before .wide .ensures .0,
   c .before .wide2 .ensures .0,
   c .are-entries .ensures,
@@ -63,7 +63,7 @@ is-selection-spec =
     cast-count
     shared-slice-read-is-phase
     is-phase-requires
-    u16-at-requires
+    plan-at-requires
     is-plan-requires
     shared-slice-read-result
     shared-slice-read-result-2

@@ -22,23 +22,23 @@ wide-requires c κs = search needs
 returns : tie.Need-returns
 returns c = simp (sym (c .before .wide .ensures .0), lt-leb _ _ (c .if1 .taken))
 
-add-u16-at : tie.Need-add-u16-at
-add-u16-at c = search needs
+add-plan-at : tie.Need-add-plan-at
+add-plan-at c = search needs
 
-u16-at-requires : tie.Need-u16-at-requires
-u16-at-requires c κs = search needs
+plan-at-requires : tie.Need-plan-at-requires
+plan-at-requires c κs = search needs
 
 returns-2 : tie.Need-returns-2
-returns-2 c = simp (sym (c .before .u16-at .ensures), c .if2 .taken, and-false)
+returns-2 c = simp (sym (c .before .plan-at .ensures), c .if2 .taken, and-false)
 
 add-result : tie.Need-add-result
 add-result c = search needs
 
 returns-3 : tie.Need-returns-3
 returns-3 c =
-    let known = le-leb 1 (c .before .u16-at .result) (omega (arith, c .if2 .left)) in
+    let known = le-leb 1 (c .before .plan-at .result) (omega (arith, c .if2 .left)) in
     let rises = le-leb _ _ (c .before .before .if1 .left) in
-    simp (sym (c .before .before .before .wide .ensures .0), sym (c .before .u16-at .ensures), rises, known)
+    simp (sym (c .before .before .before .wide .ensures .0), sym (c .before .plan-at .ensures), rises, known)
 
 pub least-after-spec : {M : Type 1} → statement M
 least-after-spec =
@@ -49,8 +49,8 @@ least-after-spec =
     shared-slice-read-wide
     wide-requires
     returns
-    add-u16-at
-    u16-at-requires
+    add-plan-at
+    plan-at-requires
     returns-2
     add-result
     returns-3)

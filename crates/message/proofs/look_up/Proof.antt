@@ -5,6 +5,7 @@ use lib.ListN.{length}
 use native.Mathlib.Omega.{arith}
 use borrow.Author.Needs.{needs}
 use denote.Ref.{now}
+use Rattle.message.specs.Layout.{entriesPlace, entrySize}
 use Rattle.message.proofs.LookupTurns.{lookup-here, lookup-before}
 use Rattle.message.specs.Lookup.{entriesUntil, lookedUp}
 use Rattle.message.proofs.look_up.Statement.{statement}
@@ -12,7 +13,7 @@ use Rattle.message.proofs.look_up.Tie as tie
 
 abbrev Inv-loop : tie.InvT-loop
 Inv-loop s plan phase i₀ i =
-    (13 + 3 * i ≤ length s) × (lookedUp s plan phase i ≡ lookedUp s plan phase (entriesUntil s phase))
+    (entriesPlace + entrySize * i ≤ length s) × (lookedUp s plan phase i ≡ lookedUp s plan phase (entriesUntil s phase))
 
 abbrev μ-loop : tie.MeasureT-loop
 μ-loop s plan phase i₀ i = i
@@ -38,18 +39,18 @@ shared-slice-read-if1 c = search needs
 shared-slice-read-result : tie.Need-shared-slice-read-result Inv-loop μ-loop
 shared-slice-read-result c = search needs
 
-add-u16-at : tie.Need-add-u16-at Inv-loop μ-loop
-add-u16-at c = search needs
+add-plan-at : tie.Need-add-plan-at Inv-loop μ-loop
+add-plan-at c = search needs
 
-u16-at-requires : tie.Need-u16-at-requires Inv-loop μ-loop
-u16-at-requires c κs = search needs
+plan-at-requires : tie.Need-plan-at-requires Inv-loop μ-loop
+plan-at-requires c κs = search needs
 
 returns : tie.Need-returns Inv-loop μ-loop
 returns c =
     let b4 = c .before .before .before .before in
     let a = b4 .before .before .before .before .args in
     let l = b4 .before .loop in
-    rw (c .u16-at .ensures)
+    rw (c .plan-at .ensures)
     (sym (lookup-here (now (a .s)) (a .plan) (a .phase) (l .i) (b4 .loop-test .taken) (c .before .before .if1 .taken))
     ∙ l .inv .1)
 
@@ -88,8 +89,8 @@ look-up-spec =
     add-place
     shared-slice-read-if1
     shared-slice-read-result
-    add-u16-at
-    u16-at-requires
+    add-plan-at
+    plan-at-requires
     returns
     sub-i
     loop-less

@@ -4,11 +4,12 @@ use mathlib.Core.Path.{sym, _∙_, ap}
 use Prim.Native.Nat.{ℕ, _+_, _*_}
 use native.Mathlib.Omega.{arith}
 use lib.ListN.{getD}
-use borrow.Author.Needs.{needs}
 use borrow.Author.Tests.{eq-eqb, ne-eqb}
 use denote.Ref.{now}
-use Rattle.message.proofs.EntryLaws.{entries-count}
+use Rattle.message.specs.Layout.{countPlace, entriesPlace, entrySize}
 use Rattle.message.specs.Reading.{tested}
+use Rattle.message.proofs.EntryLaws.{entries-count}
+use borrow.Author.Needs.{needs}
 use Rattle.message.proofs.read_selection.Statement.{statement}
 use Rattle.message.proofs.read_selection.Tie as tie
 
@@ -19,8 +20,12 @@ returns : tie.Need-returns
 unfolding tested
 returns c =
     let s = now (c .before .before .before .args .s) in
-    let short : c .before .u16-at .result ≢ 13 + 3 * getD s 12 0 = λ e. omega (arith, e, c .if1 .taken) in
+    let short : c .before .u16-at .result ≢ entriesPlace + entrySize * getD s countPlace 0 =
+    λ e. omega (arith, e, c .if1 .taken) in
     simp (tested, entries-count, ← c .before .u16-at .ensures, ne-eqb _ _ short)
+
+cast-if2 : tie.Need-cast-if2
+cast-if2 c = search needs
 
 shared-slice-read-wide : tie.Need-shared-slice-read-wide
 shared-slice-read-wide c = search needs
@@ -37,47 +42,42 @@ add-if2 c = search needs
 is-selection-requires : tie.Need-is-selection-requires
 is-selection-requires c κs = search needs
 
-run-at-requires : tie.Need-run-at-requires
-run-at-requires c κs = search needs
+plan-at-requires : tie.Need-plan-at-requires
+plan-at-requires c κs = search needs
 
-shared-slice-read-t15 : tie.Need-shared-slice-read-t15
-shared-slice-read-t15 c = search needs
+shared-slice-read-stamp : tie.Need-shared-slice-read-stamp
+shared-slice-read-stamp c = search needs
 
-u16-at-requires-2 : tie.Need-u16-at-requires-2
-u16-at-requires-2 c κs = search needs
+shared-slice-read-count : tie.Need-shared-slice-read-count
+shared-slice-read-count c = search needs
 
-shared-slice-read-t18 : tie.Need-shared-slice-read-t18
-shared-slice-read-t18 c = search needs
-
-shared-slice-read-t20 : tie.Need-shared-slice-read-t20
-shared-slice-read-t20 c = search needs
+message-of-requires : tie.Need-message-of-requires
+message-of-requires c κs = search needs
 
 returns-2 : tie.Need-returns-2
 unfolding tested
 returns-2 c =
-    let b4 = c .before .before .before .before in
-    let b4 = b4 in
-    let b8 = b4 .before .before .before .before in
+    let kept = c .before .before .before .before in
+    let sized = kept .before .before in
     simp (
       tested,
       entries-count,
-      b4 .run-at .ensures,
-      c .before .before .u16-at2 .ensures,
-      eq-eqb _ _ (sym (b8 .before .before .before .u16-at .ensures) ∙ b4 .before .before .before .if2 .taken
-          ∙ ap (λ (k : ℕ). 13 + 3 * k) (b8 .wide .ensures .0)),
-      simp entries-count at (sym (b4 .before .before .is-selection .ensures) ∙ b4 .before .if3 .taken),
+      c .message-of .ensures,
+      c .before .before .before .plan-at .ensures,
+      eq-eqb _ _ (sym (sized .before .before .before .before .u16-at .ensures) ∙ sized .if2 .taken
+          ∙ ap (λ (k : ℕ). entriesPlace + entrySize * k) (sized .before .wide .ensures .0)),
+      simp entries-count at (sym (kept .before .is-selection .ensures) ∙ kept .if3 .taken),
     )
 
 returns-3 : tie.Need-returns-3
 unfolding tested
 returns-3 c =
-    let b4 = c .before .before .before .before in
-    let b4 = b4 in
+    let sized = c .before .before in
     simp (
       tested,
       entries-count,
-      eq-eqb _ _ (sym (b4 .before .before .u16-at .ensures) ∙ c .before .before .if2 .taken
-          ∙ ap (λ (k : ℕ). 13 + 3 * k) (c .before .before .before .wide .ensures .0)),
+      eq-eqb _ _ (sym (sized .before .before .before .before .u16-at .ensures) ∙ sized .if2 .taken
+          ∙ ap (λ (k : ℕ). entriesPlace + entrySize * k) (sized .before .wide .ensures .0)),
       simp entries-count at (sym (c .before .is-selection .ensures) ∙ c .if3 .left),
     )
 
@@ -97,16 +97,16 @@ read-selection-spec =
     (tie.spec
     u16-at-requires
     returns
+    cast-if2
     shared-slice-read-wide
     wide-requires
     mul-if2
     add-if2
     is-selection-requires
-    run-at-requires
-    shared-slice-read-t15
-    u16-at-requires-2
-    shared-slice-read-t18
-    shared-slice-read-t20
+    plan-at-requires
+    shared-slice-read-stamp
+    shared-slice-read-count
+    message-of-requires
     returns-2
     returns-3
     returns-4)

@@ -1,8 +1,8 @@
 -- `read_validation` meets its contract.
 use mathlib.Core.Path.{sym, _∙_}
-use borrow.Author.Needs.{needs}
 use borrow.Author.Tests.{eq-eqb, ne-eqb}
 use Rattle.message.specs.Reading.{tested}
+use borrow.Author.Needs.{needs}
 use Rattle.message.proofs.read_validation.Statement.{statement}
 use Rattle.message.proofs.read_validation.Tie as tie
 
@@ -12,25 +12,22 @@ u16-at-requires c κs = search needs
 is-validation-requires : tie.Need-is-validation-requires
 is-validation-requires c κs = search needs
 
-run-at-requires : tie.Need-run-at-requires
-run-at-requires c κs = search needs
+plan-at-requires : tie.Need-plan-at-requires
+plan-at-requires c κs = search needs
 
-shared-slice-read-t9 : tie.Need-shared-slice-read-t9
-shared-slice-read-t9 c = search needs
-
-u16-at-requires-2 : tie.Need-u16-at-requires-2
-u16-at-requires-2 c κs = search needs
+message-of-requires : tie.Need-message-of-requires
+message-of-requires c κs = search needs
 
 returns : tie.Need-returns
 unfolding tested
 returns c =
-    let b4 = c .before .before .before .before in
+    let kept = c .before .before in
     simp (
       tested,
-      c .before .before .run-at .ensures,
-      c .u16-at2 .ensures,
-      eq-eqb _ _ (sym (b4 .before .before .u16-at .ensures) ∙ b4 .before .if1 .taken),
-      sym (b4 .is-validation .ensures) ∙ c .before .before .before .if2 .taken,
+      c .message-of .ensures,
+      c .before .plan-at .ensures,
+      eq-eqb _ _ (sym (kept .before .before .before .u16-at .ensures) ∙ kept .before .before .if1 .taken),
+      sym (kept .before .is-validation .ensures) ∙ kept .if2 .taken,
     )
 
 returns-2 : tie.Need-returns-2
@@ -51,9 +48,8 @@ read-validation-spec =
     (tie.spec
     u16-at-requires
     is-validation-requires
-    run-at-requires
-    shared-slice-read-t9
-    u16-at-requires-2
+    plan-at-requires
+    message-of-requires
     returns
     returns-2
     returns-3)

@@ -1,13 +1,16 @@
 -- The record of a refused start is all 0.
 -- Assumes nothing.
-use mathlib.Core.Path.{refl}
+use borrow.Author.Needs.{needs}
 use Rattle.node.specs.Record.{blank}
 use Rattle.node.proofs.blank_node.Statement.{statement}
 use Rattle.node.proofs.blank_node.Tie as tie
 
+blank-crew-requires : tie.Need-blank-crew-requires
+blank-crew-requires c κs = search needs
+
 returns : tie.Need-returns
 unfolding blank
-returns c = refl
+returns c = simp (c .blank-crew .ensures)
 
 pub blank-node-spec : {M : Type 1} → statement M
-blank-node-spec = tie.close (tie.spec returns)
+blank-node-spec = tie.close (tie.spec blank-crew-requires returns)

@@ -6,7 +6,7 @@ use lib.ListN.{length}
 use lib.Seq.{sets}
 use Prim.Native.Nat.{_≤_, _+_, _*_, _-_}
 use native.Mathlib.Nat.{sub-zero}
-use Rattle.print.specs.Texts.{Wrote, fieldsFrom}
+use Rattle.print.specs.Texts.{Wrote, fieldMost, fieldsFrom}
 use Rattle.print.proofs.Writing.{fields-more, fields-done}
 use borrow.Author.Needs.{needs}
 use Rattle.print.proofs.put_fields.Statement.{statement}
@@ -15,7 +15,7 @@ use Rattle.print.proofs.put_fields.Tie as tie
 abbrev Inv-loop : tie.InvT-loop
 Inv-loop buf₀ start n results honest at₀ i₀ buf at i =
     (i ≤ n)
-    × (at ≤ start + 6 * i)
+    × (at ≤ start + fieldMost * i)
     × (length buf ≡ length buf₀)
     × Wrote buf at (fieldsFrom results honest i (n - i))
     (sets buf₀ start (fieldsFrom results honest 0 n)) (start + length (fieldsFrom results honest 0 n))

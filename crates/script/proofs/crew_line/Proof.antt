@@ -1,5 +1,5 @@
 -- `crew_line` meets its contract.
-use Rattle.script.specs.Commands.{crewOf}
+use Rattle.script.specs.Commands.{crewLineOf}
 use mathlib.Core.Path.{ap, _∙_}
 use borrow.Author.Needs.{needs}
 use Rattle.script.proofs.crew_line.Statement.{statement}
@@ -12,7 +12,7 @@ to-crew-requires : tie.Need-to-crew-requires
 to-crew-requires c κs = search needs
 
 returns : tie.Need-returns
-returns c = c .to-crew .ensures ∙ ap crewOf (c .before .numbers-on .ensures)
+returns c = c .to-crew .ensures ∙ ap crewLineOf (c .before .numbers-on .ensures)
 
 pub crew-line-spec : {M : Type 1} → statement M
 crew-line-spec = tie.close (tie.spec numbers-on-requires to-crew-requires returns)

@@ -5,13 +5,13 @@ use mathlib.Core.Path.{_≡_, refl}
 use Prim.Native.Nat.{_≤_, _-_}
 use lib.ListN.{length, drop}
 use borrow.Author.Tests.{eq-eqb, ne-eqb}
-use Rattle.script.specs.Fields.{valueFrom, numberOf}
+use Rattle.script.specs.Fields.{largest, valueFrom, numberOf}
 use borrow.Author.Needs.{needs}
 use Rattle.script.proofs.decimal.Statement.{statement}
 use Rattle.script.proofs.decimal.Tie as tie
 
 abbrev Inv-loop : tie.InvT-loop
-Inv-loop s v₀ i₀ v i = (v ≤ 65535) × (i ≤ length s) × (valueFrom v (drop i s) ≡ numberOf s)
+Inv-loop s v₀ i₀ v i = (v ≤ largest) × (i ≤ length s) × (valueFrom v (drop i s) ≡ numberOf s)
 
 abbrev μ-loop : tie.MeasureT-loop
 μ-loop s v₀ i₀ v i = length s - i

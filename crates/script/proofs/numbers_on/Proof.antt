@@ -4,8 +4,8 @@ use mathlib.Core.Path.{_∙_, _≡_}
 use lib.ListN.{length-set, length, drop}
 use Rattle.script.proofs.Words.{piece-within, turn-bad, turn-full, turn-more, turn-last}
 use Prim.Native.Nat.{_≤_, _-_}
-use Rattle.script.specs.Fields.{numbersFrom, numbersOn}
-use Rattle.script.specs.Lines.{split}
+use Rattle.script.specs.Fields.{mostNumbers, numbersFrom, numbersOn}
+use Rattle.script.specs.Lines.{space, split}
 use borrow.Author.Needs.{needs}
 use Rattle.script.proofs.numbers_on.Statement.{statement}
 use Rattle.script.proofs.numbers_on.Tie as tie
@@ -13,9 +13,9 @@ use Rattle.script.proofs.numbers_on.Tie as tie
 abbrev Inv-loop : tie.InvT-loop
 Inv-loop s values₀ count₀ at₀ values count at =
     (at ≤ length s)
-    × (count ≤ 32)
-    × (length values ≡ 32)
-    × (numbersFrom (split 32 (drop at s)) count values ≡ numbersOn s)
+    × (count ≤ mostNumbers)
+    × (length values ≡ mostNumbers)
+    × (numbersFrom (split space (drop at s)) count values ≡ numbersOn s)
 
 abbrev μ-loop : tie.MeasureT-loop
 μ-loop s values₀ count₀ at₀ values count at = length s - at

@@ -20,35 +20,35 @@ array-read-good-4 c = search needs
 array-read-good-5 : tie.Need-array-read-good-5
 array-read-good-5 c = search needs
 
-array-read-t32 : tie.Need-array-read-t32
-array-read-t32 c = search needs
+array-read-t33 : tie.Need-array-read-t33
+array-read-t33 c = search needs
 
-cast-t33 : tie.Need-cast-t33
-cast-t33 c = omega (arith, crew-bytes (c .before .before .before .before .args .w) (c .if1 .taken) .0)
+cast-t34 : tie.Need-cast-t34
+cast-t34 c = omega (arith, crew-bytes (c .before .before .before .before .args .w) (c .if1 .taken) .0)
 
-array-read-t36 : tie.Need-array-read-t36
-array-read-t36 c = search needs
+array-read-t37 : tie.Need-array-read-t37
+array-read-t37 c = search needs
 
-cast-t37 : tie.Need-cast-t37
-cast-t37 c = omega (arith, crew-bytes (c .before .before .before .before .args .w) (c .if1 .taken) .1)
+cast-t38 : tie.Need-cast-t38
+cast-t38 c = omega (arith, crew-bytes (c .before .before .before .before .args .w) (c .if1 .taken) .1)
 
-array-read-t40 : tie.Need-array-read-t40
-array-read-t40 c = search needs
+array-read-t41 : tie.Need-array-read-t41
+array-read-t41 c = search needs
 
-cast-t41 : tie.Need-cast-t41
-cast-t41 c = omega (arith, crew-bytes (c .before .before .before .before .args .w) (c .if1 .taken) .2)
+cast-t42 : tie.Need-cast-t42
+cast-t42 c = omega (arith, crew-bytes (c .before .before .before .before .args .w) (c .if1 .taken) .2)
 
-array-read-t44 : tie.Need-array-read-t44
-array-read-t44 c = search needs
+array-read-t45 : tie.Need-array-read-t45
+array-read-t45 c = search needs
 
-cast-t45 : tie.Need-cast-t45
-cast-t45 c = omega (arith, crew-bytes (c .before .before .before .before .args .w) (c .if1 .taken) .3)
+cast-t46 : tie.Need-cast-t46
+cast-t46 c = omega (arith, crew-bytes (c .before .before .before .before .args .w) (c .if1 .taken) .3)
 
-array-read-t48 : tie.Need-array-read-t48
-array-read-t48 c = search needs
+array-read-t49 : tie.Need-array-read-t49
+array-read-t49 c = search needs
 
-cast-t49 : tie.Need-cast-t49
-cast-t49 c = omega (arith, crew-bytes (c .before .before .before .before .args .w) (c .if1 .taken) .4)
+cast-t50 : tie.Need-cast-t50
+cast-t50 c = omega (arith, crew-bytes (c .before .before .before .before .args .w) (c .if1 .taken) .4)
 
 returns : tie.Need-returns
 returns c = passed _ _ _ (c .if1 .taken)
@@ -65,15 +65,15 @@ to-crew-spec =
     array-read-good-3
     array-read-good-4
     array-read-good-5
-    array-read-t32
-    cast-t33
-    array-read-t36
-    cast-t37
-    array-read-t40
-    cast-t41
-    array-read-t44
-    cast-t45
-    array-read-t48
-    cast-t49
+    array-read-t33
+    cast-t34
+    array-read-t37
+    cast-t38
+    array-read-t41
+    cast-t42
+    array-read-t45
+    cast-t46
+    array-read-t49
+    cast-t50
     returns
     returns-2)

@@ -1,48 +1,77 @@
 -- `backing_of` meets its contract.
-use mathlib.Core.Path.{sym, _∙_}
-use Prim.Native.Nat.{ℕ}
+use mathlib.Core.Path.{sym, subst, _∙_}
+use native.Mathlib.Omega.{arith}
 use lib.ListN.{getD}
-use borrow.Author.Needs.{needs}
 use denote.Ref.{now}
-use Rattle.tally.proofs.BackingLaws.{backing-nobody, backing-sole, backing-several}
-use Rattle.tally.specs.Marks.{marked}
+use Rattle.tally.specs.Marks.{marked, FirstOf}
+use Rattle.tally.proofs.BackingLaws.{one-backed, more-backed}
+use borrow.Author.Needs.{needs}
 use Rattle.tally.proofs.backing_of.Statement.{statement}
 use Rattle.tally.proofs.backing_of.Tie as tie
 
-least-or-top-requires : tie.Need-least-or-top-requires
-least-or-top-requires c κs = search needs
+first-marked-requires : tie.Need-first-marked-requires
+first-marked-requires c κs = search needs
 
-cast-least : tie.Need-cast-least
-cast-least c = search needs
+enum-known-first : tie.Need-enum-known-first
+enum-known-first c = search needs
+
+mul-vote : tie.Need-mul-vote
+mul-vote c =
+    let told = c .before in
+    let a = told .before .before .before .args in
+    let is = subst (FirstOf (now (a .marks)) (a .n)) (told .first .given .1)
+    (told .before .before .first-marked .ensures) in
+    omega (arith, is .0)
+
+element-copy-out-vote : tie.Need-element-copy-out-vote
+element-copy-out-vote c =
+    let told = c .before in
+    let a = told .before .before .before .args in
+    let is = subst (FirstOf (now (a .marks)) (a .n)) (told .first .given .1)
+    (told .before .before .first-marked .ensures) in
+    omega (arith, is .0)
 
 count-others-requires : tie.Need-count-others-requires
 count-others-requires c κs = search needs
 
 returns : tie.Need-returns
 returns c =
-    let b4 = c .before .before .before .before in
-    let a = b4 .args in
-    let vote : ℕ → ℕ = λ q. getD (now (a .votes)) q 0 in
-    backing-sole (marked (now (a .marks))) vote (a .n) (c .before .before .before .least-or-top .result)
-    (c .before .before .before .least-or-top .ensures) (c .before .before .if1 .taken)
-    (sym (c .before .count-others .ensures .0) ∙ c .if2 .taken)
+    let told = c .before .before .before .before in
+    let a = told .before .before .before .args in
+    let is = subst (FirstOf (now (a .marks)) (a .n)) (told .first .given .1)
+    (told .before .before .first-marked .ensures) in
+    one-backed (marked (now (a .marks))) (λ k. getD (now (a .votes)) k 0) (a .n) _ (is .0) (is .1)
+    (sym (c .before .count-others .ensures .0) ∙ c .if1 .taken)
+
+enum-told : tie.Need-enum-told
+enum-told c = search needs
 
 returns-2 : tie.Need-returns-2
 returns-2 c =
-    let b4 = c .before .before .before .before in
-    let a = b4 .args in
-    let vote : ℕ → ℕ = λ q. getD (now (a .votes)) q 0 in
-    backing-several (marked (now (a .marks))) vote (a .n) (c .before .before .before .least-or-top .result)
-    (c .before .before .before .least-or-top .ensures) (c .before .before .if1 .taken)
-    (λ e. c .if2 .left (c .before .count-others .ensures .0 ∙ e))
+    let told = c .before .before .before .before in
+    let a = told .before .before .before .args in
+    let is = subst (FirstOf (now (a .marks)) (a .n)) (told .first .given .1)
+    (told .before .before .first-marked .ensures) in
+    more-backed (marked (now (a .marks))) (λ k. getD (now (a .votes)) k 0) (a .n) _ (is .0) (is .1)
+    (λ e. c .if1 .left (c .before .count-others .ensures .0 ∙ e))
 
 returns-3 : tie.Need-returns-3
-returns-3 c = let a = c .before .before .args in
-    let vote : ℕ → ℕ = λ q. getD (now (a .votes)) q 0 in
-    backing-nobody (marked (now (a .marks))) vote (a .n) (c .before .least-or-top .result)
-    (c .before .least-or-top .ensures) (c .if1 .left)
+returns-3 c =
+    let a = c .before .before .before .args in
+    let is = subst (FirstOf (now (a .marks)) (a .n)) (c .enum-told .given .1)
+    (c .before .before .first-marked .ensures) in
+    rw (← is (λ k. getD (now (a .votes)) k 0))
 
 pub backing-of-spec : {M : Type 1} → statement M
 backing-of-spec =
     tie.close
-    (tie.spec least-or-top-requires cast-least count-others-requires returns returns-2 returns-3)
+    (tie.spec
+    first-marked-requires
+    enum-known-first
+    mul-vote
+    element-copy-out-vote
+    count-others-requires
+    returns
+    enum-told
+    returns-2
+    returns-3)

@@ -47,7 +47,7 @@ returns c =
     (λ q less. b3 .mark-above .ensures q less
     ∙ ap (λ e. above (read .present) (read .present) (read .votes) (read .stamps) (crew .n) e false q)
     (b6 .bound .ensures .0)
-    ∙ sym (backed-one-slot crew read h (crew .n) q))
+    ∙ sym (backed-one-slot read h (crew .n) crew q))
     (c .answer-below-three .ensures .0) (c .before .backing-of .ensures) slots
 
 pub choose-one-spec : {M : Type 1} → statement M

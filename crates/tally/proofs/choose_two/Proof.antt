@@ -51,8 +51,8 @@ returns c =
     at (enough-two crew read h (crew .n) (count .result) (count .ensures .0)) in
     selection-marked crew read h (crew .n) two (b3 .mark-above2 .last .0) _ _ _
     (λ q less. b3 .mark-above2 .ensures q less
-    ∙ sym (backed-two-slot crew read h (crew .n) (b6 .mark-above .last .0)
-    (λ k inside. above k inside ∙ sym (possible-slot crew read h (crew .n) k)) q))
+    ∙ sym (backed-two-slot read h (crew .n) crew (b6 .mark-above .last .0)
+    (λ k inside. above k inside ∙ sym (possible-slot read h (crew .n) crew k)) q))
     (c .answer-below-three .ensures .1) (c .before .backing-of .ensures) slots
 
 pub choose-two-spec : {M : Type 1} → statement M

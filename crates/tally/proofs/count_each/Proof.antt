@@ -6,6 +6,7 @@ use native.Mathlib.Omega.{arith}
 use lib.ListN.{length, length-set, getD}
 use borrow.Author.Needs.{needs}
 use denote.Ref.{now}
+use Rattle.crew.specs.Parts.{mostNodes}
 use Rattle.ballot.specs.Count.{tally}
 use Rattle.tally.proofs.Marking.{counts-next}
 use Rattle.tally.specs.Marks.{Counts, supporting, supporters}
@@ -15,8 +16,8 @@ use Rattle.tally.proofs.count_each.Tie as tie
 abbrev Inv-loop : tie.InvT-loop
 Inv-loop counts₀ marks votes stamps n stamped below count₀ q₀ counts count q =
     (1 ≤ q)
-    × (q ≤ 32)
-    × (length counts ≡ 32)
+    × (q ≤ mostNodes)
+    × (length counts ≡ mostNodes)
     × (count ≡ supporters marks votes stamps n stamped (q - 1))
     × Counts counts q (supporters marks votes stamps n stamped)
 

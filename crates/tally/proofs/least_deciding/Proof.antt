@@ -39,11 +39,11 @@ returns c =
     let class = classOf crew in
     let read = columns (now (a .present)) (now (a .votes)) (now (a .stamps)) in
     c .least-marked .ensures
-    ∙ sym (least-of crew read h (crew .n) (decides class crew (a .phase) (polled read h (crew .n)))
+    ∙ sym (least-of read h (crew .n) (decides class crew (a .phase) (polled read h (crew .n)))
     (b2 .mark-above .last .0)
     (λ q less. b2 .mark-above .ensures q less
-    ∙ sym (decides-slot crew read h (crew .n) class (a .phase) (b6 .mark-fresh .last .0) (start .pre .1)
-    (λ k inside. b6 .mark-fresh .ensures k inside ∙ sym (fresh-slot crew read h (crew .n) class (a .phase) k)) q)))
+    ∙ sym (decides-slot read h (crew .n) crew class (a .phase) (b6 .mark-fresh .last .0) (start .pre .1)
+    (λ k inside. b6 .mark-fresh .ensures k inside ∙ sym (fresh-slot read h (crew .n) class (a .phase) k)) q)))
 
 pub least-deciding-spec : {M : Type 1} → statement M
 least-deciding-spec =

@@ -1,32 +1,51 @@
 -- `least_marked` meets its contract.
-use mathlib.Core.Option.{Option}
-use mathlib.Core.Path.{_∙_}
+use mathlib.Core.Path.{ap, subst}
 use Prim.Native.Nat.{ℕ}
+use native.Mathlib.Omega.{arith}
 use lib.ListN.{getD}
-use borrow.Author.Needs.{needs}
 use denote.Ref.{now}
-use Rattle.tally.proofs.Marking.{top-none, top-some}
-use Rattle.tally.specs.Marks.{marked, leastMarked}
+use Rattle.ballot.specs.Least.{orZero}
+use Rattle.tally.specs.Marks.{marked, FirstOf}
+use Rattle.tally.proofs.Marking.{least-first}
+use borrow.Author.Needs.{needs}
 use Rattle.tally.proofs.least_marked.Statement.{statement}
 use Rattle.tally.proofs.least_marked.Tie as tie
 
-least-or-top-requires : tie.Need-least-or-top-requires
-least-or-top-requires c κs = search needs
+first-marked-requires : tie.Need-first-marked-requires
+first-marked-requires c κs = search needs
 
-cast-result : tie.Need-cast-result
-cast-result c = search needs
+enum-known-first : tie.Need-enum-known-first
+enum-known-first c = search needs
+
+least-from-requires : tie.Need-least-from-requires
+least-from-requires c κs =
+    let told = c .before in
+    let a = told .before .before .before .args in
+    let marks = now (a .marks) in
+    let vote : ℕ → ℕ = λ k. getD (now (a .votes)) k 0 in
+    let is = subst (FirstOf marks (a .n)) (told .first .given .1) (told .before .before .first-marked .ensures) in
+    (omega arith, is .0, least-first (marked marks) vote _ (is .1) (is .2 vote))
+
+enum-told : tie.Need-enum-told
+enum-told c = search needs
 
 returns : tie.Need-returns
-returns c = let a = c .before .before .args in
-    let least : Option ℕ = leastMarked (marked (now (a .marks))) (λ k. getD (now (a .votes)) k 0) (a .n) in
-    let is = c .before .least-or-top .ensures in
-    is .0 ∙ top-some least (rw (is .0) at (c .if1 .taken))
+returns c = ap orZero (c .least-from .ensures)
 
 returns-2 : tie.Need-returns-2
-returns-2 c = let a = c .before .before .args in
-    let least : Option ℕ = leastMarked (marked (now (a .marks))) (λ k. getD (now (a .votes)) k 0) (a .n) in
-    let is = c .before .least-or-top .ensures in
-    top-none least (rw (is .0) at (c .if1 .left)) (is .1)
+returns-2 c =
+    let a = c .before .before .before .args in
+    let is = subst (FirstOf (now (a .marks)) (a .n)) (c .enum-told .given .1)
+    (c .before .before .first-marked .ensures) in
+    ap orZero (is (λ k. getD (now (a .votes)) k 0))
 
 pub least-marked-spec : {M : Type 1} → statement M
-least-marked-spec = tie.close (tie.spec least-or-top-requires cast-result returns returns-2)
+least-marked-spec =
+    tie.close
+    (tie.spec
+    first-marked-requires
+    enum-known-first
+    least-from-requires
+    enum-told
+    returns
+    returns-2)

@@ -35,8 +35,8 @@ returns c =
     let crew = a .crew in
     let read = columns (now (a .present)) (now (a .votes)) (now (a .stamps)) in
     c .least-marked .ensures
-    ∙ sym (least-of crew read h (crew .n) (valid crew (polled read h (crew .n))) (b2 .mark-above .last .0)
-    (λ q less. b2 .mark-above .ensures q less ∙ sym (valid-slot crew read h (crew .n) q)))
+    ∙ sym (least-of read h (crew .n) (valid crew (polled read h (crew .n))) (b2 .mark-above .last .0)
+    (λ q less. b2 .mark-above .ensures q less ∙ sym (valid-slot read h (crew .n) crew q)))
 
 pub least-valid-spec : {M : Type 1} → statement M
 least-valid-spec =

@@ -8,6 +8,7 @@ use lib.Dec.{ltb}
 use lib.ListN.{length, getD, length-set}
 use borrow.Author.Needs.{needs}
 use denote.Ref.{now}
+use Rattle.crew.specs.Parts.{mostNodes}
 use Rattle.ballot.specs.Count.{tally}
 use Rattle.tally.proofs.Marking.{marks-next, over-next, either-below}
 use Rattle.tally.specs.Marks.{Marks, marked, supporting, supporters, above}
@@ -17,9 +18,9 @@ use Rattle.tally.proofs.mark_above.Tie as tie
 abbrev Inv-loop : tie.InvT-loop
 Inv-loop out₀ present marks votes stamps n threshold stamped below count₀ last₀ q₀ out count last q =
     (1 ≤ q)
-    × (q ≤ 32)
-    × (last < 32)
-    × (length out ≡ 32)
+    × (q ≤ mostNodes)
+    × (last < mostNodes)
+    × (length out ≡ mostNodes)
     × (count ≡ supporters marks votes stamps n stamped last)
     × Marks out q (above present marks votes stamps n threshold stamped)
 
@@ -104,7 +105,7 @@ loop-again c =
     let count = b3 .count-present in (
       omega arith,
       omega arith,
-      rw slot (either-below here (l .q) (l .last) 32 (omega arith) (l .inv .2)),
+      rw slot (either-below here (l .q) (l .last) mostNodes (omega arith) (l .inv .2)),
       length-set (l .out) (l .q) _ ∙ l .inv .3,
       count .ensures ∙ ap number (sym slot),
       marks-next (l .out) (l .q) test _ (omega (arith, l .inv .3, b3 .before .before .loop-test .taken)) (l .inv .5)

@@ -5,13 +5,14 @@ use native.Mathlib.Omega.{arith}
 use lib.ListN.{length, length-set, getD}
 use borrow.Author.Needs.{needs}
 use denote.Ref.{now}
+use Rattle.crew.specs.Parts.{mostNodes}
 use Rattle.tally.proofs.Marking.{marks-next}
 use Rattle.tally.specs.Marks.{Marks, over}
 use Rattle.tally.proofs.mark_over.Statement.{statement}
 use Rattle.tally.proofs.mark_over.Tie as tie
 
 abbrev Inv-loop : tie.InvT-loop
-Inv-loop out₀ present counts n threshold q₀ out q = (q ≤ n) × (length out ≡ 32) × Marks out q (over present
+Inv-loop out₀ present counts n threshold q₀ out q = (q ≤ n) × (length out ≡ mostNodes) × Marks out q (over present
     (λ k. getD counts k 0) threshold)
 
 abbrev μ-loop : tie.MeasureT-loop

@@ -5,6 +5,7 @@ use native.Mathlib.Omega.{arith}
 use lib.ListN.{length, length-set}
 use borrow.Author.Needs.{needs}
 use denote.Ref.{now}
+use Rattle.crew.specs.Parts.{mostNodes}
 use Rattle.tally.proofs.Marking.{marks-next}
 use Rattle.tally.specs.Marks.{Marks, stampedWith}
 use Rattle.tally.proofs.mark_stamped.Statement.{statement}
@@ -13,7 +14,7 @@ use Rattle.tally.proofs.mark_stamped.Tie as tie
 abbrev Inv-loop : tie.InvT-loop
 Inv-loop out₀ present stamps n stamp q₀ out q =
     (q ≤ n)
-    × (length out ≡ 32)
+    × (length out ≡ mostNodes)
     × Marks out q (stampedWith present stamps stamp)
 
 abbrev μ-loop : tie.MeasureT-loop

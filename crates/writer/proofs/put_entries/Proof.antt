@@ -7,6 +7,7 @@ use native.Mathlib.Omega.{arith}
 use lib.ListN.{length}
 use lib.Seq.{sets}
 use borrow.Author.Needs.{needs}
+use Rattle.message.specs.Layout.{entriesPlace}
 use Rattle.writer.proofs.HistoryLaws.{room-turn, stores-turn, listed-end}
 use Rattle.message.specs.Encoding.{entryBytes}
 use Rattle.writer.specs.Writing.{listed}
@@ -18,7 +19,7 @@ Inv-loop buf₀ phases history place₀ phase₀ buf place phase =
     (length buf ≡ length buf₀)
     × (place + length (entryBytes (listed history phase (phases - phase))) ≤ length buf)
     × (sets buf place (entryBytes (listed history phase (phases - phase)))
-    ≡ sets buf₀ 13 (entryBytes (listed history 0 phases)))
+    ≡ sets buf₀ entriesPlace (entryBytes (listed history 0 phases)))
     × (phase ≤ phases)
 
 abbrev μ-loop : tie.MeasureT-loop

@@ -5,6 +5,7 @@ use native.Mathlib.Numerals.{towards-suc}
 use native.Mathlib.Omega.{arith}
 use lib.ListN.{length-set}
 use borrow.Author.Needs.{needs}
+use Rattle.wire.proofs.Stores.{laid-room}
 use Rattle.message.specs.Encoding.{entryBytes}
 use Rattle.writer.proofs.put_entry.Statement.{statement}
 use Rattle.writer.proofs.put_entry.Tie as tie
@@ -17,33 +18,28 @@ unfolding entryBytes
 slice-write-buf c =
     omega (arith, simp (sym (c .before .is-plan .ensures) ∙ c .if1 .taken) at (c .before .before .before .pre))
 
-add-put16 : tie.Need-add-put16
-add-put16 c = search needs
+add-put-plan : tie.Need-add-put-plan
+add-put-plan c = search needs
 
-put16-requires : tie.Need-put16-requires
-unfolding entryBytes
-put16-requires c κs =
-    let b4 = c .before .before .before .before in
-    simp length-set (omega (
-      arith,
-      simp (sym (c .before .before .is-plan .ensures) ∙ c .before .if1 .taken) at (b4 .pre),
-    ))
+put-plan-requires : tie.Need-put-plan-requires
+put-plan-requires c κs = search needs
 
 add-result : tie.Need-add-result
 add-result c = search needs
 
 same-length : tie.Need-same-length
-same-length c = omega (arith, c .before .before .put16 .kept .0, simp length-set at (c .before .before .put16 .kept .0))
+same-length c =
+    let kept = c .before .before .put-plan .kept .0 in
+    omega (arith, kept, simp length-set at kept)
 
 returns : tie.Need-returns
 unfolding entryBytes
 returns c =
     let b4 = c .before .before .before .before in
-    simp (
-      sym (b4 .before .is-plan .ensures) ∙ b4 .if1 .taken,
-      towards-suc,
-      c .before .before .put16 .ensures,
-    ) (search needs)
+    let full = sym (b4 .before .is-plan .ensures) ∙ b4 .if1 .taken in
+    let room = simp full at (b4 .before .before .before .pre) in
+    let laid = laid-room _ _ _ (c .before .before .put-plan .ensures) (simp length-set (omega (arith, room))) in
+    simp (full, towards-suc, laid) (search needs)
 
 returns-2 : tie.Need-returns-2
 unfolding entryBytes
@@ -55,8 +51,8 @@ put-entry-spec =
     (tie.spec
     is-plan-requires
     slice-write-buf
-    add-put16
-    put16-requires
+    add-put-plan
+    put-plan-requires
     add-result
     same-length
     returns

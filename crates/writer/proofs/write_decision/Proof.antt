@@ -2,6 +2,7 @@
 use native.Mathlib.Omega.{arith}
 use lib.ListN.{length-set}
 use borrow.Author.Needs.{needs}
+use Rattle.wire.proofs.Stores.{laid-room}
 use denote.Ref.{now}
 use Rattle.writer.proofs.WriteLaws.{written, too-short, out-of-bounds}
 use Rattle.message.specs.Encoding.{encode}
@@ -31,8 +32,8 @@ returns c =
 put-header-requires : tie.Need-put-header-requires
 put-header-requires c κs = search needs
 
-put16-requires : tie.Need-put16-requires
-put16-requires c κs = search needs
+put-plan-requires : tie.Need-put-plan-requires
+put-plan-requires c κs = search needs
 
 slice-write-buf : tie.Need-slice-write-buf
 slice-write-buf c = search needs
@@ -43,7 +44,7 @@ cast-t11 c = search needs
 same-length : tie.Need-same-length
 same-length c =
     let b4 = c .before .before .before .before in
-    simp length-set (omega (arith, c .before .before .put16 .kept .0, b4 .before .before .put-header .kept .0))
+    simp length-set (omega (arith, c .before .before .put-plan .kept .0, b4 .before .before .put-header .kept .0))
 
 returns-2 : tie.Need-returns-2
 unfolding encode
@@ -52,7 +53,9 @@ returns-2 c =
     let b8 = b4 .before .before .before .before in
     let b12 = b8 .before .before .before .before in
     let a = b12 .before .args in
-    simp (c .before .before .put16 .ensures, b4 .before .before .put-header .ensures)
+    let put = b4 .before .before .put-header in
+    let laid = laid-room _ _ _ (c .before .before .put-plan .ensures) (omega (arith, put .kept .0, b8 .if2 .left)) in
+    simp (laid, put .ensures)
     (written (decisionOf (a .run) (a .phase) (a .vote) (a .stamp)) (now (a .buf))
     (simp (
       b8 .before .before .before .is-phase .ensures,
@@ -73,7 +76,7 @@ write-decision-spec =
     cast-if2
     returns
     put-header-requires
-    put16-requires
+    put-plan-requires
     slice-write-buf
     cast-t11
     same-length

@@ -4,9 +4,11 @@ use Prim.Native.Nat.{ℕ, _+_, _*_}
 use native.Mathlib.Omega.{arith}
 use lib.ListN.{length, length-set}
 use borrow.Author.Needs.{needs}
+use Rattle.wire.proofs.Stores.{laid-room}
 use denote.Ref.{now}
 use Rattle.wire.specs.Outcome.{accepted}
 use Rattle.message.proofs.EncodeLaws.{entry-bytes-length}
+use Rattle.message.specs.Layout.{entriesPlace, entrySize}
 use Rattle.writer.proofs.WriteLaws.{
   allowed-within,
   selection-written,
@@ -55,8 +57,8 @@ cast-put-header c = search needs
 put-header-requires : tie.Need-put-header-requires
 put-header-requires c κs = search needs
 
-put16-requires : tie.Need-put16-requires
-put16-requires c κs = search needs
+put-plan-requires : tie.Need-put-plan-requires
+put-plan-requires c κs = search needs
 
 slice-write-buf : tie.Need-slice-write-buf
 slice-write-buf c = search needs
@@ -70,7 +72,7 @@ slice-write-buf-2 c =
     let b8 = b4 .before .before .before .before in
     simp length-set (omega (
       arith,
-      c .before .before .put16 .kept .0,
+      c .before .before .put-plan .kept .0,
       b4 .before .before .put-header .kept .0,
       b8 .if2 .left,
     ))
@@ -92,7 +94,7 @@ put-entries-requires c κs =
       arith,
       few,
       long,
-      c .before .before .before .put16 .kept .0,
+      c .before .before .before .put-plan .kept .0,
       b4 .before .before .before .put-header .kept .0,
       b8 .before .if2 .left,
       b8 .before .before .count-entries .ensures .0,
@@ -105,7 +107,7 @@ same-length c =
     omega (
       arith,
       simp length-set at (c .before .before .put-entries .kept .0),
-      b4 .before .before .put16 .kept .0,
+      b4 .before .before .put-plan .kept .0,
       b8 .before .before .put-header .kept .0,
     )
 
@@ -125,10 +127,11 @@ returns-2 c =
     let done =
     selection-written (a .run) (a .phase) (a .vote) (a .stamp) (a .history) (a .phases) (now (a .buf)) allowed
     (omega (arith, count, b12 .if2 .left)) in (
-      ap (λ (k : ℕ). accepted (13 + 3 * k)) count ∙ done .0,
+      ap (λ (k : ℕ). accepted (entriesPlace + entrySize * k)) count ∙ done .0,
       simp (
         c .before .before .put-entries .ensures,
-        b4 .before .before .put16 .ensures,
+        laid-room _ _ _ (b4 .before .before .put-plan .ensures)
+            (omega (arith, b8 .before .before .put-header .kept .0, b12 .if2 .left)),
         b8 .before .before .put-header .ensures,
         count,
       ) (done .1),
@@ -152,7 +155,7 @@ write-selection-spec =
     returns
     cast-put-header
     put-header-requires
-    put16-requires
+    put-plan-requires
     slice-write-buf
     cast-buf
     slice-write-buf-2

@@ -1,5 +1,7 @@
 -- `write_validation` meets its contract.
+use native.Mathlib.Omega.{arith}
 use borrow.Author.Needs.{needs}
+use Rattle.wire.proofs.Stores.{laid-room}
 use denote.Ref.{now}
 use Rattle.writer.proofs.WriteLaws.{written, too-short, out-of-bounds}
 use Rattle.message.specs.Encoding.{encode}
@@ -29,8 +31,8 @@ returns c =
 put-header-requires : tie.Need-put-header-requires
 put-header-requires c κs = search needs
 
-put16-requires : tie.Need-put16-requires
-put16-requires c κs = search needs
+put-plan-requires : tie.Need-put-plan-requires
+put-plan-requires c κs = search needs
 
 cast-t8 : tie.Need-cast-t8
 cast-t8 c = search needs
@@ -45,7 +47,9 @@ returns-2 c =
     let b8 = b4 .before .before .before .before in
     let b12 = b8 .before .before .before .before in
     let a = b12 .before .args in
-    simp (c .before .before .put16 .ensures, b4 .before .before .put-header .ensures)
+    let put = b4 .before .before .put-header in
+    let laid = laid-room _ _ _ (c .before .before .put-plan .ensures) (omega (arith, put .kept .0, b8 .if2 .left)) in
+    simp (laid, put .ensures)
     (written (validationOf (a .run) (a .phase) (a .plan)) (now (a .buf))
     (simp (
       b8 .before .before .before .is-phase .ensures,
@@ -66,7 +70,7 @@ write-validation-spec =
     cast-if2
     returns
     put-header-requires
-    put16-requires
+    put-plan-requires
     cast-t8
     same-length
     returns-2

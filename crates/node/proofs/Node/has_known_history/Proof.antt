@@ -8,6 +8,7 @@ use Prim.Native.Nat.{_-_}
 use lib.Dec.{leb}
 use lib.ListN.{getD}
 use borrow.Author.Needs.{needs}
+use Rattle.wire.specs.Sizes.{historySize}
 use Rattle.node.specs.Soundness.{emptyFrom}
 use Rattle.node.proofs.Histories.{empty-more, empty-end}
 use Rattle.node.proofs.Node.has_known_history.Statement.{statement}
@@ -15,10 +16,11 @@ use Rattle.node.proofs.Node.has_known_history.Tie as tie
 
 abbrev Inv-loop : tie.InvT-loop
 Inv-loop history known₀ phase₀ known phase =
-    (known && emptyFrom history phase (64 - phase)) ≡ (known₀ && emptyFrom history phase₀ (64 - phase₀))
+    (known && emptyFrom history phase (historySize - phase))
+    ≡ (known₀ && emptyFrom history phase₀ (historySize - phase₀))
 
 abbrev μ-loop : tie.MeasureT-loop
-μ-loop history known₀ phase₀ known phase = 64 - phase
+μ-loop history known₀ phase₀ known phase = historySize - phase
 
 array-read-known : tie.Need-array-read-known Inv-loop μ-loop
 array-read-known c = search needs
@@ -53,7 +55,8 @@ returns c =
     let history = first .before .before .args .self .history in
     empty-end _ _ _ (c .loop-test .left)
     ∙ c .before .loop .inv
-    ∙ ap (λ phase. leb 1 (getD history 0 0) && emptyFrom history phase (64 - phase)) (first .first-unselected .ensures)
+    ∙ ap (λ phase. leb 1 (getD history 0 0) && emptyFrom history phase (historySize - phase))
+    (first .first-unselected .ensures)
 
 pub has-known-history-spec : {M : Type 1} → statement M
 has-known-history-spec =

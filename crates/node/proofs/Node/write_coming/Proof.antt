@@ -3,7 +3,7 @@
 use native.Mathlib.Omega.{arith}
 use borrow.Author.Needs.{needs}
 use denote.Ref.{now}
-use Rattle.node.proofs.Coming.{validates, decides}
+use Rattle.node.proofs.Coming.{confirms, decides}
 use Rattle.node.proofs.Facts.{sound-facts, last-round}
 use Rattle.node.proofs.SendLaws.{message-written, selection-written, silence-written}
 use Rattle.node.proofs.Node.write_coming.Statement.{statement}
@@ -36,7 +36,7 @@ returns-2 c =
     let plan = c .before .before .before .before in
     let start = plan .before .before .before .before .before .before .before in
     message-written (start .args .self) (now (start .args .buf)) (start .pre .0) (start .pre .1)
-    (validates (plan .before .before .if2 .taken) (plan .if3 .taken)) (c .before .before .write-validation .ensures)
+    (confirms (plan .before .before .if2 .taken) (plan .if3 .taken)) (c .before .before .write-validation .ensures)
 
 returns-3 : tie.Need-returns-3
 returns-3 c =

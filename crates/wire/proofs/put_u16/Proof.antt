@@ -1,0 +1,63 @@
+-- `put_u16` meets its contract.
+use mathlib.Core.Path.{sym, _∙_}
+use Prim.Native.Nat.{_+_, _≤_}
+use native.Mathlib.Omega.{arith}
+use native.Mathlib.Numerals.{add-one}
+use denote.Ref.{now}
+use lib.ListN.{length, length-set}
+use borrow.Author.Needs.{needs}
+use borrow.Author.Tests.{leb-true}
+use Rattle.wire.specs.Bytes.{laid}
+use Rattle.wire.proofs.put_u16.Statement.{statement}
+use Rattle.wire.proofs.put_u16.Tie as tie
+use Rattle.wire.proofs.put_u16.Reads as reads
+use Rattle.wire.proofs.put_u16.Lts as lts
+use Rattle.wire.proofs.has_room.Reads as has-room-reads
+
+-- the bytes have room where the test passed
+room : (c : lts.Then1 (has-room-reads.Asked, has-room-reads.Learnt) reads.Pre reads.Post)
+    → (c .before .before .before .args .place) + 2 ≤ length (now (c .before .before .before .args .buf))
+room c = leb-true _ _ (sym (c .before .has-room .ensures) ∙ c .if1 .taken)
+
+has-room-requires : tie.Need-has-room-requires
+has-room-requires c κs = search needs
+
+cast-buf : tie.Need-cast-buf
+cast-buf c = search needs
+
+slice-write-buf : tie.Need-slice-write-buf
+slice-write-buf c = omega (arith, room c)
+
+cast-buf-2 : tie.Need-cast-buf-2
+cast-buf-2 c = search needs
+
+add-buf : tie.Need-add-buf
+add-buf c = let fits = room c in search needs
+
+slice-write-buf-2 : tie.Need-slice-write-buf-2
+slice-write-buf-2 c = simp length-set (omega (arith, room c))
+
+same-length : tie.Need-same-length
+same-length c = search needs
+
+returns : tie.Need-returns
+unfolding laid
+returns c = simp (sym (c .before .has-room .ensures) ∙ c .if1 .taken, add-one)
+
+returns-2 : tie.Need-returns-2
+unfolding laid
+returns-2 c = simp (sym (c .before .has-room .ensures) ∙ c .if1 .left)
+
+pub put-u16-spec : {M : Type 1} → statement M
+put-u16-spec =
+    tie.close
+    (tie.spec
+    has-room-requires
+    cast-buf
+    slice-write-buf
+    cast-buf-2
+    add-buf
+    slice-write-buf-2
+    same-length
+    returns
+    returns-2)
