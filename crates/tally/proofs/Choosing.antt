@@ -1,7 +1,7 @@
 -- Selection from marks: marks for the backed slots, and how many slots 'any' counts, make selection's answer.
 -- Assumes nothing.
 use mathlib.Core.Path.{_≡_, refl, sym, ap, ap₂, _∙_}
-use mathlib.Core.Bool.{Bool, true, false, cond}
+use mathlib.Core.Bool.{Bool, true, false}
 use mathlib.Core.List.{List}
 use Prim.Native.Nat.{ℕ, _<_}
 use native.Mathlib.Omega.{arith}
@@ -12,7 +12,7 @@ use Rattle.wire.specs.Entry.{Entry}
 use Rattle.ballot.specs.Count.{tally}
 use Rattle.ballot.specs.Selection.{Backing, nobody, sole, several, Choice, backed, enough, answer, selection}
 use Rattle.inbox.specs.Columns.{Columns, polled}
-use Rattle.tally.specs.Marks.{Marks, marked, stampedWith, freshSlot, backingMarked, isBacked}
+use Rattle.tally.specs.Marks.{Marks, marked, stampedWith, backingMarked, isBacked}
 use Rattle.tally.proofs.Tallies.{tally-same}
 use Rattle.tally.proofs.Polling.{voteAt, onSlot, backing-polled, backing-same}
 use Rattle.tally.proofs.Ruling.{counting, unstamped}
@@ -65,9 +65,3 @@ pub backed-anyway : (votes : Backing) (slots : Bool) → isBacked votes ≡ true
 backed-anyway nobody slots e = absurd (let z : _≡_ {A = ℕ} 0 1 = cc in omega arith)
 backed-anyway (sole u) slots e = refl
 backed-anyway several slots e = refl
-
--- classes 2 and 3 count the same slots in a decision
-pub fresh-later : (second : Bool) (present : List Bool) (stamps : List ℕ) (phase q : ℕ)
-    → stampedWith present stamps phase q ≡ freshSlot (cond second two three) present stamps phase q
-fresh-later true present stamps phase q = refl
-fresh-later false present stamps phase q = refl

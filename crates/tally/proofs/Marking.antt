@@ -1,19 +1,20 @@
 -- What the loops that mark slots, and those that look for the least vote and the highest count, go by.
 -- Assumes nothing.
-use mathlib.Core.Path.{_≡_, refl, ap, ap₂, _∙_}
-use mathlib.Core.Bool.{Bool, true, false, cond, _&&_}
+use mathlib.Core.Path.{_≡_, refl, sym, ap, ap₂, _∙_}
+use mathlib.Core.Bool.{Bool, true, false, not, cond, _&&_}
 use mathlib.Core.List.{List}
-use mathlib.Core.Option.{none, some}
+use mathlib.Core.Option.{Option, none, some}
 use Prim.Native.Nat.{ℕ, zero, suc, _+_, _<_, max}
 use native.Mathlib.Numerals.{add-one}
 use native.Mathlib.Omega.{arith}
-use lib.Dec.{ltb}
+use lib.Dec.{ltb, eqb}
 use lib.ListN.{length, getD, set}
 use lib.Seq.{getD-set-same, getD-set-other}
-use borrow.Author.Tests.{ltb-true, ltb-false}
+use borrow.Author.Tests.{ltb-true, ltb-false, ne-eqb}
 use Rattle.wire.proofs.Tests.{by-equality}
-use Rattle.ballot.specs.Least.{lower}
-use Rattle.tally.specs.Marks.{Marks, Counts, marked, over, leastMarked, highest}
+use Rattle.ballot.specs.Count.{tally}
+use Rattle.ballot.specs.Least.{lower, orZero}
+use Rattle.tally.specs.Marks.{Marks, Counts, marked, supporting, over, above, leastMarked, foundAs, highest}
 
 -- one slot more of a column is as it should be
 column-next : {A : Type 0} (column : List A) (q : ℕ) (is : ℕ → A) (here other : A) → q < length column
@@ -91,3 +92,104 @@ highest-same test a b zero same = refl
 highest-same test a b (suc n) same =
     ap₂ (λ number best. cond (test n) (max number best) best) (same n (omega arith))
     (highest-same test a b n (λ q less. same q (omega arith)))
+
+-- The loop that looks for the least vote that more than `threshold` of the marked slots have.
+module _ (marks : List Bool) (votes stamps : List ℕ) (n threshold : ℕ) where
+  abbrev vote : ℕ → ℕ
+  vote q = getD votes q 0
+
+  -- so many have this vote, and a marked slot has such a vote
+  abbrev pub isOver : ℕ → Bool
+  isOver v = ltb threshold (tally (supporting marks votes stamps v 0) n)
+
+  abbrev pub overSlot : ℕ → Bool
+  overSlot = above marks marks votes stamps n threshold false
+
+  -- the least vote among the first q slots
+  abbrev pub leastOver : ℕ → Option ℕ
+  leastOver = leastMarked overSlot vote
+
+  -- the vote adds nothing to the least one: it was counted before
+  abbrev Settled : ℕ → Option ℕ → Type 0
+  Settled v least = isOver v ≡ true → lower v least ≡ least
+
+  settled-over : (v : ℕ) (least : Option ℕ) → Settled v (lower v least)
+  settled-over v none over = ap some (omega arith)
+  settled-over v (some w) over = ap some (omega arith)
+
+  settled-under : (v : ℕ) (least : Option ℕ) → isOver v ≡ false → Settled v least
+  settled-under v least under over = absurd (let z : _≡_ {A = ℕ} 0 1 = cc in omega arith)
+
+  -- where the loop stands before slot q: what it has for the least vote, and which vote it counted last
+  pub record Sought (last : ℕ) (least : Option ℕ) (q : ℕ) : Type 0 where
+    pub least-so-far : least ≡ leastOver q
+    pub last-settled : Settled last least
+
+  -- where no slot is marked yet, none is over
+  pub none-over : (q : ℕ) → none ≡ leastMarked (marked marks) vote q → none ≡ leastOver q
+  unfolding leastMarked
+  none-over zero e = refl
+  none-over (suc q) e = go (marked marks q) refl (none-over q) e
+    where
+      before : Option ℕ
+      before = leastMarked (marked marks) vote q
+
+      no-lower : (v : ℕ) (least : Option ℕ) → none ≡ lower v least → ⊥
+      no-lower v none e = let z : _≡_ {A = ℕ} 0 1 = cc in omega arith
+      no-lower v (some w) e = let z : _≡_ {A = ℕ} 0 1 = cc in omega arith
+
+      go : (here : Bool) → marked marks q ≡ here → (none ≡ before → none ≡ leastOver q)
+          → none ≡ cond here (lower (vote q) before) before → none ≡ leastOver (suc q)
+      go true m earlier e = absurd (no-lower (vote q) before e)
+      go false m earlier e = rw m (earlier e)
+
+  -- one slot more that is marked: its vote is over, or it is not
+  pub sought-over : (q : ℕ) (least : Option ℕ) → marked marks q ≡ true → isOver (vote q) ≡ true
+      → least ≡ leastOver q → Sought (vote q) (lower (vote q) least) (q + 1)
+  unfolding leastMarked
+  sought-over q least here over is =
+      record { least-so-far = rw (add-one q, here, over, ← is); last-settled = settled-over (vote q) least }
+
+  pub sought-under : (q : ℕ) (least : Option ℕ) → marked marks q ≡ true → isOver (vote q) ≡ false
+      → least ≡ leastOver q → Sought (vote q) least (q + 1)
+  unfolding leastMarked
+  sought-under q least here under is =
+      record { least-so-far = rw (add-one q, here, under) is; last-settled = settled-under (vote q) least under }
+
+  -- the first slot that is marked
+  pub sought-first : (q : ℕ) → marked marks q ≡ true → none ≡ leastMarked (marked marks) vote q
+      → (over : Bool) → isOver (vote q) ≡ over → Sought (vote q) (foundAs over (vote q)) (q + 1)
+  sought-first q here first true over = sought-over q none here over (none-over q first)
+  sought-first q here first false under = sought-under q none here under (none-over q first)
+
+  -- one slot more that is not marked, or has the vote that was counted last
+  pub sought-same : (q last : ℕ) (least : Option ℕ) → (marked marks q && not (eqb (vote q) last)) ≡ false
+      → Sought last least q → Sought last least (q + 1)
+  unfolding leastMarked
+  sought-same q last least same sought = record {
+    least-so-far = rw (add-one q, ← sought .least-so-far) (go (marked marks q) refl);
+    last-settled = sought .last-settled;
+  }
+    where
+      apart : true ≡ false → ⊥
+      apart e = let z : _≡_ {A = ℕ} 0 1 = cc in omega arith
+
+      held : (over : Bool) → isOver last ≡ over → least ≡ cond over (lower last least) least
+      held true e = sym (sought .last-settled e)
+      held false e = refl
+
+      go : (here : Bool) → marked marks q ≡ here
+          → least ≡ cond (here && isOver (vote q)) (lower (vote q) least) least
+      go false m = refl
+      go true m = by-equality (vote q) last
+          (λ e. rw e (held (isOver last) refl))
+          (λ differ. absurd (apart (simp (m, ne-eqb _ _ differ) at same)))
+
+  -- the end of the loop
+  pub sought-done : (last : ℕ) (found : Bool) (least q : ℕ) → Sought last (foundAs found least) q → q ≡ n
+      → cond found least 0 ≡ orZero (leastOver n)
+  sought-done last found least q sought e = go found ∙ ap orZero (sought .least-so-far ∙ ap leastOver e)
+    where
+      go : (b : Bool) → cond b least 0 ≡ orZero (foundAs b least)
+      go true = refl
+      go false = refl

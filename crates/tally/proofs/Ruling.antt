@@ -31,7 +31,7 @@ use Rattle.ballot.specs.Ballot.{Ballot, votes, stamped, lists}
 use Rattle.ballot.specs.Least.{least, leastOf, orZero}
 use Rattle.ballot.specs.Selection.{supports, possible, backed, leading, mostVoted}
 use Rattle.ballot.specs.Validation.{valid}
-use Rattle.ballot.specs.Decision.{fresh, decides}
+use Rattle.ballot.specs.Decision.{fresh, decides, decision}
 use Rattle.inbox.specs.Columns.{Columns, rowOf, polled}
 use Rattle.tally.specs.Marks.{
   Marks,
@@ -39,7 +39,6 @@ use Rattle.tally.specs.Marks.{
   supporting,
   above,
   stampedWith,
-  freshSlot,
   listing,
   listedAbove,
   leastMarked,
@@ -58,6 +57,7 @@ use Rattle.tally.proofs.Polling.{
   least-same,
 }
 use Rattle.ballot.proofs.Counting.{tally-has}
+use Rattle.ballot.proofs.Decision.{decision-fresh}
 
 -- nobody passes a bound where the highest number does not
 highest-within : (test : ℕ → Bool) (number : ℕ → ℕ) (bound n : ℕ)
@@ -143,20 +143,23 @@ module _ (read : Columns) (h : ℕ → List Entry) (n : ℕ) where
   pub unstamped : countIf (stamped 0) ballots ≡ tally (stampedWith (read .present) (read .stamps) 0) n
   unstamped = count-polled read h n (stamped 0) _ (λ q less. refl)
 
-  -- the least vote that passes a test of plans, where marks single out the slots with such votes
-  pub least-of : (f : ℕ → Bool) (marks : List Bool) → Marks marks n (onSlot read h (λ m. f (m .vote)))
-      → leastOf f ballots ≡ orZero (leastMarked (marked marks) (voteAt read h) n)
+  -- the least vote that passes a test of plans, where a test of slots singles out those with such votes
+  pub least-of : (f test : ℕ → Bool) → ((q : ℕ) → q < n → test q ≡ onSlot read h (λ m. f (m .vote)) q)
+      → leastOf f ballots ≡ orZero (leastMarked test (voteAt read h) n)
   unfolding leastOf
-  least-of f marks are =
+  least-of f test are =
       ap orZero (least-polled read h n (λ m. f (m .vote))
-      ∙ sym (least-same (marked marks) (onSlot read h (λ m. f (m .vote))) (voteAt read h) n are))
+      ∙ sym (least-same test (onSlot read h (λ m. f (m .vote))) (voteAt read h) n are))
 
-  -- in class 1 every slot's vote counts; in the others those with the phase's stamp
-  pub fresh-slot : (class : Class) (phase q : ℕ)
-      → onSlot read h (fresh class phase) q ≡ freshSlot class (read .present) (read .stamps) phase q
-  fresh-slot one phase q = on-slot read h (fresh one phase) q ∙ and-true (marked (read .present) q)
-  fresh-slot two phase q = on-slot read h (fresh two phase) q
-  fresh-slot three phase q = on-slot read h (fresh three phase) q
+  -- the slots whose votes count in a decision: in class 1 all, in the others those with the phase's stamp
+  pub fresh-one : (phase : ℕ) → Marks (read .present) n (onSlot read h (fresh one phase))
+  fresh-one phase q less = sym (on-slot read h (fresh one phase) q ∙ and-true (marked (read .present) q))
+
+  pub fresh-later : (second : Bool) (phase : ℕ) (marks : List Bool)
+      → Marks marks n (stampedWith (read .present) (read .stamps) phase)
+      → Marks marks n (onSlot read h (fresh (cond second two three) phase))
+  fresh-later true phase marks are q less = are q less ∙ sym (on-slot read h (fresh two phase) q)
+  fresh-later false phase marks are q less = are q less ∙ sym (on-slot read h (fresh three phase) q)
 
   -- how many slots vote for a plan, and how many for the plan of most votes
   abbrev pub votesFor : ℕ → ℕ
@@ -249,12 +252,24 @@ module _ (read : Columns) (h : ℕ → List Entry) (n : ℕ) where
         ∙ ap (here q)
         (half (validAbove crew) _ ∙ ap (ltb (validAbove crew / 2)) (votes-polled read h n (voteAt read h q)))
 
-    pub decides-slot : (class : Class) (phase : ℕ) (marks : List Bool) → 1 ≤ crew .d
-        → Marks marks n (onSlot read h (fresh class phase)) → (q : ℕ)
-        → onSlot read h (λ m. decides class crew phase ballots (m .vote)) q
-        ≡ above (read .present) marks (read .votes) (read .stamps) n (crew .d - 1) false q
+    -- with marks for the slots whose votes count
+    pub decided-least : (class : Class) (phase : ℕ) (marks : List Bool) → 1 ≤ crew .d
+        → Marks marks n (onSlot read h (fresh class phase))
+        → decision class crew phase ballots
+        ≡ orZero (leastMarked (above marks marks (read .votes) (read .stamps) n (crew .d - 1) false) (voteAt read h) n)
     unfolding decides
-    decides-slot class phase marks some are q =
-        on-slot read h (λ m. decides class crew phase ballots (m .vote)) q
-        ∙ ap (here q) (reach (crew .d) _ some
-        ∙ ap (ltb (crew .d - 1)) (marked-polled read h n (voteAt read h q) (fresh class phase) marks are))
+    decided-least class phase marks some are =
+        decision-fresh class crew phase ballots some
+        ∙ ap orZero (least-polled read h n fewer ∙ least-same (onSlot read h fewer) _ (voteAt read h) n slot)
+      where
+        fewer : Ballot → Bool
+        fewer m = fresh class phase m && decides class crew phase ballots (m .vote)
+
+        slot : (q : ℕ) → q < n
+            → onSlot read h fewer q ≡ above marks marks (read .votes) (read .stamps) n (crew .d - 1) false q
+        slot q less =
+            on-slot read h fewer q
+            ∙ sym (and-assoc (marked (read .present) q) (fresh class phase (rowOf read h q)) _)
+            ∙ ap₂ _&&_ (sym (are q less ∙ on-slot read h (fresh class phase) q))
+            (reach (crew .d) _ some
+            ∙ ap (ltb (crew .d - 1)) (marked-polled read h n (voteAt read h q) (fresh class phase) marks are))

@@ -8,7 +8,6 @@ use mathlib.Core.List.{List}
 use mathlib.Core.Option.{Option, none, some}
 use lib.ListN.{getD}
 use lib.Dec.{ltb, eqb}
-use Rattle.crew.specs.Thresholds.{Class, one, two, three}
 use Rattle.ballot.specs.Count.{tally}
 use Rattle.ballot.specs.Least.{lower}
 use Rattle.ballot.specs.Selection.{Backing, nobody, sole, several}
@@ -56,12 +55,6 @@ above present marks votes stamps n threshold stamped = over present (supporters 
 abbrev pub stampedWith : List Bool → List ℕ → ℕ → ℕ → Bool
 stampedWith present stamps stamp q = marked present q && eqb (getD stamps q 0) stamp
 
--- a slot whose vote counts in a decision
-abbrev pub freshSlot : Class → List Bool → List ℕ → ℕ → ℕ → Bool
-freshSlot one present stamps phase q = marked present q
-freshSlot two present stamps phase q = stampedWith present stamps phase q
-freshSlot three present stamps phase q = stampedWith present stamps phase q
-
 -- a slot that is present lists the plan at a phase
 abbrev pub listing : List Bool → List ℕ → ℕ → ℕ → ℕ → Bool
 listing present bytes v phase q = marked present q && listsAt bytes q v phase
@@ -79,6 +72,10 @@ listedAbove marks present votes stamps bytes n threshold q =
 unfoldable pub leastMarked : (ℕ → Bool) → (ℕ → ℕ) → ℕ → Option ℕ
 leastMarked test vote zero = none
 leastMarked test vote (suc n) = cond (test n) (lower (vote n) (leastMarked test vote n)) (leastMarked test vote n)
+
+-- the least vote so far, where one was found
+abbrev pub foundAs : Bool → ℕ → Option ℕ
+foundAs found least = cond found (some least) none
 
 -- a marked slot has another vote
 abbrev pub besideIt : (ℕ → Bool) → (ℕ → ℕ) → ℕ → ℕ → Bool

@@ -8,7 +8,7 @@ use message::SLOT;
 use node::Node;
 use wire::Plan;
 ghost use mathlib.Core.Path.{_≡_};
-ghost use mathlib.Core.Bool.{cond, _&&_};
+ghost use mathlib.Core.Bool.{false, cond, _&&_};
 ghost use mathlib.Core.List.{List};
 ghost use mathlib.Core.Option.{some};
 ghost use lib.Dec.{ltb};
@@ -16,7 +16,7 @@ ghost use Prim.Native.Nat.{ℕ, _+_, _-_, _<_, _≤_};
 ghost use lib.ListN.{length, getD};
 ghost use Rattle.wire.specs.Entry.{Entry};
 ghost use Rattle.ballot.specs.Count.{bit, tally};
-ghost use Rattle.ballot.specs.Least.{orZero};
+ghost use Rattle.ballot.specs.Least.{lower, orZero};
 ghost use Rattle.ballot.specs.Selection.{anyIf, answer, selection, mostVoted, anyPlan, takenOn};
 ghost use Rattle.ballot.specs.Validation.{validated};
 ghost use Rattle.ballot.specs.Decision.{decision};
@@ -33,11 +33,11 @@ ghost use Rattle.tally.specs.Marks.{
   over,
   above,
   stampedWith,
-  freshSlot,
   listing,
   AllListable,
   listedAbove,
   leastMarked,
+  foundAs,
   FirstOf,
   besideIt,
   backingMarked,
@@ -767,6 +767,69 @@ pub fn select(crew: Crew, run: u32, phase: u8, inbox: &[u8]) -> Plan
     Node::NO_PLAN
 }
 
+// The lower of a vote and the least that was found before, where one was.
+fn lower_found(found: bool, vote: Plan, least: Plan) -> Plan
+    ensures { λ r. ⌜ some r ≡ lower vote (foundAs found least) ⌝ }
+{
+    if found {
+        if least < vote {
+            return least;
+        }
+    }
+    vote
+}
+
+// The least vote that more than `threshold` of the marked slots have, 0 where there is none.
+fn least_above(
+    marks: &[bool; MOST_NODES],
+    votes: &[Plan; MOST_NODES],
+    stamps: &[u8; MOST_NODES],
+    n: usize,
+    threshold: u16,
+) -> Plan
+    requires { ⌜ n ≤ mostNodes ⌝ }
+    ensures { λ r. ⌜ r ≡ orZero (leastMarked
+        (above (now (marks .entry)) (now (marks .entry)) (now (votes .entry)) (now (stamps .entry)) n threshold false)
+        (λ q. getD (now (votes .entry)) q 0) n) ⌝ }
+{
+    match first_marked(marks, n) {
+        First::Slot(first) => least_above_from(marks, votes, stamps, n, threshold, first),
+        First::NoSlot => Node::NO_PLAN,
+    }
+}
+
+// The same where `first` is the first of the marked slots. A slot with the vote that was counted last is passed over.
+fn least_above_from(
+    marks: &[bool; MOST_NODES],
+    votes: &[Plan; MOST_NODES],
+    stamps: &[u8; MOST_NODES],
+    n: usize,
+    threshold: u16,
+    first: usize,
+) -> Plan
+    requires { ⌜ (n ≤ mostNodes) × FirstOf (now marks) n (First.Slot first) ⌝ }
+    ensures { λ r. ⌜ r ≡ orZero (leastMarked
+        (above (now (marks .entry)) (now (marks .entry)) (now (votes .entry)) (now (stamps .entry)) n threshold false)
+        (λ q. getD (now (votes .entry)) q 0) n) ⌝ }
+{
+    let mut last = votes[first];
+    let mut least = last;
+    let mut found = threshold < count_supporting(marks, votes, stamps, n, last, Node::UNSTAMPED);
+    let mut q = first + 1;
+    while q < n {
+        let other = marks[q] & !(votes[q] == last);
+        if other {
+            last = votes[q];
+            if threshold < count_supporting(marks, votes, stamps, n, last, Node::UNSTAMPED) {
+                least = lower_found(found, last, least);
+                found = true;
+            }
+        }
+        q = q + 1;
+    }
+    if found { least } else { Node::NO_PLAN }
+}
+
 // The plan that more than half of n + b slots hold, 0 where none does.
 fn least_valid(
     crew: Crew,
@@ -781,9 +844,7 @@ fn least_valid(
 {
     let n = crew.n as usize;
     let half = (crew.n as u16 + crew.b as u16) / 2;
-    let mut valid = [false; MOST_NODES];
-    mark_above(&mut valid, present, present, votes, stamps, n, half, false);
-    least_marked(&valid, votes, n)
+    least_above(present, votes, stamps, n, half)
 }
 
 // 01: "If a plan stands in c slots with 2c > n + b": that plan, 0 where there is none.
@@ -808,25 +869,6 @@ pub fn validate(crew: Crew, run: u32, phase: u8, inbox: &[u8]) -> Plan
     Node::NO_PLAN
 }
 
-// The slots whose votes decide. 01: "in classes 2 and 3 only slots whose stamp is the phase"
-fn mark_fresh(
-    out: &mut [bool; MOST_NODES],
-    crew: Crew,
-    phase: u8,
-    present: &[bool; MOST_NODES],
-    stamps: &[u8; MOST_NODES],
-)
-    requires { ⌜ (crew .n ≤ mostNodes) × (length (now out) ≡ mostNodes) ⌝ }
-    ensures { λ _. ⌜ Marks (now (out .exit)) (crew .n)
-        (freshSlot (classOf crew) (now (present .entry)) (now (stamps .entry)) phase) ⌝ }
-{
-    if crew.class == Crew::CLASS_ONE {
-        *out = *present;
-        return;
-    }
-    mark_stamped(out, present, stamps, crew.n as usize, phase);
-}
-
 // The least plan that at least D slots hold, 0 where none does.
 fn least_deciding(
     crew: Crew,
@@ -841,20 +883,13 @@ fn least_deciding(
         (crew .n))) ⌝ }
 {
     let n = crew.n as usize;
+    let fewer = crew.d as u16 - 1;
+    if crew.class == Crew::CLASS_ONE {
+        return least_above(present, votes, stamps, n, fewer);
+    }
     let mut fresh = [false; MOST_NODES];
-    mark_fresh(&mut fresh, crew, phase, present, stamps);
-    let mut deciding = [false; MOST_NODES];
-    mark_above(
-        &mut deciding,
-        present,
-        &fresh,
-        votes,
-        stamps,
-        n,
-        crew.d as u16 - 1,
-        false,
-    );
-    least_marked(&deciding, votes, n)
+    mark_stamped(&mut fresh, present, stamps, n, phase);
+    least_above(&fresh, votes, stamps, n, fewer)
 }
 
 // 01: "plans in at least D slots": the least, 0 where there is none.

@@ -56,7 +56,7 @@ returns-2 c =
     (b8 .count-each .ensures) in
     let voted : 1 ≤ most read h (a .n) = omega (arith, b5 .if1 .left, highest) in
     c .least-marked .ensures
-    ∙ sym (least-of read h (a .n) (leading (polled read h (a .n))) (b2 .mark-over .last .0)
+    ∙ sym (least-of read h (a .n) (leading (polled read h (a .n))) (marked (b2 .mark-over .last .0))
     (λ q less. b2 .mark-over .ensures q less
     ∙ ap (λ count. marked (now (a .present)) q && ltb (best - 1) count) (b8 .count-each .ensures q less)
     ∙ ap (λ top. marked (now (a .present)) q && ltb (top - 1) (votesFor read h (a .n) (getD (now (a .votes)) q 0)))

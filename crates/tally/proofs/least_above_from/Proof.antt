@@ -1,0 +1,140 @@
+-- `least_above_from` meets its contract. The invariant: the least vote of the first q slots that is over the threshold,
+-- and the vote that was counted last adds nothing to it.
+use mathlib.Core.Bool.{cond}
+use mathlib.Core.Logic.{inl, inr}
+use mathlib.Core.Path.{_≡_, sym, ap, _∙_}
+use Prim.Native.Nat.{_-_, _≤_}
+use native.Mathlib.Omega.{arith}
+use lib.Dec.{ltb}
+use borrow.Author.Needs.{needs}
+use borrow.Author.Tests.{lt-ltb, le-ltb}
+use denote.Ref.{now}
+use Rattle.wire.proofs.Tests.{both-true}
+use Rattle.tally.proofs.Marking.{Sought, sought-first, sought-over, sought-under, sought-same, sought-done}
+use Rattle.tally.specs.Marks.{foundAs}
+use Rattle.tally.proofs.least_above_from.Statement.{statement}
+use Rattle.tally.proofs.least_above_from.Tie as tie
+
+abbrev Inv-loop : tie.InvT-loop
+Inv-loop marks votes stamps n threshold first last₀ least₀ found₀ q₀ last least found q =
+    (q ≤ n) × Sought marks votes stamps n threshold last (foundAs found least) q
+
+abbrev μ-loop : tie.MeasureT-loop
+μ-loop marks votes stamps n threshold first last₀ least₀ found₀ q₀ last least found q = n - q
+
+mul-last : tie.Need-mul-last Inv-loop μ-loop
+mul-last c = search needs
+
+element-copy-out-last : tie.Need-element-copy-out-last Inv-loop μ-loop
+element-copy-out-last c = search needs
+
+count-supporting-requires : tie.Need-count-supporting-requires Inv-loop μ-loop
+count-supporting-requires c κs = search needs
+
+add-q : tie.Need-add-q Inv-loop μ-loop
+add-q c = search needs
+
+loop-holds : tie.Need-loop-holds Inv-loop μ-loop
+loop-holds c =
+    let start = c .before .before in
+    let a = start .args in
+    let over = ap (ltb (a .threshold)) (c .count-supporting .ensures .0) in (
+      omega arith,
+      sought-first (now (a .marks)) (now (a .votes)) (now (a .stamps)) (a .n) (a .threshold) (a .first)
+          (start .pre .1 .1) (start .pre .1 .2 _) _ (sym over),
+    )
+
+element-copy-out-other : tie.Need-element-copy-out-other Inv-loop μ-loop
+element-copy-out-other c = search needs
+
+mul-other : tie.Need-mul-other Inv-loop μ-loop
+mul-other c = search needs
+
+element-copy-out-other-2 : tie.Need-element-copy-out-other-2 Inv-loop μ-loop
+element-copy-out-other-2 c = search needs
+
+mul-last-2 : tie.Need-mul-last-2 Inv-loop μ-loop
+mul-last-2 c = search needs
+
+element-copy-out-last-2 : tie.Need-element-copy-out-last-2 Inv-loop μ-loop
+element-copy-out-last-2 c = search needs
+
+count-supporting-requires-2 : tie.Need-count-supporting-requires-2 Inv-loop μ-loop
+count-supporting-requires-2 c κs = search needs
+
+lower-found-requires : tie.Need-lower-found-requires Inv-loop μ-loop
+lower-found-requires c κs = search needs
+
+add-q-2 : tie.Need-add-q-2 Inv-loop μ-loop
+add-q-2 c = search needs
+
+loop-less : tie.Need-loop-less Inv-loop μ-loop
+loop-less c = search needs
+
+loop-again : tie.Need-loop-again Inv-loop μ-loop
+loop-again c =
+    let l = c .before .before .before .before .loop in
+    let a = c .before .before .before .before .before .before .before .args in
+    let marks = now (a .marks) in
+    let votes = now (a .votes) in
+    let stamps = now (a .stamps) in
+    let so-far = l .inv .1 .least-so-far in (
+      omega arith,
+      elim (c .if1 .came) [
+        | inl over ↦
+            rw (over .5, over .6, over .7, over .4 .ensures)
+            (sought-over marks votes stamps (a .n) (a .threshold) (l .q) _ (both-true _ _ (over .0 .taken) .0)
+            (ap (ltb (a .threshold)) (sym (over .2 .ensures .0)) ∙ lt-ltb _ _ (over .3 .taken)) so-far)
+        | inr others ↦ elim others [
+          | inl under ↦
+              rw (under .4, under .5, under .6)
+              (sought-under marks votes stamps (a .n) (a .threshold) (l .q) _ (both-true _ _ (under .0 .taken) .0)
+              (ap (ltb (a .threshold)) (sym (under .2 .ensures .0)) ∙ le-ltb _ _ (under .3 .left)) so-far)
+          | inr same ↦
+              rw (same .1, same .2, same .3)
+              (sought-same marks votes stamps (a .n) (a .threshold) (l .q) (l .last) _ (same .0 .left) (l .inv .1))
+        ]
+      ],
+    )
+
+returns : tie.Need-returns Inv-loop μ-loop
+returns c =
+    let l = c .before .before .loop in
+    let a = c .before .before .before .before .before .args in
+    let done : l .q ≡ a .n = omega (arith, l .inv .0, c .before .loop-test .left) in
+    ap (λ b. cond b (l .least) 0) (sym (c .if3 .taken))
+    ∙ sought-done (now (a .marks)) (now (a .votes)) (now (a .stamps)) (a .n) (a .threshold) (l .last) (l .found)
+    (l .least) (l .q) (l .inv .1) done
+
+returns-2 : tie.Need-returns-2 Inv-loop μ-loop
+returns-2 c =
+    let l = c .before .before .loop in
+    let a = c .before .before .before .before .before .args in
+    let done : l .q ≡ a .n = omega (arith, l .inv .0, c .before .loop-test .left) in
+    ap (λ b. cond b (l .least) 0) (sym (c .if3 .left))
+    ∙ sought-done (now (a .marks)) (now (a .votes)) (now (a .stamps)) (a .n) (a .threshold) (l .last) (l .found)
+    (l .least) (l .q) (l .inv .1) done
+
+pub least-above-from-spec : {M : Type 1} → statement M
+least-above-from-spec =
+    tie.close
+    (tie.spec
+    Inv-loop
+    μ-loop
+    mul-last
+    element-copy-out-last
+    count-supporting-requires
+    add-q
+    loop-holds
+    element-copy-out-other
+    mul-other
+    element-copy-out-other-2
+    mul-last-2
+    element-copy-out-last-2
+    count-supporting-requires-2
+    lower-found-requires
+    add-q-2
+    loop-less
+    loop-again
+    returns
+    returns-2)
