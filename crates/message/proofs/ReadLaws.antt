@@ -1,19 +1,20 @@
 -- What reading tells of the bytes that were read, and the other way round: for all three kinds at once.
 -- Assumes nothing.
 use mathlib.Core.Path.{_≡_, refl, sym, ap, _∙_}
-use mathlib.Core.Bool.{Bool, true, false, cond, _&&_}
+use mathlib.Core.Bool.{Bool, true, false, cond}
 use mathlib.Core.Logic.{_≢_}
 use mathlib.Core.List.{List, []}
 use Prim.Native.Nat.{ℕ, _+_, _*_, _≤_}
 use native.Mathlib.Omega.{arith}
 use lib.Dec.{leb, eqb}
-use lib.ListN.{length, take, drop}
-use borrow.Author.Tests.{leb-true, eqb-true, eq-eqb, le-leb}
-use Rattle.wire.specs.Outcome.{Outcome, accepted, refused, require}
+use lib.ListN.{length, getD, take, drop}
+use borrow.Author.Tests.{leb-true, eqb-true, eq-eqb, ne-eqb, le-leb}
+use Rattle.wire.specs.Outcome.{accepted}
+use Rattle.wire.specs.Sizes.{planSize}
 use Rattle.wire.proofs.Tests.{both-true}
 use Rattle.wire.proofs.Outcomes.{passed, same-value}
-use Rattle.message.specs.Layout.{headerSize, entriesPlace, entrySize}
-use Rattle.message.specs.Fields.{Message}
+use Rattle.message.specs.Layout.{headerSize, planPlace, countPlace, entriesPlace, entrySize}
+use Rattle.message.specs.Fields.{Body, selection, validation, decision, Message}
 use Rattle.message.specs.Bounds.{within}
 use Rattle.message.specs.Encoding.{sizeOf}
 use Rattle.message.specs.Reading.{
@@ -43,33 +44,34 @@ framed-long s e =
     let h = both-true _ _ e in
     (leb-true _ _ (both-true _ _ (h .0) .0), leb-true _ _ (h .1))
 
--- a kind other than 1, 2 and 3 is not known
-unknown : (kind : ℕ) → kind ≢ 1 → kind ≢ 2 → kind ≢ 3 → leb 1 kind && leb kind 3 ≡ false
-unknown kind a b c = go (leb 1 kind) (leb kind 3) refl refl
-  where
-    go : (low high : Bool) → leb 1 kind ≡ low → leb kind 3 ≡ high → low && high ≡ false
-    go true true e h = absurd (omega (arith, leb-true, a, b, c))
-    go true false e h = refl
-    go false high e h = refl
+-- the kind picks the body; any but 1 and 2 picks a decision's
+module _ {kind : ℕ} (s : List ℕ) (is : kind ≡ kindAt s) where
+  pub kind-one : kind ≡ 1 → bodyAt s ≡ selectionAt s
+  unfolding bodyAt
+  kind-one one = rw (sym is ∙ one)
 
--- the kind picks the body
-abbrev byKind : List ℕ → Outcome Message
-byKind s = require (kindKnown s) 11 (tested s (bodyAt s))
+  pub kind-two : kind ≡ 2 → bodyAt s ≡ validationAt s
+  unfolding bodyAt
+  kind-two two = rw (sym is ∙ two)
 
-pub kind-one : (s : List ℕ) → kindAt s ≡ 1 → byKind s ≡ tested s (selectionAt s)
-unfolding bodyAt
-kind-one s e = rw e
+  pub kind-other : kind ≢ 1 → kind ≢ 2 → bodyAt s ≡ decisionAt s
+  unfolding bodyAt
+  kind-other not-one not-two = simp (← is, ne-eqb _ _ not-one, ne-eqb _ _ not-two)
 
-pub kind-two : (s : List ℕ) → kindAt s ≡ 2 → byKind s ≡ tested s (validationAt s)
-unfolding bodyAt
-kind-two s e = rw e
+  -- how long a selection is, by the count that stands in it
+  pub size-one : kind ≡ 1 → sizeOf (bodyAt s) ≡ entriesPlace + entrySize * getD s countPlace 0
+  size-one one = simp (kind-one one, entries-count)
 
-pub kind-three : (s : List ℕ) → kindAt s ≡ 3 → byKind s ≡ tested s (decisionAt s)
-unfolding bodyAt
-kind-three s e = rw e
+-- every kind has a plan after the header
+pub plan-in : (body : Body) → planPlace + planSize ≤ sizeOf body
+plan-in (selection vote stamp entries) = omega arith
+plan-in (validation plan) = omega arith
+plan-in (decision vote stamp) = omega arith
 
-pub kind-unknown : (s : List ℕ) → kindAt s ≢ 1 → kindAt s ≢ 2 → kindAt s ≢ 3 → byKind s ≡ refused 11
-kind-unknown s a b c = rw (unknown (kindAt s) a b c)
+-- a framed slice of the length that its kind asks for holds so many bytes
+pub size-held : (s : List ℕ) → framed s ≡ true → eqb (lengthAt s) (sizeOf (bodyAt s)) ≡ true
+    → sizeOf (bodyAt s) ≤ length s
+size-held s frame size = omega (arith, framed-long s frame .1, eqb-true (lengthAt s) (sizeOf (bodyAt s)) size)
 
 -- the tests that a slice passes which is read to a message
 pub record Passes (s : List ℕ) (m : Message) : Type 0 where

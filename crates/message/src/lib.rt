@@ -7,16 +7,19 @@ use wire::PLAN_SIZE;
 use wire::Plan;
 use wire::RUN_SIZE;
 ghost use mathlib.Core.Path.{_≡_};
+ghost use mathlib.Core.Bool.{_&&_};
 ghost use Prim.Native.Nat.{_+_, _*_, _<_, _≤_, min};
 ghost use lib.ListN.{length, getD, drop};
-ghost use Rattle.wire.specs.Outcome.{accepted, require};
+ghost use lib.Dec.{leb, eqb};
 ghost use Rattle.wire.specs.Bytes.{numberAt};
 ghost use Rattle.wire.specs.Sizes.{planSize, runSize};
 ghost use Rattle.message.specs.Layout.{runPlace, headerSize, planPlace, stampPlace};
 ghost use Rattle.message.specs.Layout.{countPlace, entriesPlace, entrySize};
 ghost use Rattle.message.specs.Bounds.{phaseOk, planOk, entriesOk, leastAfter, within};
+ghost use Rattle.message.specs.Encoding.{sizeOf};
 ghost use Rattle.message.specs.Reading.{
   lengthAt,
+  kindAt,
   messageWith,
   entriesIn,
   listedAt,
@@ -25,8 +28,6 @@ ghost use Rattle.message.specs.Reading.{
   decisionAt,
   bodyAt,
   framed,
-  kindKnown,
-  tested,
   readOf,
   entriesCounted,
   entriesPartOf,
@@ -245,106 +246,88 @@ fn is_decision(s: &[u8]) -> bool
     is_phase(s[PHASE_AT]) & (is_plan(plan_at(s, PLAN_AT)) & (s[STAMP_AT] <= s[PHASE_AT]))
 }
 
-// The message of a framed slice that says this.
-fn message_of(s: &[u8], body: Body) -> Reading
-    requires { ⌜ headerSize ≤ length (now s) ⌝ }
-    ensures { λ r. ⌜ readAs r (now (s .entry))
-        ≡ accepted (messageWith (now (s .entry)) (bodyAs body (now (s .entry)))) ⌝ }
+// Whether a kind is one of the three: 01's 11.
+fn is_kind(kind: u16) -> bool
+    ensures { λ r. ⌜ r ≡ (leb 1 kind && leb kind 3) ⌝ }
 {
-    Reading::Message(Message {
-        run: run_of(s),
-        phase: s[PHASE_AT],
-        body: body,
-    })
+    (SELECTION <= kind) & (kind <= DECISION)
 }
 
-// A framed slice of kind 1.
-fn read_selection(s: &[u8]) -> Reading
-    requires { ⌜ (headerSize ≤ length (now s)) × (lengthAt (now s) ≤ length (now s)) ⌝ }
-    ensures { λ r. ⌜ readAs r (now (s .entry)) ≡ tested (now (s .entry)) (selectionAt (now (s .entry))) ⌝ }
+// Whether a framed slice is as long as its kind asks: 01's 12. Here and in the two functions below the kinds are tried
+// in one order, selections first: reading is faster so.
+fn has_length(s: &[u8], kind: u16) -> bool
+    requires { ⌜ (headerSize ≤ length (now s)) × (lengthAt (now s) ≤ length (now s)) × (kind ≡ kindAt (now s)) ⌝ }
+    ensures { λ r. ⌜ r ≡ eqb (lengthAt (now (s .entry))) (sizeOf (bodyAt (now (s .entry)))) ⌝ }
 {
     let size = u16_at(s, LENGTH_AT);
-    // A shorter message has no byte that says how many entries follow.
-    if size < SELECTION_LENGTH {
-        return Reading::Refused(Refusal::Length);
-    }
-    if size == SELECTION_LENGTH + (ENTRY_SIZE as u16) * wide(s[COUNT_AT]) {
-        if is_selection(s) {
-            let vote = plan_at(s, PLAN_AT);
-            let stamp = s[STAMP_AT];
-            let count = s[COUNT_AT];
-            message_of(s, Body::Selection { vote, stamp, count })
-        } else {
-            Reading::Refused(Refusal::Bound)
-        }
-    } else {
-        Reading::Refused(Refusal::Length)
-    }
-}
-
-// A framed slice of kind 2.
-fn read_validation(s: &[u8]) -> Reading
-    requires { ⌜ (headerSize ≤ length (now s)) × (lengthAt (now s) ≤ length (now s)) ⌝ }
-    ensures { λ r. ⌜ readAs r (now (s .entry)) ≡ tested (now (s .entry)) (validationAt (now (s .entry))) ⌝ }
-{
-    if u16_at(s, LENGTH_AT) == VALIDATION_LENGTH {
-        if is_validation(s) {
-            let plan = plan_at(s, PLAN_AT);
-            message_of(s, Body::Validation { plan })
-        } else {
-            Reading::Refused(Refusal::Bound)
-        }
-    } else {
-        Reading::Refused(Refusal::Length)
-    }
-}
-
-// A framed slice of kind 3.
-fn read_decision(s: &[u8]) -> Reading
-    requires { ⌜ (headerSize ≤ length (now s)) × (lengthAt (now s) ≤ length (now s)) ⌝ }
-    ensures { λ r. ⌜ readAs r (now (s .entry)) ≡ tested (now (s .entry)) (decisionAt (now (s .entry))) ⌝ }
-{
-    if u16_at(s, LENGTH_AT) == DECISION_LENGTH {
-        if is_decision(s) {
-            let vote = plan_at(s, PLAN_AT);
-            let stamp = s[STAMP_AT];
-            message_of(s, Body::Decision { vote, stamp })
-        } else {
-            Reading::Refused(Refusal::Bound)
-        }
-    } else {
-        Reading::Refused(Refusal::Length)
-    }
-}
-
-// A framed slice, by its kind.
-fn read_kind(s: &[u8]) -> Reading
-    requires { ⌜ (headerSize ≤ length (now s)) × (lengthAt (now s) ≤ length (now s)) ⌝ }
-    ensures { λ r. ⌜ readAs r (now (s .entry))
-        ≡ require (kindKnown (now (s .entry))) 11 (tested (now (s .entry)) (bodyAt (now (s .entry)))) ⌝ }
-{
-    let kind = u16_at(s, KIND_AT);
     if kind == SELECTION {
-        return read_selection(s);
+        // A shorter message has no byte that says how many entries follow.
+        if size < SELECTION_LENGTH {
+            return false;
+        }
+        return size == SELECTION_LENGTH + (ENTRY_SIZE as u16) * wide(s[COUNT_AT]);
     }
     if kind == VALIDATION {
-        return read_validation(s);
+        return size == VALIDATION_LENGTH;
     }
-    if kind == DECISION {
-        return read_decision(s);
-    }
-    Reading::Refused(Refusal::Kind)
+    size == DECISION_LENGTH
 }
 
-// Reads the message at the front of a slice; bytes after its length are ignored.
+// Whether the fields of a message that the slice holds in full keep their bounds: 01's 13.
+fn keeps_bounds(s: &[u8], kind: u16) -> bool
+    requires { ⌜ (sizeOf (bodyAt (now s)) ≤ length (now s)) × (kind ≡ kindAt (now s)) ⌝ }
+    ensures { λ r. ⌜ r ≡ within (messageWith (now (s .entry)) (bodyAt (now (s .entry)))) ⌝ }
+{
+    if kind == SELECTION {
+        return is_selection(s);
+    }
+    if kind == VALIDATION {
+        return is_validation(s);
+    }
+    is_decision(s)
+}
+
+// What a message that the slice holds in full says, by its kind.
+fn body_in(s: &[u8], kind: u16) -> Body
+    requires { ⌜ (sizeOf (bodyAt (now s)) ≤ length (now s)) × (kind ≡ kindAt (now s)) ⌝ }
+    ensures { λ r. ⌜ bodyAs r (now (s .entry)) ≡ bodyAt (now (s .entry)) ⌝ }
+{
+    let vote = plan_at(s, PLAN_AT);
+    if kind == SELECTION {
+        let stamp = s[STAMP_AT];
+        let count = s[COUNT_AT];
+        return Body::Selection { vote, stamp, count };
+    }
+    if kind == VALIDATION {
+        return Body::Validation { plan: vote };
+    }
+    let stamp = s[STAMP_AT];
+    Body::Decision { vote, stamp }
+}
+
+// Reads the message at the front of a slice; bytes after its length are ignored. These are 01's tests in 01's order,
+// with one place for each refusal: 10 not framed, 11 the kind, 12 the length, 13 a bound.
 pub fn read(s: &[u8]) -> Reading
     ensures { λ r. ⌜ readAs r (now (s .entry)) ≡ readOf (now (s .entry)) ⌝ }
 {
     if is_framed(s) {
-        read_kind(s)
-    } else {
-        Reading::Refused(Refusal::Cut)
+        let kind = u16_at(s, KIND_AT);
+        if is_kind(kind) {
+            if has_length(s, kind) {
+                if keeps_bounds(s, kind) {
+                    return Reading::Message(Message {
+                        run: run_of(s),
+                        phase: s[PHASE_AT],
+                        body: body_in(s, kind),
+                    });
+                }
+                return Reading::Refused(Refusal::Bound);
+            }
+            return Reading::Refused(Refusal::Length);
+        }
+        return Reading::Refused(Refusal::Kind);
     }
+    Reading::Refused(Refusal::Cut)
 }
 
 // The bytes of a selection's entries where reading it has told how many there are, as a part of the slice. Empty where
