@@ -5,9 +5,11 @@ use crate::engine::numbers;
 use crate::image;
 use comparison::cases::{same, show_inbox};
 use generators::{crews, inboxes, messages, plans, records, Random};
-use rail::{Answer, Refused, FIELDS, RECORD};
-use second_engine::message::ENTRY;
-use second_engine::{message, rounds, Node, Refusal, Selection};
+use rail::{Answer, Refused, FIELDS, RECORD, SLOT};
+use second_engine::message::{
+    self, DECISION_LENGTH, ENTRY, ENTRY_PLAN, MOST_ENTRIES, SELECTION_LENGTH, VALIDATION_LENGTH,
+};
+use second_engine::{plan, rounds, Node, Refusal, Selection};
 
 /// What a case compares.
 #[derive(Clone, Copy, Debug, PartialEq, Eq)]
@@ -101,7 +103,7 @@ fn compare_lengths(random: &mut Random) -> Result<(), String> {
     same(&("take", &good), lent.after(|record| rail::take(record, &inbox)), unchanged.clone())?;
     same(&("ask", &good), rail::ask(&good, &inbox), unchanged.0)?;
     same(&("result", &good), rail::result(&good), unchanged.0)?;
-    let size = random.below(230);
+    let size = random.below(SLOT + 28);
     let bytes = random.bytes(size);
     let buffer = Lent::new(random, &bytes);
     let write = buffer.after(|buffer| rail::write(&good, buffer));
@@ -171,8 +173,17 @@ fn compare_start(random: &mut Random) -> Result<(), String> {
 }
 
 fn compare_write(random: &mut Random, node: &Node, image: &[u8]) -> Result<(), String> {
-    let any_length = random.below(230);
-    let length = random.pick(&[0, 10, 11, 12, 13, 201, 202, any_length]);
+    let any_length = random.below(SLOT + 28);
+    let length = random.pick(&[
+        0,
+        VALIDATION_LENGTH - 1,
+        VALIDATION_LENGTH,
+        DECISION_LENGTH,
+        SELECTION_LENGTH,
+        SLOT - 1,
+        SLOT,
+        any_length,
+    ]);
     let bytes = random.bytes(length);
     let lent = Lent::new(random, &bytes);
     let mut after = bytes.clone();
@@ -199,13 +210,15 @@ fn compare_messages(random: &mut Random) -> Result<(), String> {
     // Every entry, and places that the message does not have, as far as a place can be.
     let entries = message::entries(&slice);
     let count = entries.len() / ENTRY;
-    let far = [62, 63, 64, 255, 256, 65_535, 1 << 32, usize::MAX / ENTRY, usize::MAX / ENTRY + 1, usize::MAX];
-    for i in (0..count + 2).chain(far) {
+    let most = usize::from(MOST_ENTRIES);
+    let near = [most - 1, most, most + 1];
+    let far = [255, 256, 65_535, 1 << 32, usize::MAX / ENTRY, usize::MAX / ENTRY + 1, usize::MAX];
+    for i in (0..count + 2).chain(near).chain(far) {
         let entry = entries.chunks_exact(ENTRY).nth(i);
         let expected = match (read, entry) {
             (Err(refusal), _) => Err(Refused(refusal.number())),
             (Ok(_), Some(entry)) => {
-                Ok(rail::ENTRY_PHASE * u64::from(entry[0]) + u64::from(u16::from_le_bytes([entry[1], entry[2]])))
+                Ok(rail::ENTRY_PHASE * u64::from(entry[0]) + u64::from(plan::at(entry, ENTRY_PLAN)))
             }
             (Ok(_), None) => Err(Refused::NO_ENTRY),
         };

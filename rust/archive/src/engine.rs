@@ -5,7 +5,7 @@ use crate::image;
 use comparison::Engine;
 use rail::{Refused, FIELDS, RECORD};
 use second_engine::message::{ENTRY, SELECTION_LENGTH};
-use second_engine::{Crew, Message, Node, Refusal, Selection};
+use second_engine::{Crew, Message, Node, Plan, Refusal, Selection};
 use std::io::Write;
 use std::path::PathBuf;
 use std::process::{Command, Stdio};
@@ -39,7 +39,7 @@ impl Engine for Archive {
         done(rail::accept(numbers(crew)))
     }
 
-    fn start(&self, crew: Crew, own: u8, run: u32, plan: u16) -> Result<Node, Refusal> {
+    fn start(&self, crew: Crew, own: u8, run: u32, plan: Plan) -> Result<Node, Refusal> {
         let mut record = [0xa5; RECORD];
         done(rail::start(numbers(crew), own, run, plan, &mut record))?;
         Ok(image::node(&record))
@@ -54,13 +54,16 @@ impl Engine for Archive {
     fn read(&self, slice: &[u8]) -> Result<Message, Refusal> {
         let mut fields = [0xa5; FIELDS];
         done(rail::read(slice, &mut fields))?;
-        Ok(image::message(&fields).unwrap_or_else(|| panic!("the archive reads a message of kind {}", fields[0])))
+        Ok(image::message(&fields)
+            .unwrap_or_else(|| panic!("the archive reads a message of kind {}", fields[image::FIELDS_KIND])))
     }
 
     fn entries<'a>(&self, slice: &'a [u8]) -> &'a [u8] {
         let mut fields = [0; FIELDS];
         match rail::read(slice, &mut fields) {
-            Ok(_) if fields[0] == 1 => &slice[SELECTION_LENGTH..][..ENTRY * usize::from(fields[9])],
+            Ok(_) if fields[image::FIELDS_KIND] == 1 => {
+                &slice[SELECTION_LENGTH..][..ENTRY * usize::from(fields[image::FIELDS_COUNT])]
+            }
             _ => &[],
         }
     }
@@ -70,7 +73,7 @@ impl Engine for Archive {
         Ok(match value {
             0 => Selection::None,
             rail::ANY => Selection::Any,
-            plan => Selection::Plan(u16::try_from(plan).unwrap_or_else(|_| panic!("the archive selects {plan}"))),
+            plan => Selection::Plan(Plan::try_from(plan).unwrap_or_else(|_| panic!("the archive selects {plan}"))),
         })
     }
 

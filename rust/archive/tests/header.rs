@@ -31,7 +31,7 @@ const NODE: Node = Node {
     stamp: 17,
     select: 0x1312,
     result: 0x1514,
-    history: [0x1716; 64],
+    history: [0x1716; Node::ENTRIES],
 };
 
 #[test]

@@ -5,6 +5,7 @@ use crate::pair::Pair;
 use crate::{runs, schedules};
 use generators::{crews, drills, inboxes, messages, plans, records, Random};
 use second_engine::inbox::SLOT;
+use second_engine::message::{DECISION_LENGTH, ENTRY, HEADER, SELECTION_LENGTH, VALIDATION_LENGTH};
 use second_engine::Node;
 use std::fmt::Debug;
 use std::fmt::Write;
@@ -70,8 +71,21 @@ fn compare_start(random: &mut Random, one: &dyn Engine, other: &dyn Engine) -> R
 
 fn compare_write(random: &mut Random, one: &dyn Engine, other: &dyn Engine) -> Result<(), String> {
     let node = records::any(random);
-    let any_length = random.below(230);
-    let length = random.pick(&[0, 8, 9, 10, 11, 12, 13, 16, 201, 202, 203, any_length]);
+    let any_length = random.below(SLOT + 28);
+    let length = random.pick(&[
+        0,
+        HEADER - 1,
+        HEADER,
+        VALIDATION_LENGTH - 1,
+        VALIDATION_LENGTH,
+        DECISION_LENGTH,
+        SELECTION_LENGTH,
+        SELECTION_LENGTH + ENTRY,
+        SLOT - 1,
+        SLOT,
+        SLOT + 1,
+        any_length,
+    ]);
     let buffer = random.bytes(length);
     let write = |engine: &dyn Engine| {
         let (mut node, mut buffer) = (node, buffer.clone());

@@ -2,21 +2,21 @@
 
 use crate::cases::expect;
 use crate::slots::Slot;
-use second_engine::{Crew, Node};
+use second_engine::{Crew, Node, Plan};
 
 /// The plans that nodes have decided so far.
 #[derive(Clone, Debug)]
 pub struct Decisions {
     crew: Crew,
     /// By own number.
-    pub plans: Vec<Option<u16>>,
+    pub plans: Vec<Option<Plan>>,
     /// The plan that all honest nodes started with, if they did.
-    pub common: Option<u16>,
+    pub common: Option<Plan>,
 }
 
 impl Decisions {
     /// Before any round, with the plans that the honest nodes start with.
-    pub fn new(crew: Crew, initial: &[u16]) -> Decisions {
+    pub fn new(crew: Crew, initial: &[Plan]) -> Decisions {
         let common = initial.first().copied().filter(|&first| initial.iter().all(|&plan| plan == first));
         Decisions { crew, plans: vec![None; usize::from(crew.n)], common }
     }
@@ -29,13 +29,13 @@ impl Decisions {
             return false;
         }
         let (class, d) = (self.crew.class, usize::from(self.crew.d));
-        let deciding: Vec<u16> = slots
+        let deciding: Vec<Plan> = slots
             .iter()
             .flatten()
             .filter(|slot| class == 1 || slot.message.stamp() == phase)
             .map(|slot| slot.message.plan())
             .collect();
-        let is_enough = |plan: &u16| deciding.iter().filter(|&other| other == plan).count() >= d;
+        let is_enough = |plan: &Plan| deciding.iter().filter(|&other| other == plan).count() >= d;
         self.plans[own] = deciding.iter().copied().filter(is_enough).min();
         self.plans[own].is_some()
     }

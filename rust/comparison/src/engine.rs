@@ -1,12 +1,12 @@
 //! The operations of an engine, as a comparison calls them, and the second engine behind them.
 
 use second_engine::{drill, message, rounds};
-use second_engine::{Crew, Message, Mutation, Node, Refusal, Selection};
+use second_engine::{Crew, Message, Mutation, Node, Plan, Refusal, Selection};
 
 /// An engine. Records are lent to be written, so that a comparison sees where a call should have left one alone.
 pub trait Engine {
     fn accept(&self, crew: Crew) -> Result<(), Refusal>;
-    fn start(&self, crew: Crew, own: u8, run: u32, plan: u16) -> Result<Node, Refusal>;
+    fn start(&self, crew: Crew, own: u8, run: u32, plan: Plan) -> Result<Node, Refusal>;
     /// Writes the coming message; 0 is silence.
     fn write(&self, node: &mut Node, buffer: &mut [u8]) -> Result<usize, Refusal>;
     fn read(&self, slice: &[u8]) -> Result<Message, Refusal>;
@@ -27,7 +27,7 @@ impl Engine for Second {
         crew.accept()
     }
 
-    fn start(&self, crew: Crew, own: u8, run: u32, plan: u16) -> Result<Node, Refusal> {
+    fn start(&self, crew: Crew, own: u8, run: u32, plan: Plan) -> Result<Node, Refusal> {
         Node::start(crew, own, run, plan)
     }
 

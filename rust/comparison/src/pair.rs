@@ -4,7 +4,7 @@
 use crate::cases::{expect, same, show_inbox};
 use crate::engine::Engine;
 use generators::runs::Setup;
-use second_engine::{Node, Refusal, Selection};
+use second_engine::{Node, Plan, Refusal, Selection};
 use std::fmt::Debug;
 
 /// The engine that is driven, and the one it is compared with. An error is a text that tells what differs.
@@ -16,7 +16,7 @@ pub struct Pair<'a> {
 
 impl Pair<'_> {
     /// The honest records, by own number, and the plans they start with.
-    pub fn start(&self, setup: &Setup) -> Result<(Vec<Option<Node>>, Vec<u16>), String> {
+    pub fn start(&self, setup: &Setup) -> Result<(Vec<Option<Node>>, Vec<Plan>), String> {
         let mut records = vec![None; setup.is_honest.len()];
         let mut initial = Vec::new();
         for &(crew, own, run, plan) in &setup.starts {

@@ -9,6 +9,7 @@ use crate::slots::{check_premise, counting_slots, is_holding, Slot};
 use generators::runs::{self, Scene, Setup, Weather};
 use generators::Random;
 use second_engine::inbox::SLOT;
+use second_engine::message::VALIDATION_LENGTH;
 use second_engine::{Crew, Node, Refusal, Selection};
 
 /// What happened in a run, to see that runs of all sorts are made.
@@ -145,7 +146,8 @@ impl<'a> Run<'a> {
             let is_kept = weather.is_kept_from_writing(random, own);
             silent[own] = self.records[own].is_some_and(|node| node.round == 2 && node.select == 0);
             if is_kept || random.chance(1, 16) {
-                let length = random.below(11);
+                // No message is shorter than a validation.
+                let length = random.below(VALIDATION_LENGTH);
                 // Silence fits in any buffer.
                 let expected = if silent[own] { Ok(0) } else { Err(Refusal::ShortBuffer) };
                 let before = random.bytes(length);

@@ -13,7 +13,7 @@ use generators::runs::{place, Setup};
 use generators::schedules::{self, Call, Event, Maker, Schedule};
 use generators::Random;
 use second_engine::inbox::SLOT;
-use second_engine::{Crew, Node, Refusal, Selection};
+use second_engine::{Crew, Node, Plan, Refusal, Selection};
 use std::collections::BTreeMap;
 use std::fmt::Write;
 
@@ -115,7 +115,7 @@ pub struct Replay<'a> {
     /// By own number, the record after each number of accepted takes, from the start's on; of a liar none.
     pub records: Vec<Vec<Node>>,
     /// The plans that the honest nodes start with.
-    initial: Vec<u16>,
+    initial: Vec<Plan>,
 }
 
 /// Plays a list of calls, in any grouping: starts first, and each call on the record that its node has by then.

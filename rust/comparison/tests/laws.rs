@@ -3,8 +3,9 @@
 use comparison::seeds::seeds;
 use generators::{crews, inboxes, messages, plans, records, Random};
 use second_engine::inbox::SLOT;
-use second_engine::{message, rounds, Refusal, Selection};
+use second_engine::{message, rounds, Node, Refusal, Selection};
 use std::collections::BTreeSet;
+use std::iter::once;
 
 /// What acceptance gives: the bounds that the proofs of agreement rest on.
 #[test]
@@ -85,12 +86,12 @@ fn what_a_record_writes_is_read_to_its_fields() {
     for seed in seeds("what_a_record_writes_is_read_to_its_fields", 20_000) {
         let random = &mut Random::new(seed);
         let node = records::any(random);
-        let length = random.below(230);
+        let length = random.below(SLOT + 28);
         let before = random.bytes(length);
         let mut after = before.clone();
         match node.write(&mut after) {
             Ok(length) => {
-                assert!(node.is_sound() && node.phase < 64, "seed {seed}");
+                assert!(node.is_sound() && node.phase < Node::SPENT, "seed {seed}");
                 assert_eq!(after[length..], before[length..], "seed {seed}");
                 assert_eq!(length == 0, node.round == 2 && node.select == 0, "seed {seed}");
                 if length > 0 {
@@ -103,7 +104,7 @@ fn what_a_record_writes_is_read_to_its_fields() {
                     let listed: Vec<u8> = (0..node.phase)
                         .map(|phase| (phase, node.history[usize::from(phase)]))
                         .filter(|&(_, plan)| plan != 0 && node.crew.class == 3 && node.round == 1)
-                        .flat_map(|(phase, plan)| [phase, plan as u8, (plan >> 8) as u8])
+                        .flat_map(|(phase, plan)| once(phase).chain(plan.to_le_bytes()))
                         .collect();
                     assert_eq!(message::entries(&after), listed, "seed {seed}");
                 }
@@ -170,7 +171,7 @@ fn the_order_of_slots_and_absent_slots_play_no_part() {
         let pool = plans::pool(random);
         let crew = crews::accepted(random);
         let node = records::sound_of(random, crew, &pool);
-        if node.phase == 64 {
+        if node.phase == Node::SPENT {
             continue;
         }
         let inbox = inboxes::whole(random, &node, &pool);

@@ -8,7 +8,7 @@ use comparison::{compare, Engine, Operation, Second};
 use comparison::{exchanges, runs, schedules};
 use generators::schedules::Schedule;
 use generators::Random;
-use second_engine::{Crew, Message, Mutation, Node, Refusal, Selection};
+use second_engine::{Crew, Message, Mutation, Node, Plan, Refusal, Selection};
 use std::cell::Cell;
 
 #[test]
@@ -84,7 +84,7 @@ impl<F: Fn(&Node) -> bool> Engine for Wrong<F> {
         Second::default().accept(crew)
     }
 
-    fn start(&self, crew: Crew, own: u8, run: u32, plan: u16) -> Result<Node, Refusal> {
+    fn start(&self, crew: Crew, own: u8, run: u32, plan: Plan) -> Result<Node, Refusal> {
         Second::default().start(crew, own, run, plan)
     }
 

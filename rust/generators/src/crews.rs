@@ -90,11 +90,13 @@ pub fn near_accepted(random: &mut Random) -> Crew {
 
 /// Every crew of small values and one step beyond, for comparisons that leave none out.
 pub fn small() -> impl Iterator<Item = Crew> {
+    let above = Crew::MOST_NODES as u8 + 2;
     let counts = |most: u8| (0..=most).chain([85, 86, 127, 128, 254, 255]);
     (0..=4).flat_map(move |class| {
-        counts(34).flat_map(move |n| {
-            counts(11)
-                .flat_map(move |b| counts(11).flat_map(move |f| counts(34).map(move |d| Crew::new(class, n, b, f, d))))
+        counts(above).flat_map(move |n| {
+            counts(11).flat_map(move |b| {
+                counts(11).flat_map(move |f| counts(above).map(move |d| Crew::new(class, n, b, f, d)))
+            })
         })
     })
 }

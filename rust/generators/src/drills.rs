@@ -1,9 +1,10 @@
 //! Drill scripts, valid and damaged.
 
 use crate::random::Random;
-use crate::{crews, plans};
+use crate::{crews, plans, runs};
 use second_engine::drill::LONGEST_INPUT;
-use second_engine::Crew;
+use second_engine::message::LAST_PHASE;
+use second_engine::{Crew, Plan};
 
 /// A script without a bad line. It may go on to the spent mark, and cut after it.
 pub fn valid(random: &mut Random) -> Vec<u8> {
@@ -17,13 +18,10 @@ pub fn valid(random: &mut Random) -> Vec<u8> {
     let initial = initial_plans(random, crew, &pool);
     let mut script = Script { text: String::new(), crew, phase: 1, round: 1 };
     script.line(&[crew.class, crew.n, crew.b, crew.f, crew.d].map(|number| number.to_string()));
-    script.line(&initial.iter().map(u16::to_string).collect::<Vec<_>>());
-    let gos = random.pick(&[0, 1, 3, 6, 9, 30, 189]);
+    script.line(&initial.iter().map(Plan::to_string).collect::<Vec<_>>());
+    let gos = random.pick(&[0, 1, 3, 6, 9, 30, runs::rounds_in_all(crew)]);
     let business = random.pick(&[0, 1, 4, 12]);
     for _ in 0..gos {
-        if script.phase > 63 {
-            break;
-        }
         for _ in 0..random.between(0, business) {
             script.cut_or_say(random, &initial, &pool);
         }
@@ -36,11 +34,11 @@ pub fn valid(random: &mut Random) -> Vec<u8> {
 }
 
 /// Mostly some b zeros; sometimes none, or any number of them. Plans are common or of a pool.
-fn initial_plans(random: &mut Random, crew: Crew, pool: &[u16]) -> Vec<u16> {
+fn initial_plans(random: &mut Random, crew: Crew, pool: &[Plan]) -> Vec<Plan> {
     let n = usize::from(crew.n);
     let any_zeros = random.between(0, n);
     let zeros = random.pick(&[0, usize::from(crew.b), usize::from(crew.b), usize::from(crew.b), any_zeros]);
-    let mut initial: Vec<u16> = (0..n).map(|_| random.pick(pool)).collect();
+    let mut initial: Vec<Plan> = (0..n).map(|_| random.pick(pool)).collect();
     for place in random.order(n).into_iter().take(zeros) {
         initial[place] = 0;
     }
@@ -81,7 +79,7 @@ impl Script {
     }
 
     /// A cut, or a say of a node that is not honest: often the same to many, and with the highest stamp.
-    fn cut_or_say(&mut self, random: &mut Random, initial: &[u16], pool: &[u16]) {
+    fn cut_or_say(&mut self, random: &mut Random, initial: &[Plan], pool: &[Plan]) {
         let liars: Vec<usize> = (0..initial.len()).filter(|&own| initial[own] == 0).collect();
         if liars.is_empty() || random.chance(1, 4) {
             return self.cut(random);
@@ -134,51 +132,56 @@ fn insert(random: &mut Random, script: &mut Vec<u8>, bytes: &[u8]) {
 }
 
 /// A line that is bad, or bad in most scripts.
-fn odd_line(random: &mut Random) -> &'static [u8] {
-    const LINES: [&[u8]; 22] = [
-        b"\n",
-        b"GO\n",
-        b"go \n",
-        b" go\n",
-        b"go 1\n",
-        b"go\r\n",
-        b"gogo\n",
-        b"stop\n",
-        b"cut 0\n",
-        b"cut 0 0 0\n",
-        b"cut 0  0\n",
-        b"cut 0 32\n",
-        b"cut 00 0\n",
-        b"cut +0 0\n",
-        b"cut 0 4294967296\n",
-        b"cut 0 18446744073709551616\n",
-        b"say 0 0 5 0\n",
-        b"say 0 0 0 0\n",
-        b"say 0 0 65536 0\n",
-        b"say 0 0 5 64\n",
-        b"say 0 0 5\n",
-        b"say 0 0 5 0 0\n",
+fn odd_line(random: &mut Random) -> String {
+    // A node, a plan and a stamp that are each one above the last there can be.
+    let no_node = format!("cut 0 {}\n", Crew::MOST_NODES);
+    let no_plan = format!("say 0 0 {} 0\n", u64::from(Plan::MAX) + 1);
+    let no_stamp = format!("say 0 0 5 {}\n", LAST_PHASE + 1);
+    let lines = [
+        "\n",
+        "GO\n",
+        "go \n",
+        " go\n",
+        "go 1\n",
+        "go\r\n",
+        "gogo\n",
+        "stop\n",
+        "cut 0\n",
+        "cut 0 0 0\n",
+        "cut 0  0\n",
+        &no_node,
+        "cut 00 0\n",
+        "cut +0 0\n",
+        "cut 0 4294967296\n",
+        "cut 0 18446744073709551616\n",
+        "say 0 0 5 0\n",
+        "say 0 0 0 0\n",
+        &no_plan,
+        &no_stamp,
+        "say 0 0 5\n",
+        "say 0 0 5 0 0\n",
     ];
-    random.pick(&LINES)
+    random.pick(&lines).to_string()
 }
 
 fn append_line(random: &mut Random, script: &mut Vec<u8>) {
     let line = odd_line(random);
-    script.extend_from_slice(line);
+    script.extend_from_slice(line.as_bytes());
 }
 
 fn insert_line(random: &mut Random, script: &mut Vec<u8>) {
     let line = odd_line(random);
     let ends: Vec<usize> = (0..script.len()).filter(|&place| script[place] == b'\n').map(|place| place + 1).collect();
     let place = random.pick(&ends);
-    script.splice(place..place, line.iter().copied());
+    script.splice(place..place, line.bytes());
 }
 
 /// Makes the script as long as may be, or one byte longer, with cuts that do no harm.
 fn lengthen(random: &mut Random, script: &mut Vec<u8>) {
     let length = LONGEST_INPUT + random.below(2);
-    while script.len() + 8 <= length {
-        script.extend_from_slice(b"cut 0 0\n");
+    let cut = b"cut 0 0\n";
+    while script.len() + cut.len() <= length {
+        script.extend_from_slice(cut);
     }
     while script.len() < length {
         script.push(b'\n');

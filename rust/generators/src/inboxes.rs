@@ -4,10 +4,11 @@ use crate::messages::{self, Fields};
 use crate::plans;
 use crate::random::Random;
 use second_engine::inbox::SLOT;
-use second_engine::{Crew, Node};
+use second_engine::message::{HEADER, LAST_PHASE};
+use second_engine::{Crew, Node, Plan};
 
-/// An inbox of 202n bytes for the record's coming round.
-pub fn whole(random: &mut Random, node: &Node, pool: &[u16]) -> Vec<u8> {
+/// An inbox with a slot for each node, for the record's coming round.
+pub fn whole(random: &mut Random, node: &Node, pool: &[Plan]) -> Vec<u8> {
     let n = usize::from(node.crew.n);
     let mut inbox = vec![0; SLOT * n];
     let count = near_bound(random, node.crew);
@@ -29,10 +30,11 @@ pub fn whole(random: &mut Random, node: &Node, pool: &[u16]) -> Vec<u8> {
     inbox
 }
 
-/// An inbox of any length, seldom 202n.
+/// An inbox of any length, seldom the right one.
 pub fn of_any_length(random: &mut Random, node: &Node) -> Vec<u8> {
     let right = SLOT * usize::from(node.crew.n);
-    let length = random.pick(&[0, 1, SLOT, right.saturating_sub(1), right, right + 1, right + SLOT, 6_464]);
+    let length =
+        random.pick(&[0, 1, SLOT, right.saturating_sub(1), right, right + 1, right + SLOT, SLOT * Crew::MOST_NODES]);
     random.bytes(length)
 }
 
@@ -47,15 +49,15 @@ fn near_bound(random: &mut Random, crew: Crew) -> usize {
 
 /// What the counting slots of one inbox have in common: few plans, few stamps, and pairs that many of them list.
 struct Scene {
-    pool: Vec<u16>,
-    leader: (u16, u8),
+    pool: Vec<Plan>,
+    leader: (Plan, u8),
     stamps: Vec<u8>,
-    listed: Vec<(u8, u16)>,
+    listed: Vec<(u8, Plan)>,
     listing: usize,
 }
 
 impl Scene {
-    fn new(random: &mut Random, node: &Node, pool: &[u16]) -> Scene {
+    fn new(random: &mut Random, node: &Node, pool: &[Plan]) -> Scene {
         let highest = match node.round {
             1 => node.phase.saturating_sub(1),
             _ => node.phase,
@@ -69,7 +71,7 @@ impl Scene {
             stamps = vec![highest];
         }
         let leader = (random.pick(pool), random.pick(&stamps));
-        let mut listed: Vec<(u8, u16)> = stamps.iter().map(|&stamp| (stamp, random.pick(pool))).collect();
+        let mut listed: Vec<(u8, Plan)> = stamps.iter().map(|&stamp| (stamp, random.pick(pool))).collect();
         listed.push((leader.1, leader.0));
         Scene { pool: pool.to_vec(), leader, stamps, listed, listing: random.pick(&[0, 2, 4, 7, 8]) }
     }
@@ -90,7 +92,7 @@ impl Scene {
 
     /// Entries of the pairs in common, at most one for each phase.
     fn list(&self, random: &mut Random, fields: &mut Fields) {
-        let mut plans = [0; 64];
+        let mut plans = [0; Node::ENTRIES];
         for &(phase, plan) in &self.listed {
             if phase < fields.phase && random.chance(self.listing, 8) {
                 plans[usize::from(phase)] = plan;
@@ -115,12 +117,12 @@ pub fn fill(random: &mut Random, slot: &mut [u8], bytes: &[u8]) {
 }
 
 /// A slot that hardly ever counts: cleared, of another run, kind or phase, malformed, or random.
-pub fn absent(random: &mut Random, slot: &mut [u8], node: &Node, pool: &[u16]) {
+pub fn absent(random: &mut Random, slot: &mut [u8], node: &Node, pool: &[Plan]) {
     // A record that is not sound can stand at a phase that no message has.
-    let phase = node.phase.clamp(1, 63);
+    let phase = node.phase.clamp(1, LAST_PHASE);
     let kind = u16::from(node.round.clamp(1, 3));
     let mut fields = messages::within(random, kind, node.run, phase, pool);
-    let other_phase = random.between(1, 63) as u8;
+    let other_phase = random.between(1, usize::from(LAST_PHASE)) as u8;
     let bytes = match random.below(9) {
         0..=2 => Vec::new(),
         3 => {
@@ -145,8 +147,8 @@ fn almost_counting(random: &mut Random, mut fields: Fields) -> Vec<u8> {
         3 => fields.entries.iter_mut().for_each(|entry| entry.1 = 0),
         _ => {
             let mut bytes = fields.layout();
-            let length: u16 = random.pick(&[203, 0, 8, bytes.len() as u16 - 1, bytes.len() as u16 + 1]);
-            bytes[..2].copy_from_slice(&length.to_le_bytes());
+            let length = random.pick(&[SLOT + 1, 0, HEADER - 1, bytes.len() - 1, bytes.len() + 1]);
+            messages::put_length(&mut bytes, length);
             return bytes;
         }
     }
@@ -172,7 +174,7 @@ pub fn case(random: &mut Random) -> (Node, Vec<u8>) {
             crate::records::sound_of(random, crew, &pool)
         }
     };
-    let is_placed = (1..=63).contains(&node.phase) && (1..=3).contains(&node.round);
+    let is_placed = (1..=LAST_PHASE).contains(&node.phase) && (1..=3).contains(&node.round);
     let inbox = if is_placed && node.crew.n > 0 && random.chance(31, 32) {
         whole(random, &node, &pool)
     } else {

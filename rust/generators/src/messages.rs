@@ -2,6 +2,9 @@
 
 use crate::plans;
 use crate::random::Random;
+use second_engine::inbox::SLOT;
+use second_engine::message::{DECISION_LENGTH, HEADER, LAST_PHASE, MOST_ENTRIES, SELECTION_LENGTH};
+use second_engine::Plan;
 
 /// The fields of a message. Nothing keeps them within the bounds; k stands on its own, to be wrong where asked.
 #[derive(Clone, Debug, PartialEq, Eq)]
@@ -9,10 +12,10 @@ pub struct Fields {
     pub kind: u16,
     pub run: u32,
     pub phase: u8,
-    pub plan: u16,
+    pub plan: Plan,
     pub stamp: u8,
     pub k: u8,
-    pub entries: Vec<(u8, u16)>,
+    pub entries: Vec<(u8, Plan)>,
 }
 
 impl Fields {
@@ -40,12 +43,16 @@ impl Fields {
 
 /// Puts the number of bytes where the length stands.
 pub fn set_length(bytes: &mut [u8]) {
-    let length = bytes.len() as u16;
-    bytes[..2].copy_from_slice(&length.to_le_bytes());
+    put_length(bytes, bytes.len());
+}
+
+/// Puts this number where the length stands.
+pub fn put_length(bytes: &mut [u8], length: usize) {
+    bytes[..2].copy_from_slice(&(length as u16).to_le_bytes());
 }
 
 /// Fields within the bounds, of this kind, run and phase.
-pub fn within(random: &mut Random, kind: u16, run: u32, phase: u8, pool: &[u16]) -> Fields {
+pub fn within(random: &mut Random, kind: u16, run: u32, phase: u8, pool: &[Plan]) -> Fields {
     let highest = if kind == 1 { phase - 1 } else { phase };
     let any_stamp = random.between(0, usize::from(highest)) as u8;
     let stamp = random.pick(&[0, highest, any_stamp]);
@@ -58,7 +65,7 @@ pub fn within(random: &mut Random, kind: u16, run: u32, phase: u8, pool: &[u16])
 }
 
 /// Entries within the bounds: none, all, or some of the earlier phases.
-fn entries(random: &mut Random, phase: u8, pool: &[u16]) -> Vec<(u8, u16)> {
+fn entries(random: &mut Random, phase: u8, pool: &[Plan]) -> Vec<(u8, Plan)> {
     let part = random.pick(&[0, 1, 4, 7, 8]);
     let mut entries = Vec::new();
     for earlier in 0..phase {
@@ -73,8 +80,8 @@ fn entries(random: &mut Random, phase: u8, pool: &[u16]) -> Vec<(u8, u16)> {
 pub fn any_within(random: &mut Random) -> Fields {
     let pool = plans::pool(random);
     let kind = random.between(1, 3) as u16;
-    let (any_phase, any_run) = (random.between(1, 63) as u8, random.number() as u32);
-    let phase = random.pick(&[1, 2, 62, 63, any_phase]);
+    let (any_phase, any_run) = (random.between(1, usize::from(LAST_PHASE)) as u8, random.number() as u32);
+    let phase = random.pick(&[1, 2, LAST_PHASE - 1, LAST_PHASE, any_phase]);
     let run = random.pick(&[0, 1, u32::MAX, any_run]);
     within(random, kind, run, phase, &pool)
 }
@@ -93,11 +100,11 @@ pub fn valid(random: &mut Random) -> Vec<u8> {
 pub fn damaged(random: &mut Random) -> Vec<u8> {
     let mut fields = any_within(random);
     match random.below(12) {
-        0 => fields.kind = random.pick(&[0, 4, 256, 257, 513, 65_535]),
-        1 => fields.phase = random.pick(&[0, 64, 65, 255]),
+        0 => fields.kind = random.pick(&[0, 4, 256, 257, 513, u16::MAX]),
+        1 => fields.phase = random.pick(&[0, LAST_PHASE + 1, LAST_PHASE + 2, 255]),
         2 => fields.plan = 0,
-        3 => fields.stamp = random.pick(&[fields.phase, fields.phase + 1, 63, 64, 255]),
-        4 => fields.k = random.pick(&[fields.k.wrapping_add(1), fields.k.wrapping_sub(1), 64, 255]),
+        3 => fields.stamp = random.pick(&[fields.phase, fields.phase + 1, LAST_PHASE, LAST_PHASE + 1, 255]),
+        4 => fields.k = random.pick(&[fields.k.wrapping_add(1), fields.k.wrapping_sub(1), MOST_ENTRIES + 1, 255]),
         5 => damage_entries(random, &mut fields),
         6 => lengthen_entries(random, &mut fields),
         _ => return damage_bytes(random, fields.layout()),
@@ -115,21 +122,23 @@ fn damage_entries(random: &mut Random, fields: &mut Fields) {
     let place = random.below(fields.entries.len());
     match random.below(4) {
         0 => fields.entries[place].1 = 0,
-        1 => fields.entries[place].0 = random.pick(&[fields.phase, fields.phase + 1, 63, 64, 255]),
+        1 => fields.entries[place].0 = random.pick(&[fields.phase, fields.phase + 1, LAST_PHASE, LAST_PHASE + 1, 255]),
         2 => fields.entries.insert(place, fields.entries[place]),
         _ => fields.entries.reverse(),
     }
     fields.k = fields.entries.len() as u8;
 }
 
-/// A selection of 62 to 70, or of 255 entries, with k as it is: above 63 it is 13 and never 12.
+/// A selection with about as many entries as there may be, or with 255, and with k as it is: above the most it is 13
+/// and never 12.
 fn lengthen_entries(random: &mut Random, fields: &mut Fields) {
-    let count = random.pick(&[62, 63, 64, 65, 70, 255]);
+    let count =
+        random.pick(&[MOST_ENTRIES - 1, MOST_ENTRIES, MOST_ENTRIES + 1, MOST_ENTRIES + 2, MOST_ENTRIES + 7, 255]);
     fields.kind = 1;
-    fields.phase = 63;
+    fields.phase = LAST_PHASE;
     fields.stamp = 0;
-    fields.entries = (0..count).map(|phase| (phase as u8, 7)).collect();
-    fields.k = count as u8;
+    fields.entries = (0..count).map(|phase| (phase, 7)).collect();
+    fields.k = count;
 }
 
 fn damage_bytes(random: &mut Random, mut bytes: Vec<u8>) -> Vec<u8> {
@@ -139,9 +148,21 @@ fn damage_bytes(random: &mut Random, mut bytes: Vec<u8>) -> Vec<u8> {
         1 => bytes[place] = random.byte(),
         // The length field alone is wrong: by one, very small or large.
         2 => {
-            let length = bytes.len() as u16;
-            let wrong = random.pick(&[0, 8, 9, 10, 12, 13, length - 1, length + 1, 202, 203, 65_535]);
-            bytes[..2].copy_from_slice(&wrong.to_le_bytes());
+            let length = bytes.len();
+            let wrong = random.pick(&[
+                0,
+                HEADER - 1,
+                HEADER,
+                HEADER + 1,
+                DECISION_LENGTH,
+                SELECTION_LENGTH,
+                length - 1,
+                length + 1,
+                SLOT,
+                SLOT + 1,
+                usize::from(u16::MAX),
+            ]);
+            put_length(&mut bytes, wrong);
             let tail = random.below(8);
             bytes.extend(random.bytes(tail));
         }
@@ -173,7 +194,7 @@ pub fn any(random: &mut Random) -> Vec<u8> {
         3..=5 => damaged(random),
         6 => truncated(random),
         _ => {
-            let count = random.below(220);
+            let count = random.below(SLOT + 18);
             random.bytes(count)
         }
     }

@@ -2,8 +2,9 @@
 
 use crate::random::Random;
 use crate::{crews, plans};
+use second_engine::message::LAST_PHASE;
 use second_engine::node::{DECISION, SELECTION, VALIDATION};
-use second_engine::{Crew, Node};
+use second_engine::{Crew, Node, Plan};
 
 /// A sound record of any accepted crew.
 pub fn sound(random: &mut Random) -> Node {
@@ -13,9 +14,9 @@ pub fn sound(random: &mut Random) -> Node {
 }
 
 /// A sound record of this crew with plans of this pool.
-pub fn sound_of(random: &mut Random, crew: Crew, pool: &[u16]) -> Node {
-    let any_phase = random.between(1, 64) as u8;
-    let phase = random.pick(&[1, 2, 3, 62, 63, 64, any_phase, any_phase]);
+pub fn sound_of(random: &mut Random, crew: Crew, pool: &[Plan]) -> Node {
+    let any_phase = random.between(1, usize::from(Node::SPENT)) as u8;
+    let phase = random.pick(&[1, 2, 3, LAST_PHASE - 1, LAST_PHASE, Node::SPENT, any_phase, any_phase]);
     let round = match crew.class {
         _ if phase == Node::SPENT => SELECTION,
         1 => random.pick(&[SELECTION, DECISION]),
@@ -65,7 +66,7 @@ fn break_condition(random: &mut Random, node: &mut Node) {
     match random.below(11) {
         0 => node.crew = crews::near_accepted(random),
         1 => node.own = random.pick(&[node.crew.n, node.crew.n + 1, 255]),
-        2 => node.phase = random.pick(&[0, 65, 128, 255]),
+        2 => node.phase = random.pick(&[0, Node::SPENT + 1, 128, 255]),
         3 => node.round = random.pick(&[0, 4, 255]),
         4 => node.round = VALIDATION,
         5 => (node.phase, node.round) = (Node::SPENT, random.pick(&[VALIDATION, DECISION])),
@@ -75,11 +76,17 @@ fn break_condition(random: &mut Random, node: &mut Node) {
         9 => node.stamp = random.pick(&[1, node.phase, node.phase + 1, 255]),
         _ => {
             let least = usize::from(node.phase) + usize::from(node.round != SELECTION);
-            let entry = random.pick(&[least, least + 1, 63]).min(63);
+            let last = Node::ENTRIES - 1;
+            let entry = random.pick(&[least, least + 1, last]).min(last);
             node.history[entry] = plans::any(random);
         }
     }
 }
+
+/// Numbers of nodes and of votes that a damaged record may have are below this, which is a little above the most.
+const NUMBERS: u8 = Crew::MOST_NODES as u8 + 8;
+/// And so with phases.
+const PHASES: u8 = Node::SPENT + 6;
 
 /// A sound record with up to three fields changed at random.
 pub fn damaged(random: &mut Random) -> Node {
@@ -87,19 +94,19 @@ pub fn damaged(random: &mut Random) -> Node {
     for _ in 0..random.between(1, 3) {
         match random.below(14) {
             0 => node.crew.class = random.byte() % 5,
-            1 => node.crew.n = random.byte() % 40,
+            1 => node.crew.n = random.byte() % NUMBERS,
             2 => node.crew.b = random.byte() % 12,
             3 => node.crew.f = random.byte() % 12,
-            4 => node.crew.d = random.byte() % 40,
-            5 => node.own = random.byte() % 40,
-            6 => node.phase = random.byte() % 70,
+            4 => node.crew.d = random.byte() % NUMBERS,
+            5 => node.own = random.byte() % NUMBERS,
+            6 => node.phase = random.byte() % PHASES,
             7 => node.round = random.byte() % 5,
-            8 => node.vote = random.number() as u16 % 3,
-            9 => node.base = random.number() as u16 % 3,
-            10 => node.stamp = random.byte() % 70,
-            11 => node.select = random.number() as u16,
-            12 => node.result = random.number() as u16,
-            _ => node.history[random.below(Node::ENTRIES)] = random.number() as u16 % 3,
+            8 => node.vote = random.number() as Plan % 3,
+            9 => node.base = random.number() as Plan % 3,
+            10 => node.stamp = random.byte() % PHASES,
+            11 => node.select = random.number() as Plan,
+            12 => node.result = random.number() as Plan,
+            _ => node.history[random.below(Node::ENTRIES)] = random.number() as Plan % 3,
         }
     }
     node

@@ -6,7 +6,8 @@ use crate::messages::{self, Fields};
 use crate::random::Random;
 use crate::{crews, plans};
 use second_engine::inbox::SLOT;
-use second_engine::{message, Crew, Node};
+use second_engine::message::{self, LAST_PHASE};
+use second_engine::{Crew, Node, Plan};
 
 /// How a run begins and how long it is.
 #[derive(Clone, Debug)]
@@ -14,10 +15,10 @@ pub struct Setup {
     pub crew: Crew,
     pub run: u32,
     /// Start calls in order; some are refused and make no node.
-    pub starts: Vec<(Crew, u8, u32, u16)>,
+    pub starts: Vec<(Crew, u8, u32, Plan)>,
     /// For each number below n, whether a start makes it honest.
     pub is_honest: Vec<bool>,
-    pub pool: Vec<u16>,
+    pub pool: Vec<Plan>,
     /// How many rounds the list has; it may go on after the spent mark.
     pub rounds: usize,
     /// In how many of 8 phases there is a circle.
@@ -51,11 +52,11 @@ impl Setup {
                 starts.push((crew, own as u8, run, plan));
             }
         }
-        let in_phase = rounds_in_phase(crew);
+        let (in_phase, all) = (rounds_in_phase(crew), rounds_in_all(crew));
         let few_phases = random.between(1, 6);
         let rounds = match random.below(16) {
-            0 if random.chance(1, 2) => 63 * in_phase + random.below(4),
-            0 => random.between(0, 63 * in_phase),
+            0 if random.chance(1, 2) => all + random.below(4),
+            0 => random.between(0, all),
             _ => few_phases * in_phase + random.below(in_phase),
         };
         Setup { crew, run, starts, is_honest, pool, rounds, good: random.pick(&[0, 1, 3, 8]) }
@@ -73,7 +74,7 @@ impl Setup {
 }
 
 /// A start that is refused: plan 0, a number not below n, or a refused crew.
-fn refused_start(random: &mut Random, crew: Crew, run: u32) -> (Crew, u8, u32, u16) {
+fn refused_start(random: &mut Random, crew: Crew, run: u32) -> (Crew, u8, u32, Plan) {
     match random.below(3) {
         0 => (crew, 0, run, 0),
         1 => (crew, crew.n, run, 1),
@@ -90,7 +91,12 @@ pub fn rounds_in_phase(crew: Crew) -> usize {
     }
 }
 
-/// The phase and round of a place in the list, or none after the 63 phases.
+/// How many rounds all phases have. 01: "phases 1 to 63"
+pub fn rounds_in_all(crew: Crew) -> usize {
+    usize::from(LAST_PHASE) * rounds_in_phase(crew)
+}
+
+/// The phase and round of a place in the list, or none after the last phase.
 pub fn place(crew: Crew, round: usize) -> Option<(u8, u8)> {
     let in_phase = rounds_in_phase(crew);
     let phase = round / in_phase + 1;
@@ -98,7 +104,7 @@ pub fn place(crew: Crew, round: usize) -> Option<(u8, u8)> {
         (1, 1) => 3,
         (_, number) => number + 1,
     };
-    (phase <= 63).then_some((phase as u8, number as u8))
+    (phase <= usize::from(LAST_PHASE)).then_some((phase as u8, number as u8))
 }
 
 /// What stays the same over the rounds of a phase.
@@ -110,10 +116,10 @@ pub struct Weather {
     /// In how many of 16 cases a message is lost, for each round.
     loss: [usize; 3],
     /// A plan whose selections are lost, to all nodes or to one camp.
-    censored: Option<(u16, bool)>,
+    censored: Option<(Plan, bool)>,
     /// The camp of each node; messages between camps are lost more often, and liars please each camp.
     camp: Vec<bool>,
-    favourite: [u16; 2],
+    favourite: [Plan; 2],
     liar: Liar,
 }
 
@@ -140,11 +146,11 @@ impl Weather {
         let any_size = random.between(least, circle.len());
         circle.truncate(random.pick(&[least, least, any_size]));
         // Adaptive: a plan that was decided or that honest nodes vote for now, and one to set against it.
-        let votes: Vec<u16> = records.iter().flatten().map(|node| node.vote).collect();
+        let votes: Vec<Plan> = records.iter().flatten().map(|node| node.vote).collect();
         let decided = records.iter().flatten().map(|node| node.result).find(|&result| result != 0);
         let is_open = records.iter().flatten().any(|node| node.result == 0);
         let leading = decided.unwrap_or(random.pick(&votes));
-        let rivals: Vec<u16> = votes.iter().chain(&setup.pool).copied().filter(|&plan| plan != leading).collect();
+        let rivals: Vec<Plan> = votes.iter().chain(&setup.pool).copied().filter(|&plan| plan != leading).collect();
         let rival = random.pick(&rivals);
         let (both, one) = ([leading, rival], [rival, rival]);
         const LIARS: [Liar; 7] =
@@ -184,7 +190,7 @@ impl Weather {
         random.chance(loss, 16)
     }
 
-    fn is_censored(&self, plan: u16, to: usize) -> bool {
+    fn is_censored(&self, plan: Plan, to: usize) -> bool {
         self.censored.is_some_and(|(censored, is_for_all)| plan == censored && (is_for_all || self.camp[to]))
     }
 }
@@ -283,7 +289,7 @@ impl Scene<'_> {
     }
 
     /// The plan, mostly with the newest stamp there can be, and listed at every phase.
-    fn push(&self, random: &mut Random, plan: u16) -> Vec<u8> {
+    fn push(&self, random: &mut Random, plan: Plan) -> Vec<u8> {
         let mut fields = self.fields(random);
         let newest = if self.round == 1 { self.phase - 1 } else { self.phase };
         fields.plan = plan;

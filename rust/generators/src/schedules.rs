@@ -8,6 +8,7 @@ use crate::random::Random;
 use crate::runs::{self, Scene, Setup, Weather};
 use crate::{crews, inboxes, messages};
 use second_engine::inbox::SLOT;
+use second_engine::message::{DECISION_LENGTH, HEADER, SELECTION_LENGTH, VALIDATION_LENGTH};
 use second_engine::{Crew, Node};
 
 /// A call on a node's record, with the bytes that are lent to it.
@@ -291,8 +292,7 @@ impl Maker {
 
 /// How many rounds the fastest nodes take: mostly those of few phases, sometimes all there are.
 fn rounds(random: &mut Random, crew: Crew) -> usize {
-    let in_phase = runs::rounds_in_phase(crew);
-    let all = 63 * in_phase;
+    let (in_phase, all) = (runs::rounds_in_phase(crew), runs::rounds_in_all(crew));
     match random.below(64) {
         0 => all,
         1 => random.between(0, all),
@@ -323,7 +323,17 @@ fn whole_write(random: &mut Random) -> Call {
 
 /// A write with room for few messages or for none. Silence fits in any buffer.
 fn short_write(random: &mut Random) -> Call {
-    let length = random.pick(&[0, 1, 8, 9, 10, 10, 11, 12, 13]);
+    let length = random.pick(&[
+        0,
+        1,
+        HEADER - 1,
+        HEADER,
+        HEADER + 1,
+        VALIDATION_LENGTH - 1,
+        VALIDATION_LENGTH,
+        DECISION_LENGTH,
+        SELECTION_LENGTH,
+    ]);
     Call::Write(random.bytes(length))
 }
 

@@ -6,6 +6,7 @@ use crate::inbox::SLOT;
 use crate::message::{self, LONGEST};
 use crate::mutation::Mutation;
 use crate::node::{self, Node};
+use crate::plan::Plan;
 use crate::rounds;
 
 /// 01: "over 65,536 bytes: prints `long` only"
@@ -53,7 +54,7 @@ fn run_lines(input: &[u8], mutation: Mutation, output: &mut Vec<u8>) -> Result<(
 /// 01: "Line 1: class n b f D." A refused crew makes the line bad.
 fn crew_of_line(line: &[u8]) -> Option<Crew> {
     let mut fields = fields_of_line(line)?;
-    let mut byte = || fields.next().and_then(|field| number(field, 255)).map(|value| value as u8);
+    let mut byte = || fields.next().and_then(|field| number(field, u32::from(u8::MAX))).map(|value| value as u8);
     let crew = Crew::new(byte()?, byte()?, byte()?, byte()?, byte()?);
     if fields.next().is_some() || !crew.is_accepted() {
         return None;
@@ -85,7 +86,7 @@ fn number(field: &[u8], most: u32) -> Option<u32> {
 /// What one node sends another in the coming round by a say.
 #[derive(Clone, Copy)]
 struct Say {
-    plan: u16,
+    plan: Plan,
     stamp: u8,
 }
 
@@ -105,7 +106,7 @@ impl Drill {
         let mut fields = fields_of_line(line)?;
         let mut nodes = [None; Crew::MOST_NODES];
         for own in 0..crew.n {
-            let plan = number(fields.next()?, 65_535)? as u16;
+            let plan = number(fields.next()?, u32::from(Plan::MAX))? as Plan;
             // A start with plan 0 is refused, which makes no node.
             nodes[usize::from(own)] = Node::start(crew, own, RUN, plan).ok();
         }
@@ -146,7 +147,7 @@ impl Drill {
     /// round 2; .. s and r are any nodes otherwise)", "of two says for one pair the last stands"
     fn say(&mut self, s: &[u8], r: &[u8], v: &[u8], t: &[u8]) -> Option<()> {
         let (s, r) = (self.node_number(s)?, self.node_number(r)?);
-        let plan = number(v, 65_535)? as u16;
+        let plan = number(v, u32::from(Plan::MAX))? as Plan;
         let stamp = number(t, self.highest_stamp())? as u8;
         // 01: bad are also "a say from an honest node", "a go or say when spent"
         if plan == 0 || self.is_spent() || self.nodes[s].is_some() {

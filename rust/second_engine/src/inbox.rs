@@ -4,6 +4,7 @@ use crate::crew::Crew;
 use crate::message::{self, Message};
 use crate::mutation::Mutation;
 use crate::node::Node;
+use crate::plan::{self, Plan};
 
 /// 01: "An inbox is n slots of 202 bytes"
 pub const SLOT: usize = message::LONGEST;
@@ -11,7 +12,7 @@ pub const SLOT: usize = message::LONGEST;
 /// What a counting slot says. Validations have stamp 0; only selections have entries.
 #[derive(Clone, Copy, Debug, PartialEq, Eq, Default)]
 pub struct Ballot<'a> {
-    pub vote: u16,
+    pub vote: Plan,
     pub stamp: u8,
     pub entries: &'a [u8],
 }
@@ -19,11 +20,11 @@ pub struct Ballot<'a> {
 impl Ballot<'_> {
     /// Whether the entries list the plan at the phase. Their phases rise strictly, so entry i has at least phase i and
     /// the one of phase t stands no later than place t: the search goes back from there.
-    pub fn is_listing(&self, plan: u16, phase: u8) -> bool {
+    pub fn is_listing(&self, plan: Plan, phase: u8) -> bool {
         let end = self.entries.len().min(message::ENTRY * (usize::from(phase) + 1));
         for entry in self.entries[..end].rchunks_exact(message::ENTRY) {
             if entry[0] <= phase {
-                return entry[0] == phase && u16::from_le_bytes([entry[1], entry[2]]) == plan;
+                return entry[0] == phase && plan::at(entry, message::ENTRY_PLAN) == plan;
             }
         }
         false

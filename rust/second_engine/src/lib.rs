@@ -7,6 +7,7 @@ pub mod inbox;
 pub mod message;
 pub mod mutation;
 pub mod node;
+pub mod plan;
 pub mod refusal;
 pub mod rounds;
 
@@ -14,5 +15,6 @@ pub use crew::Crew;
 pub use message::{Body, Message};
 pub use mutation::Mutation;
 pub use node::Node;
+pub use plan::Plan;
 pub use refusal::Refusal;
 pub use rounds::Selection;

@@ -1,22 +1,29 @@
 //! Messages: reading, their entries, and their one encoding (01, 'Messages'). Messages know nothing of crews.
 
+use crate::plan::{self, Plan};
 use crate::refusal::Refusal;
 
 /// 01: "Header of 9 bytes: length (2, counting every byte of the message), kind (2), run (4), phase (1)."
 pub const HEADER: usize = 9;
-/// 01: "k entries of phase (1) and plan (2)"
-pub const ENTRY: usize = 3;
+/// Where the fields after the header stand: 01, "vote (2), stamp (1), k (1)"; kind 2 has its plan where a vote stands.
+const PLAN: usize = HEADER;
+const STAMP: usize = PLAN + plan::BYTES;
+const COUNT: usize = STAMP + 1;
+/// 01: "length 13 + 3k", "length 11", "length 12"
+pub const SELECTION_LENGTH: usize = COUNT + 1;
+pub const VALIDATION_LENGTH: usize = PLAN + plan::BYTES;
+pub const DECISION_LENGTH: usize = STAMP + 1;
+/// Where the plan stands in an entry, after the phase, and how long an entry is: 01, "k entries of phase (1) and plan
+/// (2)"
+pub const ENTRY_PLAN: usize = 1;
+pub const ENTRY: usize = ENTRY_PLAN + plan::BYTES;
 /// 01: "k at most 63"
 pub const MOST_ENTRIES: u8 = 63;
 pub const MOST_ENTRY_BYTES: usize = ENTRY * MOST_ENTRIES as usize;
+/// The longest message: a selection with the most entries.
+pub const LONGEST: usize = SELECTION_LENGTH + MOST_ENTRY_BYTES;
 /// 01: "phase 1 to 63"
 pub const LAST_PHASE: u8 = 63;
-/// 01: "length 13 + 3k", "length 11", "length 12"
-pub const SELECTION_LENGTH: usize = 13;
-pub const VALIDATION_LENGTH: usize = 11;
-pub const DECISION_LENGTH: usize = 12;
-/// The longest message: a selection with 63 entries.
-pub const LONGEST: usize = SELECTION_LENGTH + MOST_ENTRY_BYTES;
 
 /// The fields of a message, without its entries.
 #[derive(Clone, Copy, Debug, PartialEq, Eq)]
@@ -29,9 +36,9 @@ pub struct Message {
 /// What the three kinds carry; k is the number of entries.
 #[derive(Clone, Copy, Debug, PartialEq, Eq)]
 pub enum Body {
-    Selection { vote: u16, stamp: u8, k: u8 },
-    Validation { plan: u16 },
-    Decision { vote: u16, stamp: u8 },
+    Selection { vote: Plan, stamp: u8, k: u8 },
+    Validation { plan: Plan },
+    Decision { vote: Plan, stamp: u8 },
 }
 
 impl Message {
@@ -54,7 +61,7 @@ impl Message {
     }
 
     /// The vote, in kind 2 the plan.
-    pub fn plan(&self) -> u16 {
+    pub fn plan(&self) -> Plan {
         match self.body {
             Body::Selection { vote, .. } | Body::Decision { vote, .. } => vote,
             Body::Validation { plan } => plan,
@@ -93,10 +100,10 @@ impl Message {
 fn are_entries_within_bounds(phase: u8, entries: &[u8]) -> bool {
     let mut least = 0;
     for entry in entries.chunks_exact(ENTRY) {
-        if entry[0] < least || entry[0] >= phase || (entry[1] == 0 && entry[2] == 0) {
+        if entry[0] < least || entry[0] >= phase || plan::at(entry, ENTRY_PLAN) == 0 {
             return false;
         }
-        // An entry's phase is below 63 here, so this does not overflow.
+        // An entry's phase is below the message's here, so this does not overflow.
         least = entry[0] + 1;
     }
     true
@@ -132,23 +139,23 @@ pub fn read_with_entries(slice: &[u8]) -> Result<(Message, &[u8]), Refusal> {
     let (body, entries) = match kind {
         1 => {
             // 01: "kind 1: under 13, or not 13 + 3k for the k that stands there, k above 63 included"
-            if length < SELECTION_LENGTH || length != SELECTION_LENGTH + ENTRY * usize::from(bytes[12]) {
+            if length < SELECTION_LENGTH || length != SELECTION_LENGTH + ENTRY * usize::from(bytes[COUNT]) {
                 return Err(Refusal::Length);
             }
-            let body = Body::Selection { vote: two_bytes(bytes, 9), stamp: bytes[11], k: bytes[12] };
+            let body = Body::Selection { vote: plan::at(bytes, PLAN), stamp: bytes[STAMP], k: bytes[COUNT] };
             (body, &bytes[SELECTION_LENGTH..])
         }
         2 => {
             if length != VALIDATION_LENGTH {
                 return Err(Refusal::Length);
             }
-            (Body::Validation { plan: two_bytes(bytes, 9) }, &bytes[length..])
+            (Body::Validation { plan: plan::at(bytes, PLAN) }, &bytes[length..])
         }
         3 => {
             if length != DECISION_LENGTH {
                 return Err(Refusal::Length);
             }
-            (Body::Decision { vote: two_bytes(bytes, 9), stamp: bytes[11] }, &bytes[length..])
+            (Body::Decision { vote: plan::at(bytes, PLAN), stamp: bytes[STAMP] }, &bytes[length..])
         }
         _ => return Err(Refusal::Kind),
     };
@@ -183,34 +190,34 @@ pub fn encode(message: &Message, entries: &[u8], buffer: &mut [u8]) -> Result<us
 pub(crate) fn put_selection(
     run: u32,
     phase: u8,
-    vote: u16,
+    vote: Plan,
     stamp: u8,
     entries: &[u8],
     buffer: &mut [u8],
 ) -> Result<usize, Refusal> {
     let part = front(buffer, SELECTION_LENGTH + entries.len())?;
     put_header(part, 1, run, phase);
-    part[9..11].copy_from_slice(&vote.to_le_bytes());
-    part[11] = stamp;
-    part[12] = (entries.len() / ENTRY) as u8;
+    plan::put(part, PLAN, vote);
+    part[STAMP] = stamp;
+    part[COUNT] = (entries.len() / ENTRY) as u8;
     part[SELECTION_LENGTH..].copy_from_slice(entries);
     Ok(part.len())
 }
 
 /// 01: "kind 2, validation: plan (2); length 11"
-pub(crate) fn put_validation(run: u32, phase: u8, plan: u16, buffer: &mut [u8]) -> Result<usize, Refusal> {
+pub(crate) fn put_validation(run: u32, phase: u8, plan: Plan, buffer: &mut [u8]) -> Result<usize, Refusal> {
     let part = front(buffer, VALIDATION_LENGTH)?;
     put_header(part, 2, run, phase);
-    part[9..11].copy_from_slice(&plan.to_le_bytes());
+    plan::put(part, PLAN, plan);
     Ok(part.len())
 }
 
 /// 01: "kind 3, decision: vote (2), stamp (1); length 12"
-pub(crate) fn put_decision(run: u32, phase: u8, vote: u16, stamp: u8, buffer: &mut [u8]) -> Result<usize, Refusal> {
+pub(crate) fn put_decision(run: u32, phase: u8, vote: Plan, stamp: u8, buffer: &mut [u8]) -> Result<usize, Refusal> {
     let part = front(buffer, DECISION_LENGTH)?;
     put_header(part, 3, run, phase);
-    part[9..11].copy_from_slice(&vote.to_le_bytes());
-    part[11] = stamp;
+    plan::put(part, PLAN, vote);
+    part[STAMP] = stamp;
     Ok(part.len())
 }
 

@@ -3,6 +3,7 @@
 
 use crate::crew::Crew;
 use crate::message;
+use crate::plan::{self, Plan};
 use crate::refusal::Refusal;
 
 /// The rounds of a phase, with the paper's numbers. They are the kinds of the messages too.
@@ -20,22 +21,22 @@ pub struct Node {
     pub run: u32,
     pub phase: u8,
     pub round: u8,
-    pub vote: u16,
-    pub base: u16,
+    pub vote: Plan,
+    pub base: Plan,
     pub stamp: u8,
-    pub select: u16,
-    pub result: u16,
-    pub history: [u16; Node::ENTRIES],
+    pub select: Plan,
+    pub result: Plan,
+    pub history: [Plan; Node::ENTRIES],
 }
 
 impl Node {
     /// 01: "a history of 64 entries, one for each phase 0 to 63"
-    pub const ENTRIES: usize = 64;
+    pub const ENTRIES: usize = message::LAST_PHASE as usize + 1;
     /// 01: "Phase 64 means spent."
-    pub const SPENT: u8 = 64;
+    pub const SPENT: u8 = message::LAST_PHASE + 1;
 
     /// Starts a node.
-    pub fn start(crew: Crew, own: u8, run: u32, plan: u16) -> Result<Node, Refusal> {
+    pub fn start(crew: Crew, own: u8, run: u32, plan: Plan) -> Result<Node, Refusal> {
         // 01: "Starting a node: 1 to 4; 5 own number not below n; 6 plan 0."
         crew.accept()?;
         if own >= crew.n {
@@ -118,7 +119,7 @@ impl Node {
             for (phase, &plan) in (0u8..).zip(&self.history[..usize::from(self.phase)]) {
                 if plan != 0 {
                     entries[used] = phase;
-                    entries[used + 1..used + 3].copy_from_slice(&plan.to_le_bytes());
+                    plan::put(&mut entries, used + message::ENTRY_PLAN, plan);
                     used += message::ENTRY;
                 }
             }

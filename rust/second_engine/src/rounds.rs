@@ -5,12 +5,13 @@ use crate::crew::Crew;
 use crate::inbox::{self, Ballot};
 use crate::mutation::Mutation;
 use crate::node::{self, Node};
+use crate::plan::Plan;
 use crate::refusal::Refusal;
 
 /// 01: "Selection answers a plan, 'any' or 'none'."
 #[derive(Clone, Copy, Debug, PartialEq, Eq)]
 pub enum Selection {
-    Plan(u16),
+    Plan(Plan),
     Any,
     None,
 }
@@ -19,13 +20,13 @@ pub enum Selection {
 #[derive(Clone, Copy, Debug, PartialEq, Eq)]
 enum Backed {
     None,
-    One(u16),
+    One(Plan),
     More,
 }
 
 impl Backed {
     /// With one more plan backed. A plan that is backed through several slots is still one plan.
-    fn with(self, plan: u16) -> Backed {
+    fn with(self, plan: Plan) -> Backed {
         match self {
             Backed::None => Backed::One(plan),
             Backed::One(known) if known == plan => self,
@@ -160,11 +161,11 @@ fn is_possible(e: usize, ballot: &Ballot, ballots: &[Ballot]) -> bool {
     ballots.iter().filter(|other| other.vote == ballot.vote || other.stamp < ballot.stamp).count() > e
 }
 
-fn count_votes(plan: u16, ballots: &[Ballot]) -> usize {
+fn count_votes(plan: Plan, ballots: &[Ballot]) -> usize {
     ballots.iter().filter(|ballot| ballot.vote == plan).count()
 }
 
-fn count_listing(plan: u16, phase: u8, ballots: &[Ballot]) -> usize {
+fn count_listing(plan: Plan, phase: u8, ballots: &[Ballot]) -> usize {
     ballots.iter().filter(|ballot| ballot.is_listing(plan, phase)).count()
 }
 
@@ -173,7 +174,7 @@ fn count_unstamped(ballots: &[Ballot]) -> usize {
 }
 
 /// 01: "For 'any' the node takes the vote of most slots, the least plan on a tie". 'any' implies that some slot counts.
-fn most_voted(ballots: &[Ballot], mutation: Mutation) -> u16 {
+fn most_voted(ballots: &[Ballot], mutation: Mutation) -> Plan {
     let mut best = (0, 0);
     for ballot in ballots {
         let count = count_votes(ballot.vote, ballots);
@@ -231,7 +232,7 @@ fn take_validation(node: &mut Node, ballots: &[Ballot], mutation: Mutation) {
 }
 
 /// What the vote becomes where no plan was validated: base, but for the mutants.
-fn fallback(node: &Node, mutation: Mutation) -> u16 {
+fn fallback(node: &Node, mutation: Mutation) -> Plan {
     match mutation {
         Mutation::EchoesVote => node.vote,
         Mutation::BackToOwnSelection if node.select != 0 => node.select,
@@ -257,7 +258,7 @@ fn take_decision(node: &mut Node, ballots: &[Ballot], mutation: Mutation) {
 }
 
 /// The least plan that stands in enough slots.
-fn decided(node: &Node, ballots: &[Ballot], mutation: Mutation) -> Option<u16> {
+fn decided(node: &Node, ballots: &[Ballot], mutation: Mutation) -> Option<Plan> {
     let class = node.crew.class;
     let is_any_stamp = class == 1 || mutation == Mutation::OldStampsDecide;
     let is_deciding = |ballot: &&Ballot| is_any_stamp || ballot.stamp == node.phase;
@@ -267,7 +268,7 @@ fn decided(node: &Node, ballots: &[Ballot], mutation: Mutation) -> Option<u16> {
         _ => usize::from(node.crew.d),
     };
     let is_enough =
-        |plan: u16| ballots.iter().filter(is_deciding).filter(|ballot| ballot.vote == plan).count() >= needed;
+        |plan: Plan| ballots.iter().filter(is_deciding).filter(|ballot| ballot.vote == plan).count() >= needed;
     let plans = ballots.iter().filter(is_deciding).map(|ballot| ballot.vote).filter(|&plan| is_enough(plan));
     match mutation {
         Mutation::GreatestDecides => plans.max(),

@@ -1,13 +1,13 @@
 //! The board examples of the paper, marked p or not.
 
 use second_engine::inbox::SLOT;
-use second_engine::{message, rounds, Body, Crew, Message, Node, Selection};
+use second_engine::{message, rounds, Body, Crew, Message, Node, Plan, Selection};
 
 /// A slot of the examples: vote, stamp, entries.
-type Ballot<'a> = (u16, u8, &'a [(u8, u16)]);
+type Ballot<'a> = (Plan, u8, &'a [(u8, Plan)]);
 
 /// The answer and the vote taken in round 1 of this phase, from slots in this order.
-fn select(crew: Crew, phase: u8, ballots: &[Ballot]) -> (Selection, u16) {
+fn select(crew: Crew, phase: u8, ballots: &[Ballot]) -> (Selection, Plan) {
     let mut node = Node { phase, ..Node::start(crew, 0, 1, 1).expect("the crew is accepted") };
     let mut inbox = vec![0; SLOT * usize::from(crew.n)];
     for (slot, &(vote, stamp, listed)) in inbox.chunks_exact_mut(SLOT).zip(ballots) {
@@ -24,7 +24,7 @@ fn select(crew: Crew, phase: u8, ballots: &[Ballot]) -> (Selection, u16) {
     (answer, node.select)
 }
 
-fn votes(votes: &[u16]) -> Vec<Ballot<'static>> {
+fn votes(votes: &[Plan]) -> Vec<Ballot<'static>> {
     votes.iter().map(|&vote| (vote, 0, [].as_slice())).collect()
 }
 

@@ -2,10 +2,10 @@
 
 use second_engine::inbox::SLOT;
 use second_engine::node::{DECISION, SELECTION, VALIDATION};
-use second_engine::{message, rounds, Body, Crew, Message, Node};
+use second_engine::{message, rounds, Body, Crew, Message, Node, Plan};
 
 /// The record after its coming round with these votes and stamps, one in each slot; a validation has no stamp.
-fn taken(node: Node, ballots: &[(u16, u8)]) -> Node {
+fn taken(node: Node, ballots: &[(Plan, u8)]) -> Node {
     let mut inbox = vec![0; SLOT * usize::from(node.crew.n)];
     for (slot, &(vote, stamp)) in inbox.chunks_exact_mut(SLOT).zip(ballots) {
         let body = match node.round {

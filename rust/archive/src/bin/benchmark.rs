@@ -1,12 +1,14 @@
 //! Times the proved engine's archive against the second engine, both in this one run, on the same inboxes, in turn.
 //! docs/BENCHMARK.md says what is measured. Usage: benchmark [REPETITIONS]; it prints the tables of that page.
 
+use archive::engine::numbers;
 use archive::{image, Archive};
 use comparison::Engine;
 use generators::messages::Fields;
 use rail::RECORD;
 use second_engine::inbox::SLOT;
-use second_engine::{rounds, Crew, Node};
+use second_engine::message::LAST_PHASE;
+use second_engine::{rounds, Crew, Node, Plan};
 use std::hint::black_box;
 use std::time::Instant;
 
@@ -17,7 +19,7 @@ const CREWS: [[Crew; 3]; 3] = [
     [Crew::new(3, 4, 1, 0, 3), Crew::new(3, 16, 5, 0, 11), Crew::new(3, 32, 10, 0, 22)],
 ];
 
-const PHASES: [u8; 2] = [1, 63];
+const PHASES: [u8; 2] = [1, LAST_PHASE];
 
 #[derive(Clone, Copy, Debug, PartialEq, Eq)]
 enum Operation {
@@ -112,7 +114,7 @@ fn inbox(node: &Node, votes: Votes) -> Vec<u8> {
 
 fn message(node: &Node, votes: Votes, q: usize) -> Fields {
     let plan = match votes {
-        Votes::Mixed => 5 + (q % 3) as u16,
+        Votes::Mixed => 5 + (q % 3) as Plan,
         _ => 5,
     };
     let highest = if node.round == 1 { node.phase - 1 } else { node.phase };
@@ -122,7 +124,7 @@ fn message(node: &Node, votes: Votes, q: usize) -> Fields {
         (_, Votes::Mixed) => highest - (q % 4).min(usize::from(highest)) as u8,
         (_, Votes::Stamps) => highest - (q % 2).min(usize::from(highest)) as u8,
     };
-    let entries: Vec<(u8, u16)> = match (node.crew.class, node.round) {
+    let entries: Vec<(u8, Plan)> = match (node.crew.class, node.round) {
         (3, 1) => (0..node.phase).map(|phase| (phase, plan)).collect(),
         _ => Vec::new(),
     };
@@ -273,12 +275,13 @@ fn print_growth(rows: &[Row]) {
 
 /// What stands around every call of the archive and of no call of the second engine: images.
 fn print_image(repetitions: usize) {
-    let node = node(CREWS[2][2], 63, 1);
+    let node = node(CREWS[2][2], LAST_PHASE, 1);
     let record = image::of(&node);
     let result = || _ = black_box(rail::result(black_box(&record)));
+    let crew = numbers(node.crew);
     let start = || {
         let mut record = [0; RECORD];
-        _ = black_box(rail::start(black_box([3, 32, 10, 0, 22]), 0, 1, 5, &mut record));
+        _ = black_box(rail::start(black_box(crew), 0, 1, 5, &mut record));
         black_box(&record);
     };
     let sound = || _ = black_box(black_box(&node).is_sound());
