@@ -883,10 +883,12 @@ fn least_deciding(
         (crew .n))) ⌝ }
 {
     let n = crew.n as usize;
+    // At least D slots are more than one less.
     let fewer = crew.d as u16 - 1;
     if crew.class == Crew::CLASS_ONE {
         return least_above(present, votes, stamps, n, fewer);
     }
+    // 01: "in classes 2 and 3 only slots whose stamp is the phase"
     let mut fresh = [false; MOST_NODES];
     mark_stamped(&mut fresh, present, stamps, n, phase);
     least_above(&fresh, votes, stamps, n, fewer)
