@@ -44,7 +44,8 @@ module _ (class : Class) (crew : Crew) (phase : ℕ) (ballots : List Ballot) whe
   pub decision-fresh : 0 < crew .d → decision class crew phase ballots
       ≡ orZero (least (λ m. fresh class phase m && decides class crew phase ballots (m .vote)) ballots)
   unfolding decision leastOf decides
-  decision-fresh quorum = ap orZero (sym (least-fewer few many ballots (λ m t. and-T (fresh class phase m) _ t .1) stands))
+  decision-fresh quorum =
+      ap orZero (sym (least-fewer few many ballots (λ m t. and-T (fresh class phase m) (many m) t .1) stands))
     where
       many : Ballot → Bool
       many m = decides class crew phase ballots (m .vote)
