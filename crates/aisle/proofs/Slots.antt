@@ -107,3 +107,7 @@ module _ (st : State) (receiver : ℕ) (inbox : List ℕ) where
   laid-all n s h k inv =
       let same : n ≡ s = omega arith in
       rw (same, inv .laid) (take-at (slotsOf st receiver s) (empties s) (start s) (inv .long))
+
+-- what the size of the largest inbox comes to
+inbox-size : inboxSize ≡ 6464
+inbox-size = refl

@@ -1,6 +1,6 @@
 -- Decision by counts: what is decided is the least plan that stands in D slots, and in classes 2 and 3 only votes with
 -- the phase as stamp decide. Builds on specs/Decision.antt. Assumes nothing.
-use mathlib.Core.Path.{_≡_, sym, ap}
+use mathlib.Core.Path.{_≡_, ap}
 use mathlib.Core.Bool.{Bool, _&&_}
 use mathlib.Core.List.{List}
 use mathlib.Core.Logic.{_≢_}
@@ -16,7 +16,7 @@ use Rattle.ballot.specs.Decision.{fresh, decides, decision}
 use Rattle.ballot.specs.Least.{least, leastOf, orZero}
 use Rattle.ballot.proofs.Tests.{and-T, T-and}
 use Rattle.ballot.proofs.Counting.{count-le}
-use Rattle.ballot.proofs.Least.{withVote, passes, least-fewer, leastOf-passes, leastOf-some, leastOf-least}
+use Rattle.ballot.proofs.Least.{withVote, passes, least-agree, leastOf-passes, leastOf-some, leastOf-least}
 
 -- classes 2 and 3, in which validation stamps a vote
 abbrev pub Stamps : Class → Type 0
@@ -44,8 +44,7 @@ module _ (class : Class) (crew : Crew) (phase : ℕ) (ballots : List Ballot) whe
   pub decision-fresh : 0 < crew .d → decision class crew phase ballots
       ≡ orZero (least (λ m. fresh class phase m && decides class crew phase ballots (m .vote)) ballots)
   unfolding decision leastOf decides
-  decision-fresh quorum =
-      ap orZero (sym (least-fewer few many ballots (λ m t. and-T (fresh class phase m) (many m) t .1) stands))
+  decision-fresh quorum = ap orZero (least-agree many few ballots ballots stands decides-too)
     where
       many : Ballot → Bool
       many m = decides class crew phase ballots (m .vote)
@@ -61,6 +60,13 @@ module _ (class : Class) (crew : Crew) (phase : ℕ) (ballots : List Ballot) whe
           let same : T (many m) = rw (eqb→eq (m .vote) v (x .1)) d in
           T-and (few m) (votes v m) (T-and (fresh class phase m) (many m) (x .0) same) (x .1) in
           omega (tests, among, d)
+
+      decides-too : (v : ℕ) → 0 < countIf (withVote few v) ballots → 0 < countIf (withVote many v) ballots
+      decides-too v h =
+          let part = count-le (withVote few v) (withVote many v) ballots λ m t.
+          let x = and-T (few m) (votes v m) t in
+          T-and (many m) (votes v m) (and-T (fresh class phase m) (many m) (x .0) .1) (x .1) in
+          omega (arith, part)
 
   module _ (quorum : 0 < crew .d) (v : ℕ) (d : T (decides class crew phase ballots v)) where
     -- a plan that decides is a slot's vote

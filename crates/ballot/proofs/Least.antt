@@ -81,46 +81,29 @@ withVote-below : (p : Ballot → Bool) (v w : ℕ) (ballots : List Ballot) → v
 withVote-below p v w ballots h = count-le (withVote p v) (belowVote p w) ballots λ m t.
     let x = and-T (p m) (votes v m) t in T-and (p m) (ltb (m .vote) w) (x .0) (omega tests)
 
--- The least vote does not depend on the order.
-
-pub least-same : (p : Ballot → Bool) (l k : List Ballot) → Same l k → least p l ≡ least p k
-least-same p l k s = go (least p l) (least p k) (least-is p l) (least-is p k)
+-- Two tests have the same least vote, be it in two lists, where the same votes pass.
+pub least-agree : (p q : Ballot → Bool) (l k : List Ballot)
+    → ((v : ℕ) → 0 < countIf (withVote p v) l → 0 < countIf (withVote q v) k)
+    → ((v : ℕ) → 0 < countIf (withVote q v) k → 0 < countIf (withVote p v) l)
+    → least p l ≡ least q k
+least-agree p q l k there back = go (least p l) (least q k) (least-is p l) (least-is q k)
   where
     meet : (v w : ℕ) → 0 < countIf (withVote p v) l → countIf (belowVote p v) l ≡ 0
-        → 0 < countIf (withVote p w) k → countIf (belowVote p w) k ≡ 0 → Dec (v < w) → Dec (w < v) → v ≡ w
-    meet v w a b c d (yes h) x = omega (arith, withVote-below p v w k h, s (withVote p v))
-    meet v w a b c d (no h) (yes x) = omega (arith, withVote-below p w v l x, s (withVote p w))
+        → 0 < countIf (withVote q w) k → countIf (belowVote q w) k ≡ 0 → Dec (v < w) → Dec (w < v) → v ≡ w
+    meet v w a b c d (yes h) x = omega (arith, withVote-below q v w k h, there v a)
+    meet v w a b c d (no h) (yes x) = omega (arith, withVote-below p w v l x, back w c)
     meet v w a b c d (no h) (no x) = omega arith
 
-    go : (x y : Option ℕ) → Least p l x → Least p k y → x ≡ y
+    go : (x y : Option ℕ) → Least p l x → Least q k y → x ≡ y
     go none none a b = refl
-    go none (some w) (nowhere z) (found _ i j) = absurd (omega (arith, withVote-passes p w k, s p))
-    go (some v) none (found _ i j) (nowhere z) = absurd (omega (arith, withVote-passes p v l, s p))
+    go none (some w) (nowhere z) (found _ i j) = absurd (omega (arith, withVote-passes p w l, back w i))
+    go (some v) none (found _ i j) (nowhere z) = absurd (omega (arith, withVote-passes q v k, there v i))
     go (some v) (some w) (found _ a b) (found _ c d) = ap some (meet v w a b c d (decLt v w) (decLt w v))
 
--- It is enough to look at some of the ballots that pass, where each vote that passes is among these too.
-pub least-fewer : (few many : Ballot → Bool) (ballots : List Ballot) → ((m : Ballot) → T (few m) → T (many m))
-    → ((v : ℕ) → 0 < countIf (withVote many v) ballots → 0 < countIf (withVote few v) ballots)
-    → least few ballots ≡ least many ballots
-least-fewer few many ballots part voted =
-    go (least few ballots) (least many ballots) (least-is few ballots) (least-is many ballots)
-  where
-    among : (v : ℕ) → countIf (withVote few v) ballots ≤ countIf (withVote many v) ballots
-    among v = count-le (withVote few v) (withVote many v) ballots λ m t.
-        let x = and-T (few m) (votes v m) t in T-and (many m) (votes v m) (part m (x .0)) (x .1)
-
-    meet : (v w : ℕ) → 0 < countIf (withVote few v) ballots → countIf (belowVote few v) ballots ≡ 0
-        → 0 < countIf (withVote many w) ballots → countIf (belowVote many w) ballots ≡ 0
-        → Dec (v < w) → Dec (w < v) → v ≡ w
-    meet v w a b c d (yes h) x = omega (arith, withVote-below many v w ballots h, among v)
-    meet v w a b c d (no h) (yes x) = omega (arith, withVote-below few w v ballots x, voted w c)
-    meet v w a b c d (no h) (no x) = omega arith
-
-    go : (x y : Option ℕ) → Least few ballots x → Least many ballots y → x ≡ y
-    go none none a b = refl
-    go none (some w) (nowhere z) (found _ i j) = absurd (omega (arith, withVote-passes few w ballots, voted w i))
-    go (some v) none (found _ i j) (nowhere z) = absurd (omega (arith, withVote-passes many v ballots, among v))
-    go (some v) (some w) (found _ a b) (found _ c d) = ap some (meet v w a b c d (decLt v w) (decLt w v))
+-- the least vote does not depend on the order
+pub least-same : (p : Ballot → Bool) (l k : List Ballot) → Same l k → least p l ≡ least p k
+least-same p l k s =
+    least-agree p p l k (λ v h. omega (arith, s (withVote p v))) (λ v h. omega (arith, s (withVote p v)))
 
 pub leastOf-same : (f g : ℕ → Bool) (l k : List Ballot) → Same l k → ((v : ℕ) → f v ≡ g v) → leastOf f l ≡ leastOf g k
 unfolding leastOf

@@ -12,14 +12,14 @@ use Rattle.wire.specs.Outcome.{accepted}
 use Rattle.wire.specs.Entry.{Entry}
 use Rattle.wire.proofs.Tests.{both-true}
 use Rattle.wire.proofs.Numbers.{number-of-bytes}
-use Rattle.wire.specs.Sizes.{planSize, runSize, runLimit, lastPhase}
+use Rattle.wire.specs.Sizes.{planSize, runSize, runLimit}
 use Rattle.message.specs.Fields.{Body, selection, validation, decision, Message}
 use Rattle.message.specs.Bounds.{phaseOk, planOk, bodyOk, entriesOk, within, PlansFit, BodyFits, Fits}
 use Rattle.message.specs.Encoding.{sizeOf, entryBytes, encode}
 use Rattle.message.specs.Reading.{lengthAt, entriesIn, bodyAt, framed, readOf}
 use Rattle.message.proofs.ReadLaws.{Passes, passes-read}
 use Rattle.message.proofs.EncodeLaws.{encode-length}
-use Rattle.message.specs.Layout.{headerSize}
+use Rattle.message.specs.Layout.{headerSize, mostEntries}
 
 -- entries that are written are read to themselves
 entries-written : (es : List Entry) (tail : List ℕ) → PlansFit es → entriesIn (length es) (entryBytes es ++ tail) ≡ es
@@ -36,11 +36,11 @@ framed-intro s size e low high =
     simp (e, le-leb _ _ long, le-leb _ _ low, le-leb _ _ high)
 
 few-entries : (phase vote stamp : ℕ) (entries : List Entry) → bodyOk phase (selection vote stamp entries) ≡ true
-    → length entries ≤ lastPhase
+    → length entries ≤ mostEntries
 few-entries phase vote stamp entries ok =
     let scalars = planOk vote && ltb stamp phase in
-    let few = both-true (scalars && leb (length entries) lastPhase) (entriesOk 0 phase entries) ok .0 in
-    leb-true _ _ (both-true scalars (leb (length entries) lastPhase) few .1)
+    let few = both-true (scalars && leb (length entries) mostEntries) (entriesOk 0 phase entries) ok .0 in
+    leb-true _ _ (both-true scalars (leb (length entries) mostEntries) few .1)
 
 module _ (run phase : ℕ) (tail : List ℕ) (run-fits : run < runLimit) where
   abbrev message : Body → Message

@@ -115,3 +115,7 @@ record-typed s bytes = record {
 
 pub image-length : (d : Node) → Typed d → length (imageOf d) ≡ imageSize
 image-length d typed = omega (arith, history-bytes-length (d .history), typed .long)
+
+-- what the sum of the layout comes to
+image-size : imageSize ≡ 149
+image-size = refl

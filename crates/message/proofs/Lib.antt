@@ -1,3 +1,4 @@
+pub mod Sizes
 pub mod EncodeLaws
 pub mod EntryLaws
 pub mod ReadLaws

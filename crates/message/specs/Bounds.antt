@@ -8,6 +8,7 @@ use lib.ListN.{length}
 use lib.Dec.{leb, ltb}
 use Rattle.wire.specs.Entry.{Entry}
 use Rattle.wire.specs.Sizes.{planLimit, runLimit, lastPhase}
+use Rattle.message.specs.Layout.{mostEntries}
 use Rattle.message.specs.Fields.{Body, selection, validation, decision, Message}
 
 -- "phase 1 to 63"
@@ -32,7 +33,7 @@ leastAfter least e = cond (leb least (e .phase) && planOk (e .plan)) (e .phase +
 -- "stamp below the phase in kind 1, at most the phase in kind 3"; "k at most 63"
 abbrev pub bodyOk : ℕ → Body → Bool
 bodyOk phase (selection vote stamp entries) =
-    planOk vote && ltb stamp phase && leb (length entries) lastPhase && entriesOk 0 phase entries
+    planOk vote && ltb stamp phase && leb (length entries) mostEntries && entriesOk 0 phase entries
 bodyOk phase (validation plan) = planOk plan
 bodyOk phase (decision vote stamp) = planOk vote && leb stamp phase
 

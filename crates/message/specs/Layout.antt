@@ -1,5 +1,5 @@
 -- Where the fields of a message stand, and how long it is: document 01, 'Messages'. Each place is where the field
--- before it ends. The code has the same numbers as constants in src/lib.rt.
+-- before it ends. The code has the same numbers as constants in src/lib.rt; proofs/Sizes.antt says what they come to.
 use Prim.Native.Nat.{ℕ, _+_, _*_}
 use Rattle.wire.specs.Sizes.{planSize, runSize, lastPhase}
 
@@ -36,6 +36,10 @@ entriesPlace = countPlace + 1
 abbrev pub entrySize : ℕ
 entrySize = 1 + planSize
 
--- a slot of an inbox holds the longest message, a selection with an entry for each phase before the last
+-- no selection has more entries: one for each phase before the last
+abbrev pub mostEntries : ℕ
+mostEntries = lastPhase
+
+-- a slot of an inbox holds the longest message, a selection with all its entries
 abbrev pub slotSize : ℕ
-slotSize = entriesPlace + entrySize * lastPhase
+slotSize = entriesPlace + entrySize * mostEntries

@@ -63,8 +63,11 @@ abbrev pub framed : List ℕ → Bool
 framed s = leb headerSize (length s) && leb headerSize (lengthAt s) && leb (lengthAt s) (length s)
 
 -- 01: "11 kind not 1 to 3"
+abbrev pub isKind : ℕ → Bool
+isKind kind = leb 1 kind && leb kind 3
+
 abbrev pub kindKnown : List ℕ → Bool
-kindKnown s = leb 1 (kindAt s) && leb (kindAt s) 3
+kindKnown s = isKind (kindAt s)
 
 -- 01: "12 length not that of the kind (kind 1: under 13, or not 13 + 3k for the k that stands there, k above 63
 -- included); 13 a bound broken, or k above 63." No length under 13 is 13 + 3k, so one test says both halves of 12.

@@ -7,10 +7,9 @@ use wire::PLAN_SIZE;
 use wire::Plan;
 use wire::RUN_SIZE;
 ghost use mathlib.Core.Path.{_≡_};
-ghost use mathlib.Core.Bool.{_&&_};
 ghost use Prim.Native.Nat.{_+_, _*_, _<_, _≤_, min};
 ghost use lib.ListN.{length, getD, drop};
-ghost use lib.Dec.{leb, eqb};
+ghost use lib.Dec.{eqb};
 ghost use Rattle.wire.specs.Bytes.{numberAt};
 ghost use Rattle.wire.specs.Sizes.{planSize, runSize};
 ghost use Rattle.message.specs.Layout.{runPlace, headerSize, planPlace, stampPlace};
@@ -28,6 +27,7 @@ ghost use Rattle.message.specs.Reading.{
   decisionAt,
   bodyAt,
   framed,
+  isKind,
   readOf,
   entriesCounted,
   entriesPartOf,
@@ -39,7 +39,7 @@ ghost use Rattle.message.specs.Reading.{
 };
 ghost use Rattle.message.specs.Lookup.{entriesUntil, listsIn};
 
-// Where the fields stand: specs/Layout.antt has 01's sentences.
+// Where the fields stand, each where the one before it ends, as in specs/Layout.antt.
 pub const LENGTH_AT: usize = 0;
 
 pub const KIND_AT: usize = LENGTH_AT + 2;
@@ -59,8 +59,10 @@ pub const COUNT_AT: usize = STAMP_AT + 1;
 pub const ENTRIES_AT: usize = COUNT_AT + 1;
 // An entry is a phase and a plan.
 pub const ENTRY_SIZE: usize = 1 + PLAN_SIZE;
+// No selection lists more: one for each phase before the last.
+const MOST_ENTRIES: u8 = LAST_PHASE;
 // A selection with all its entries is the longest message; a slot of an inbox has room for it.
-pub const SLOT: usize = ENTRIES_AT + ENTRY_SIZE * (LAST_PHASE as usize);
+pub const SLOT: usize = ENTRIES_AT + ENTRY_SIZE * (MOST_ENTRIES as usize);
 
 // The kinds, and their lengths where a field of the message is to be compared with one; a selection is as long as its
 // entries make it.
@@ -225,7 +227,7 @@ fn is_selection(s: &[u8]) -> bool
     is_phase(s[PHASE_AT])
         & (is_plan(plan_at(s, PLAN_AT))
             & (s[STAMP_AT] < s[PHASE_AT])
-            & (s[COUNT_AT] <= LAST_PHASE)
+            & (s[COUNT_AT] <= MOST_ENTRIES)
             & are_entries(s, count, wide(s[PHASE_AT])))
 }
 
@@ -248,7 +250,7 @@ fn is_decision(s: &[u8]) -> bool
 
 // Whether a kind is one of the three: 01's 11.
 fn is_kind(kind: u16) -> bool
-    ensures { λ r. ⌜ r ≡ (leb 1 kind && leb kind 3) ⌝ }
+    ensures { λ r. ⌜ r ≡ isKind kind ⌝ }
 {
     (SELECTION <= kind) & (kind <= DECISION)
 }

@@ -2,7 +2,7 @@
 // bytes here and nowhere else. specs/Sizes.antt has the sizes as the definitions have them, specs/Bytes.antt the bytes.
 ghost use mathlib.Core.Path.{_≡_};
 ghost use mathlib.Core.List.{[], _∷_};
-ghost use Prim.Native.Nat.{_+_, _<_};
+ghost use Prim.Native.Nat.{_+_, _*_, _<_};
 ghost use lib.Dec.{leb};
 ghost use Rattle.wire.specs.Sizes.{planSize};
 ghost use Rattle.wire.specs.Bytes.{numberAt, bytesOf, laid};
@@ -30,7 +30,7 @@ pub fn u16_of(low: u8, high: u8) -> u16
 }
 
 fn wide(x: u16) -> u32
-    ensures { λ r. ⌜ (r ≡ x) × (r < 65536) ⌝ }
+    ensures { λ r. ⌜ (r ≡ x) × (r < 256 * 256) ⌝ }
 {
     x as u32
 }
@@ -39,7 +39,7 @@ fn wide(x: u16) -> u32
 pub fn u32_of(first: u8, second: u8, third: u8, fourth: u8) -> u32
     ensures { λ r. ⌜ r ≡ numberAt 4 (first ∷ second ∷ third ∷ fourth ∷ []) 0 ⌝ }
 {
-    wide(u16_of(first, second)) + 65536 * wide(u16_of(third, fourth))
+    wide(u16_of(first, second)) + 256 * 256 * wide(u16_of(third, fourth))
 }
 
 // The plan that stands in these bytes: as many as a plan takes.

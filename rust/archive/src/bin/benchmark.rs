@@ -212,7 +212,7 @@ fn print_rows(rows: &[Row], repetitions: usize) {
     println!("## Times");
     println!();
     println!("Nanoseconds, medians of {repetitions} repetitions.");
-    println!("Of {} ratios {above} are above 1.0; the highest is {highest:.2}.", ratios.len());
+    println!("Ratios above 1.0: {above} of {}. The highest is {highest:.2}.", ratios.len());
     println!();
     print!("| | class | round | phase | n | agreed: engine | second | ratio | mixed: engine | second | ratio ");
     println!("| gaps: ratio | stamps: ratio | floor |");
