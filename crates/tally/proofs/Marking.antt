@@ -143,24 +143,19 @@ module _ (marks : List Bool) (votes stamps : List ℕ) (n threshold : ℕ) where
       go true m earlier e = absurd (no-lower (vote q) before e)
       go false m earlier e = rw m (earlier e)
 
-  -- one slot more that is marked: its vote is over, or it is not
-  pub sought-over : (q : ℕ) (least : Option ℕ) → marked marks q ≡ true → isOver (vote q) ≡ true
-      → least ≡ leastOver q → Sought (vote q) (lower (vote q) least) (q + 1)
+  -- one slot more that is marked, be its vote over or not
+  pub sought-next : (q : ℕ) (least : Option ℕ) → marked marks q ≡ true → (over : Bool) → isOver (vote q) ≡ over
+      → least ≡ leastOver q → Sought (vote q) (cond over (lower (vote q) least) least) (q + 1)
   unfolding leastMarked
-  sought-over q least here over is =
+  sought-next q least here true over is =
       record { least-so-far = rw (add-one q, here, over, ← is); last-settled = settled-over (vote q) least }
-
-  pub sought-under : (q : ℕ) (least : Option ℕ) → marked marks q ≡ true → isOver (vote q) ≡ false
-      → least ≡ leastOver q → Sought (vote q) least (q + 1)
-  unfolding leastMarked
-  sought-under q least here under is =
+  sought-next q least here false under is =
       record { least-so-far = rw (add-one q, here, under) is; last-settled = settled-under (vote q) least under }
 
   -- the first slot that is marked
   pub sought-first : (q : ℕ) → marked marks q ≡ true → none ≡ leastMarked (marked marks) vote q
       → (over : Bool) → isOver (vote q) ≡ over → Sought (vote q) (foundAs over (vote q)) (q + 1)
-  sought-first q here first true over = sought-over q none here over (none-over q first)
-  sought-first q here first false under = sought-under q none here under (none-over q first)
+  sought-first q here first over is = sought-next q none here over is (none-over q first)
 
   -- one slot more that is not marked, or has the vote that was counted last
   pub sought-same : (q last : ℕ) (least : Option ℕ) → (marked marks q && not (eqb (vote q) last)) ≡ false

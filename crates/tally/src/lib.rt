@@ -8,7 +8,7 @@ use message::SLOT;
 use node::Node;
 use wire::Plan;
 ghost use mathlib.Core.Path.{_≡_};
-ghost use mathlib.Core.Bool.{false, cond, _&&_};
+ghost use mathlib.Core.Bool.{false, cond, _&&_, _||_};
 ghost use mathlib.Core.List.{List};
 ghost use mathlib.Core.Option.{some};
 ghost use lib.Dec.{ltb};
@@ -767,16 +767,19 @@ pub fn select(crew: Crew, run: u32, phase: u8, inbox: &[u8]) -> Plan
     Node::NO_PLAN
 }
 
-// The lower of a vote and the least that was found before, where one was.
-fn lower_found(found: bool, vote: Plan, least: Plan) -> Plan
-    ensures { λ r. ⌜ some r ≡ lower vote (foundAs found least) ⌝ }
+// Where the vote is over, the lower of it and the least that was found before, if one was; else the least stays.
+fn lower_found(over: bool, found: bool, vote: Plan, least: Plan) -> Plan
+    ensures { λ r. ⌜ foundAs (over || found) r ≡ cond over (lower vote (foundAs found least)) (foundAs found least) ⌝ }
 {
-    if found {
-        if least < vote {
-            return least;
+    if over {
+        if found {
+            if least < vote {
+                return least;
+            }
         }
+        return vote;
     }
-    vote
+    least
 }
 
 // The least vote that more than `threshold` of the marked slots have, 0 where there is none.
@@ -820,10 +823,9 @@ fn least_above_from(
         let other = marks[q] & !(votes[q] == last);
         if other {
             last = votes[q];
-            if threshold < count_supporting(marks, votes, stamps, n, last, Node::UNSTAMPED) {
-                least = lower_found(found, last, least);
-                found = true;
-            }
+            let over = threshold < count_supporting(marks, votes, stamps, n, last, Node::UNSTAMPED);
+            least = lower_found(over, found, last, least);
+            found = over | found;
         }
         q = q + 1;
     }

@@ -7,10 +7,9 @@ use Prim.Native.Nat.{_-_, _≤_}
 use native.Mathlib.Omega.{arith}
 use lib.Dec.{ltb}
 use borrow.Author.Needs.{needs}
-use borrow.Author.Tests.{lt-ltb, le-ltb}
 use denote.Ref.{now}
 use Rattle.wire.proofs.Tests.{both-true}
-use Rattle.tally.proofs.Marking.{Sought, sought-first, sought-over, sought-under, sought-same, sought-done}
+use Rattle.tally.proofs.Marking.{Sought, sought-first, sought-next, sought-same, sought-done}
 use Rattle.tally.specs.Marks.{foundAs}
 use Rattle.tally.proofs.least_above_from.Statement.{statement}
 use Rattle.tally.proofs.least_above_from.Tie as tie
@@ -77,23 +76,16 @@ loop-again c =
     let a = c .before .before .before .before .before .before .before .args in
     let marks = now (a .marks) in
     let votes = now (a .votes) in
-    let stamps = now (a .stamps) in
-    let so-far = l .inv .1 .least-so-far in (
+    let stamps = now (a .stamps) in (
       omega arith,
       elim (c .if1 .came) [
-        | inl over ↦
-            rw (over .5, over .6, over .7, over .4 .ensures)
-            (sought-over marks votes stamps (a .n) (a .threshold) (l .q) _ (both-true _ _ (over .0 .taken) .0)
-            (ap (ltb (a .threshold)) (sym (over .2 .ensures .0)) ∙ lt-ltb _ _ (over .3 .taken)) so-far)
-        | inr others ↦ elim others [
-          | inl under ↦
-              rw (under .4, under .5, under .6)
-              (sought-under marks votes stamps (a .n) (a .threshold) (l .q) _ (both-true _ _ (under .0 .taken) .0)
-              (ap (ltb (a .threshold)) (sym (under .2 .ensures .0)) ∙ le-ltb _ _ (under .3 .left)) so-far)
-          | inr same ↦
-              rw (same .1, same .2, same .3)
-              (sought-same marks votes stamps (a .n) (a .threshold) (l .q) (l .last) _ (same .0 .left) (l .inv .1))
-        ]
+        | inl other ↦
+            rw (other .4, other .5, other .6, other .3 .ensures)
+            (sought-next marks votes stamps (a .n) (a .threshold) (l .q) _ (both-true _ _ (other .0 .taken) .0) _
+            (ap (ltb (a .threshold)) (sym (other .2 .ensures .0))) (l .inv .1 .least-so-far))
+        | inr same ↦
+            rw (same .1, same .2, same .3)
+            (sought-same marks votes stamps (a .n) (a .threshold) (l .q) (l .last) _ (same .0 .left) (l .inv .1))
       ],
     )
 
@@ -102,7 +94,7 @@ returns c =
     let l = c .before .before .loop in
     let a = c .before .before .before .before .before .args in
     let done : l .q ≡ a .n = omega (arith, l .inv .0, c .before .loop-test .left) in
-    ap (λ b. cond b (l .least) 0) (sym (c .if3 .taken))
+    ap (λ b. cond b (l .least) 0) (sym (c .if2 .taken))
     ∙ sought-done (now (a .marks)) (now (a .votes)) (now (a .stamps)) (a .n) (a .threshold) (l .last) (l .found)
     (l .least) (l .q) (l .inv .1) done
 
@@ -111,7 +103,7 @@ returns-2 c =
     let l = c .before .before .loop in
     let a = c .before .before .before .before .before .args in
     let done : l .q ≡ a .n = omega (arith, l .inv .0, c .before .loop-test .left) in
-    ap (λ b. cond b (l .least) 0) (sym (c .if3 .left))
+    ap (λ b. cond b (l .least) 0) (sym (c .if2 .left))
     ∙ sought-done (now (a .marks)) (now (a .votes)) (now (a .stamps)) (a .n) (a .threshold) (l .last) (l .found)
     (l .least) (l .q) (l .inv .1) done
 
