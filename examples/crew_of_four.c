@@ -1,6 +1,6 @@
 /*
- * A crew of four agrees on a plan, though one of the four lies: crew 3,4,1,0,3, nodes 0 to 2 honest with plans 5, 6
- * and 7, node 3 a liar that tells each of them something else. In phase 1 it keeps them apart; in phase 2 they decide.
+ * A crew of four agrees on a plan, though one of the four is Byzantine: crew 3,4,1,0,3, nodes 0 to 2 honest with plans
+ * 5, 6 and 7, while node 3 tells each of them something else. In phase 1 it keeps them apart; in phase 2 they decide.
  * Every answer is checked. examples/check builds and runs it.
  */
 #include "rail.h"
@@ -9,7 +9,7 @@
 #include <stdlib.h>
 #include <string.h>
 
-enum { NODES = 4, HONEST = 3, LIAR = 3, RUN = 1 };
+enum { NODES = 4, HONEST = 3, BYZANTINE = 3, RUN = 1 };
 
 /* The crew's numbers, as the calls take them. */
 #define CREW 3, NODES, 1, 0, 3
@@ -24,7 +24,7 @@ static uint64_t value(uint64_t answer, const char *what)
     return RAIL_VALUE(answer);
 }
 
-/* A message without entries, as a liar makes one: it need not use the engine. */
+/* A message without entries, as a Byzantine node makes one: it need not use the engine. */
 static void lie(uint8_t *slot, uint8_t kind, uint8_t phase, uint16_t plan, uint8_t stamp)
 {
     static const uint8_t lengths[] = {0, 13, 11, 12};
@@ -38,7 +38,7 @@ static void lie(uint8_t *slot, uint8_t kind, uint8_t phase, uint16_t plan, uint8
     slot[11] = kind == 2 ? 0 : stamp;
 }
 
-/* What the liar sends in a round: plan 6 to node 0, plan 5 to node 1, rubbish to node 2. */
+/* What the Byzantine node sends in a round: plan 6 to node 0, plan 5 to node 1, rubbish to node 2. */
 static void lie_to(uint8_t *slot, int to, uint8_t round, uint8_t phase)
 {
     uint8_t stamp = round == 3 ? phase : 0;
@@ -94,7 +94,7 @@ static void whole_round(uint8_t records[HONEST][RAIL_RECORD])
     for (int own = 0; own < HONEST; own++) {
         uint8_t *record = records[own];
         memcpy(inbox, written, sizeof written);
-        lie_to(inbox + RAIL_SLOT * LIAR, own, round, phase);
+        lie_to(inbox + RAIL_SLOT * BYZANTINE, own, round, phase);
         if (round == 1)
             show_selection(record, inbox);
         value(rail_take(record, RAIL_RECORD, inbox, sizeof inbox), "take");

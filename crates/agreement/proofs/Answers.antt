@@ -1,4 +1,4 @@
--- What the calls on a sound record answer, case by case. Assumes nothing.
+-- What the calls on a sound record answer, case by case.
 use mathlib.Core.Path.{_≡_}
 use mathlib.Core.Bool.{true}
 use mathlib.Core.List.{List}
@@ -15,7 +15,7 @@ use Rattle.wire.proofs.Outcomes.{passed, same-value}
 use Rattle.message.specs.Layout.{slotSize}
 use Rattle.node.specs.declared.Node.{Node}
 use Rattle.node.specs.Soundness.{sound}
-use Rattle.node.specs.Sending.{comingBytes, writeOf}
+use Rattle.node.specs.Sending.{comingBytes, writeComingOf}
 use Rattle.inbox.specs.Inbox.{ballots}
 use Rattle.rounds.specs.Taking.{afterRound, takeOf}
 use Rattle.rounds.specs.Asking.{askOf}
@@ -61,7 +61,7 @@ module _ (d : Node) (ok : sound d ≡ true) where
 
   -- before it is spent, its calls are refused with 9 or 14 and with nothing else
   pub unspent-calls : d .phase < spentPhase → Unspent (d .crew .n) d
-  unfolding writeOf askOf
+  unfolding writeComingOf askOf
   unspent-calls left =
       let early = lt-ltb (d .phase) spentPhase left in
       record {
@@ -82,7 +82,7 @@ module _ (d : Node) (ok : sound d ≡ true) where
 
   -- once it is spent, all of them are refused with 8
   pub spent-calls : d .phase ≡ spentPhase → d .round ≡ 1 → Spent d
-  unfolding writeOf askOf
+  unfolding writeComingOf askOf
   spent-calls last one =
       let spent = le-ltb (d .phase) spentPhase (omega arith) in
       record {

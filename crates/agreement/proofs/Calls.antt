@@ -1,5 +1,4 @@
 -- The calls of one node in a round: the inbox that it takes, the record that it gets, and which writes it made.
--- Assumes nothing.
 use mathlib.Core.Path.{_≡_, refl, sym, ap, _∙_, subst}
 use mathlib.Core.Bool.{cond}
 use mathlib.Core.List.{List, [], _∷_}
@@ -13,7 +12,7 @@ use Rattle.wire.specs.Outcome.{accepted, refused, valueOr, isAccepted}
 use Rattle.message.specs.Layout.{slotSize}
 use Rattle.node.specs.declared.Node.{Node}
 use Rattle.rounds.specs.Taking.{takeOf}
-use Rattle.agreement.specs.Statement.{Call, write, ask, take-round, Listing, afterCall, afterCalls, callsOf}
+use Rattle.agreement.specs.Statement.{Call, write, ask, take-round, Execution, afterCall, afterCalls, callsOf}
 use Rattle.agreement.specs.Statement.{recordAt, takenInbox, inboxAt, Puts, Wrote, Asks, Whole}
 
 -- asks change no record and write nothing
@@ -91,7 +90,7 @@ refused-keeps d refuses (take-round inbox ∷ cs) =
 pub none-taken : {bytes : List ℕ} → _≡_ {A = Option (List ℕ)} none (some bytes) → ⊥
 none-taken e = let z : _≡_ {A = ℕ} 0 1 = cc in omega arith
 
-pub taken-inside : (l : Listing) (p j : ℕ) (bytes : List ℕ) → inboxAt l p j ≡ some bytes → j < length (l .rounds)
+pub taken-inside : (l : Execution) (p j : ℕ) (bytes : List ℕ) → inboxAt l p j ≡ some bytes → j < length (l .rounds)
 unfolding callsOf takenInbox
 taken-inside l p j bytes e = elim (decLt j (length (l .rounds))) [
   | yes inside ↦ inside

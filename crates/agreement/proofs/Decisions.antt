@@ -1,5 +1,5 @@
 -- Decisions from the inboxes are the abstract engine's, so its theorems hold of them: standing results, agreement
--- and common start. Assumes nothing.
+-- and common start.
 use mathlib.Core.Path.{_≡_, refl, sym, ap, _∙_, subst}
 use mathlib.Core.List.{List}
 use mathlib.Core.Logic.{_⊎_, inl, inr, _↔_}
@@ -17,15 +17,15 @@ use Rattle.ballot.specs.Count.{tally, holds}
 use Rattle.ballot.specs.Ballot.{inbox}
 use Rattle.ballot.specs.Decision.{decides}
 use Rattle.ballot.proofs.Counting.{count-gather}
-use Rattle.model.specs.Node.{Round, selecting, validating, deciding, number}
-use Rattle.model.specs.Run as model
-use Rattle.model.specs.Run.{state, Held, DecidesAt}
+use Rattle.model.proofs.Voter.{Round, selecting, validating, deciding, roundNumber}
+use Rattle.model.proofs.Engine as model
+use Rattle.model.proofs.Engine.{state, Held, DecidesAt}
 use Rattle.model.proofs.Theorems as engine
 use Rattle.node.specs.declared.Node.{Node}
 use Rattle.node.specs.Record.{begun}
 use Rattle.node.proofs.StartLaws.{start-accepted}
 use Rattle.inbox.specs.Inbox.{ballotAt}
-use Rattle.agreement.specs.Statement.{Listing, answerTo, made, honest, recordOf, recordAt}
+use Rattle.agreement.specs.Statement.{Execution, answerTo, made, honest, recordOf, recordAt}
 use Rattle.agreement.specs.Statement.{inboxAt, phaseAt, Every, Premises, isFor, Wins, Decided, PlanDecided}
 use Rattle.agreement.specs.Statement.{standing}
 use Rattle.agreement.proofs.Calls.{none-taken, taken-inside}
@@ -35,12 +35,12 @@ use Rattle.agreement.proofs.Simulation.{slotIn, said, runOf, follows, h
 use Rattle.agreement.proofs.Faithful.{admissible}
 
 -- round 3 is the decision
-third-round : (round : Round) → number round ≡ 3 → round ≡ deciding
+third-round : (round : Round) → roundNumber round ≡ 3 → round ≡ deciding
 third-round selecting e = absurd (omega arith)
 third-round validating e = absurd (omega arith)
 third-round deciding e = refl
 
-module _ (l : Listing) (crew : Crew) (run : ℕ) (pre : Premises l crew run) where
+module _ (l : Execution) (crew : Crew) (run : ℕ) (pre : Premises l crew run) where
   -- The slots that are for a plan, counted from the bytes and as the engine has them.
 
   decides-is : (p j phase v : ℕ) (bytes : List ℕ) → inboxAt l p j ≡ some bytes
@@ -79,19 +79,19 @@ module _ (l : Listing) (crew : Crew) (run : ℕ) (pre : Premises l crew run) whe
       let t = took l crew run pre p j h (d .0) in
       let place = place-early (runOf l crew) j (d .0 .1) in
       let enough = subst (Enough p j v) (sym (place .0)) (d .1 .1) in (
-        place .1 ∙ ap number (d .1 .0),
+        place .1 ∙ ap roundNumber (d .1 .0),
         t .bytes,
         t .taken,
         leb→le (crew .d) _ (subst T (decides-is p j (phaseAt crew j) v (t .bytes) (t .taken)) enough),
       )
 
-  decided-is : (p : ℕ) → T (honest l p) → Decided l crew p ↔ model.Decided (runOf l crew) p
+  decided-is : (p : ℕ) → T (honest l p) → Decided l crew p ↔ model.HasDecided (runOf l crew) p
   decided-is p h = (
     λ d. (d .0, d .1, wins-decides p (d .0) (d .1) h (d .2)),
     λ d. (d .0, d .1, decides-wins p (d .0) (d .1) h (d .2)),
   )
 
-  standing-is : (p : ℕ) → T (honest l p) → standing l p ≡ model.standing (runOf l crew) p
+  standing-is : (p : ℕ) → T (honest l p) → standing l p ≡ model.lastResult (runOf l crew) p
   standing-is p h = ap (λ (x : Node). x .result) (follows l crew run pre p (length (l .rounds)) h (omega arith) .is)
 
   -- What a standing result stands for.

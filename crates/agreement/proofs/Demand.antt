@@ -1,4 +1,4 @@
--- Demand 3, proved. Assumes nothing.
+-- Demand 3, proved.
 use mathlib.Core.Path.{_≡_, sym, ap, _∙_, subst}
 use Prim.Native.Nat.{ℕ, suc, _≤_, _<_}
 use native.Mathlib.Omega.{arith}
@@ -6,10 +6,10 @@ use lib.ListN.{length}
 use lib.Dec.{T}
 use Rattle.wire.specs.Sizes.{spentPhase}
 use Rattle.crew.specs.declared.Crew.{Crew}
-use Rattle.model.specs.Node.{number}
-use Rattle.model.specs.Run.{state}
+use Rattle.model.proofs.Voter.{roundNumber}
+use Rattle.model.proofs.Engine.{state}
 use Rattle.node.specs.declared.Node.{Node}
-use Rattle.agreement.specs.Statement.{Listing, honest, calls, recordAt, phaseAt, roundAt, Early, Premises}
+use Rattle.agreement.specs.Statement.{Execution, honest, calls, recordAt, phaseAt, roundAt, Early, Premises}
 use Rattle.agreement.specs.Statement.{Unspent, Spent, Demand3}
 use Rattle.agreement.proofs.Answers.{unspent-calls, take-spent, spent-calls}
 use Rattle.agreement.proofs.Calls.{refused-keeps}
@@ -18,7 +18,7 @@ use Rattle.agreement.proofs.Simulation.{runOf, follows, crew-is}
 use Rattle.agreement.proofs.Decisions.{result, agreement, common-start}
 use Rattle.agreement.proofs.GoodPhase.{good-phase}
 
-module _ (l : Listing) (crew : Crew) (run : ℕ) (pre : Premises l crew run) (p j : ℕ) (h : T (honest l p))
+module _ (l : Execution) (crew : Crew) (run : ℕ) (pre : Premises l crew run) (p j : ℕ) (h : T (honest l p))
     (inside : j ≤ length (l .rounds)) where
   abbrev d : Node
   d = recordAt l p j
@@ -26,7 +26,7 @@ module _ (l : Listing) (crew : Crew) (run : ℕ) (pre : Premises l crew run) (p 
   phase-is : d .phase ≡ state (runOf l crew) j .phase
   phase-is = ap (λ (x : Node). x .phase) (follows l crew run pre p j h inside .is)
 
-  round-is : d .round ≡ number (state (runOf l crew) j .round)
+  round-is : d .round ≡ roundNumber (state (runOf l crew) j .round)
   round-is = ap (λ (x : Node). x .round) (follows l crew run pre p j h inside .is)
 
   places : Early crew j → (recordAt l p j .phase ≡ phaseAt crew j) × (recordAt l p j .round ≡ roundAt crew j)
@@ -45,7 +45,7 @@ module _ (l : Listing) (crew : Crew) (run : ℕ) (pre : Premises l crew run) (p 
   spent late =
       let f = follows l crew run pre p j h inside in
       let last = late-is (runOf l crew) j late in (
-        spent-calls d (f .is-sound) (phase-is ∙ last .0) (round-is ∙ ap number (last .1)),
+        spent-calls d (f .is-sound) (phase-is ∙ last .0) (round-is ∙ ap roundNumber (last .1)),
         refused-keeps d (take-spent d (f .is-sound) (omega (arith, phase-is, last .0))) (calls l p j) .0,
       )
 

@@ -1,6 +1,5 @@
 -- The drill's example of document 01 as a list of calls on bytes: it meets the premises of demand 3, so that they
 -- can be met, and the three honest nodes end with 5. Crew 3,4,1,0,3 and plans 5 5 5 0; nobody sends for node 3.
--- Assumes nothing.
 use mathlib.Core.Path.{_≡_, refl, sym, ap, _∙_, subst}
 use mathlib.Core.Bool.{Bool, true, not, _&&_}
 use mathlib.Core.List.{List, [], _∷_, _++_}
@@ -22,7 +21,7 @@ use Rattle.message.specs.Layout.{slotSize}
 use Rattle.message.specs.Bounds.{entriesOk}
 use Rattle.message.specs.Encoding.{entryBytes, encode}
 use Rattle.message.specs.Reading.{entriesIn, bodyAt, tested, readOf}
-use Rattle.writer.specs.Writing.{listed}
+use Rattle.wire.specs.Entry.{entriesFrom}
 use Rattle.ballot.specs.Count.{tally, countIf, gather}
 use Rattle.ballot.specs.Ballot.{Ballot, lists, sameBallot}
 use Rattle.ballot.specs.Least.{least, leastOf}
@@ -33,10 +32,11 @@ use Rattle.ballot.proofs.Tests.{and-T}
 use Rattle.node.specs.Record.{begun}
 use Rattle.node.specs.Soundness.{emptyFrom, sound}
 use Rattle.node.specs.Starting.{startOf}
-use Rattle.node.specs.Sending.{comingOf, writeOf}
+use Rattle.node.specs.Sending.{comingOf, writeComingOf}
 use Rattle.inbox.specs.Inbox.{slotAt, ballotAt}
 use Rattle.rounds.specs.Taking.{afterRound, takeOf}
-use Rattle.agreement.specs.Statement.{Start, Call, write, ask, take-round, Event, Listing, made, honest, recordOf}
+use Rattle.agreement.specs.Statement.{Start, Call, write, ask, take-round, Event, Execution}
+use Rattle.agreement.specs.Statement.{made, honest, recordOf}
 use Rattle.agreement.specs.Statement.{afterCalls, callsOf, calls, recordAt, takenInbox, inboxAt, Wrote, Whole}
 use Rattle.agreement.specs.Statement.{answerTo, numbered, Every, Premises, standing, heard, Good, Conclusions}
 use Rattle.agreement.proofs.Calls.{taken-inside}
@@ -84,7 +84,7 @@ round j =
     ∷ on 2 (ask (box j)) ∷ on 2 (take-round []) ∷ on 2 (take-round (box j))
     ∷ []
 
-abbrev pub drill : Listing
+abbrev pub drill : Execution
 drill = record {
   starts = begins 0 5 ∷ begins 1 5 ∷ begins 2 5 ∷ begins 3 0 ∷ [];
   rounds = round 0 ∷ round 1 ∷ round 2 ∷ [];
@@ -102,7 +102,7 @@ pub drill-decides : (p : ℕ) → p < 3
     → (recordAt drill p 1 .result ≡ 0) × (recordAt drill p 2 .result ≡ 0) × (standing drill p ≡ 5)
 unfolding
     acceptOf startOf begun made recordOf callsOf recordAt afterCalls
-    takeOf sound emptyFrom afterRound ballotAt readOf tested bodyAt entriesIn entriesOk countIf gather
+    takeOf sound emptyFrom afterRound readOf tested bodyAt entriesIn entriesOk countIf gather
     lists least leastOf possible backed backing enough selection leading mostVoted anyPlan taken
     valid validated decides decision
 drill-decides =
@@ -111,9 +111,10 @@ drill-decides =
 
 -- the refused start, write and take
 pub drill-refuses : (answerTo (begins 3 0) ≡ refused 6)
-    × (writeOf (recordAt drill 0 0) [] ≡ refused 9)
+    × (writeComingOf (recordAt drill 0 0) [] ≡ refused 9)
     × (takeOf (recordAt drill 0 0) [] ≡ refused 14)
-unfolding acceptOf startOf begun made recordOf recordAt sound emptyFrom writeOf takeOf comingOf encode entryBytes listed
+unfolding acceptOf startOf begun made recordOf recordAt sound emptyFrom writeComingOf takeOf comingOf encode entryBytes
+    entriesFrom
 drill-refuses = (refl, refl, refl)
 
 -- The premises, computed.
@@ -136,9 +137,9 @@ Goes p j =
 goes : (p : ℕ) → p < 3 → (j : ℕ) → j < 3 → Goes p j
 unfolding
     acceptOf startOf begun made recordOf callsOf recordAt afterCalls takenInbox
-    takeOf sound emptyFrom afterRound ballotAt readOf tested bodyAt entriesIn entriesOk countIf gather
+    takeOf sound emptyFrom afterRound readOf tested bodyAt entriesIn entriesOk countIf gather
     lists least leastOf possible backed backing enough selection leading mostVoted anyPlan taken
-    valid validated decides decision comingOf writeOf encode entryBytes listed
+    valid validated decides decision comingOf writeComingOf encode entryBytes entriesFrom
 goes =
     nine Goes
     (refl, inr (inl (refl, omega arith, refl)), refl, inr (λ e. omega arith, inl (refl, tt)))
@@ -169,9 +170,9 @@ one-each q = elim (decLt q 3) [
   | no l ↦ omega (arith, nobody-else q (omega arith))
 ]
 
-one-liar : tally (λ q. not (honest drill q)) 4 ≤ 1
+one-byzantine : tally (λ q. not (honest drill q)) 4 ≤ 1
 unfolding acceptOf startOf begun made countIf tally
-one-liar = omega arith
+one-byzantine = omega arith
 
 one-crew : Every (λ d. (d .crew ≡ crew) × (d .run ≡ 1)) (made (drill .starts))
 unfolding acceptOf startOf begun made
@@ -216,7 +217,7 @@ drill-premises = record {
   crew-accepted = accepted-crew;
   one-crew = one-crew;
   distinct = one-each;
-  few = one-liar;
+  few = one-byzantine;
   whole = λ p j h inside early. goes p (honest-three p h) j inside .3;
   bytes = λ p j h inbox e. subst AreBytes (taken-box p j inbox h e .1) (box-bytes j);
   slots = λ p q j hp hq inbox m hears.
@@ -243,7 +244,7 @@ AllHeard p j = (q : ℕ) → q < 3 → ballotAt (recordAt drill p j) (box j) q �
 all-heard : (p : ℕ) → p < 3 → (j : ℕ) → j < 3 → AllHeard p j
 unfolding
     acceptOf startOf begun made recordOf callsOf recordAt afterCalls
-    takeOf sound emptyFrom afterRound ballotAt readOf tested bodyAt entriesIn entriesOk countIf gather
+    takeOf sound emptyFrom afterRound readOf tested bodyAt entriesIn entriesOk countIf gather
     lists least leastOf possible backed backing enough selection leading mostVoted anyPlan taken
     valid validated decides decision
 all-heard =
@@ -262,7 +263,7 @@ all-heard =
 same-heard : (p : ℕ) → p < 3 → heard drill p 0 ≡ ballot 0 ∷ ballot 0 ∷ ballot 0 ∷ []
 unfolding
     acceptOf startOf begun made recordOf callsOf recordAt takenInbox
-    takeOf sound emptyFrom ballotAt readOf tested bodyAt entriesIn entriesOk countIf gather
+    takeOf sound emptyFrom readOf tested bodyAt entriesIn entriesOk countIf gather
 same-heard = three (λ p. heard drill p 0 ≡ ballot 0 ∷ ballot 0 ∷ ballot 0 ∷ []) refl refl refl
 
 -- they are honest
@@ -278,7 +279,7 @@ pub drill-good : Good drill crew 1 circle
 drill-good = record {
   inside = λ p k. circle-honest p (ltb→lt p 3 k);
   wide = circle-wide;
-  listed = λ j e. omega arith;
+  complete = λ j e. omega arith;
   equal = λ j p q e first kp kq m.
       let start : 0 ≡ j = omega arith in
       subst (λ j. countIf (sameBallot m) (heard drill p j) ≡ countIf (sameBallot m) (heard drill q j)) start

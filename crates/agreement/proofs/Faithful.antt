@@ -1,5 +1,5 @@
 -- If an honest node's slot counts for an honest node, it says what the abstract engine's node says; so the run of a
--- list meets what the engine's theorems suppose. Assumes nothing.
+-- list meets what the engine's theorems suppose.
 use mathlib.Core.Path.{_≡_, sym, ap, _∙_}
 use mathlib.Core.List.{List}
 use mathlib.Core.Logic.{_≢_}
@@ -11,15 +11,15 @@ use Rattle.crew.specs.declared.Crew.{Crew}
 use Rattle.crew.specs.Thresholds.{classOf}
 use Rattle.ballot.specs.Ballot.{Ballot}
 use Rattle.ballot.proofs.Slots.{not-none}
-use Rattle.model.specs.Run.{State, saying, Faithful, state, Held, Admissible}
+use Rattle.model.proofs.Engine.{State, saying, Faithful, state, Held, Admissible}
 use Rattle.node.specs.declared.Node.{Node}
 use Rattle.inbox.specs.Inbox.{ballotAt}
-use Rattle.agreement.specs.Statement.{Listing, honest, recordAt, inboxAt, Premises}
+use Rattle.agreement.specs.Statement.{Execution, honest, recordAt, inboxAt, Premises}
 use Rattle.inbox.proofs.Plans.{slot-plan}
 use Rattle.agreement.proofs.Written.{slot-heard, forward}
 use Rattle.agreement.proofs.Simulation.{slotIn, said, runOf, follows, took, wrote-at, coming-is}
 
-module _ (l : Listing) (crew : Crew) (run : ℕ) (pre : Premises l crew run) where
+module _ (l : Execution) (crew : Crew) (run : ℕ) (pre : Premises l crew run) where
   module _ (j : ℕ) (held : Held (runOf l crew) j) where
     abbrev now : State
     now = state (runOf l crew) j

@@ -1,7 +1,6 @@
--- A good phase of the list is one of the abstract engine, so its circle decides. Assumes nothing.
+-- A good phase of the list is one of the abstract engine, so its circle decides.
 use mathlib.Core.Path.{_≡_, sym, ap, _∙_}
 use mathlib.Core.Bool.{Bool}
-use mathlib.Core.List.{List}
 use mathlib.Core.Option.{none}
 use Prim.Native.Nat.{ℕ, _≤_, _<_}
 use native.Mathlib.Omega.{arith}
@@ -12,11 +11,11 @@ use Rattle.crew.specs.Thresholds.{classOf}
 use Rattle.ballot.specs.Count.{countIf}
 use Rattle.ballot.specs.Ballot.{Ballot, inbox, sameBallot}
 use Rattle.ballot.proofs.Slots.{not-none}
-use Rattle.model.specs.Node.{number}
-use Rattle.model.specs.Run as model
-use Rattle.model.specs.Run.{saying, state, Held}
+use Rattle.model.proofs.Voter.{roundNumber}
+use Rattle.model.proofs.Engine as model
+use Rattle.model.proofs.Engine.{saying, state, Held}
 use Rattle.model.proofs.Theorems as engine
-use Rattle.agreement.specs.Statement.{Listing, honest, recordAt, phaseAt, roundAt, Premises, Wins}
+use Rattle.agreement.specs.Statement.{Execution, honest, recordAt, phaseAt, roundAt, Premises, Wins}
 use Rattle.agreement.specs.Statement.{ballotsIn, heard, Good}
 use Rattle.agreement.proofs.Written.{forward}
 use Rattle.agreement.proofs.Places.{place-early}
@@ -25,17 +24,17 @@ use Rattle.agreement.proofs.Simulation.{coming-is}
 use Rattle.agreement.proofs.Faithful.{admissible}
 use Rattle.agreement.proofs.Decisions.{decides-wins}
 
-module _ (l : Listing) (crew : Crew) (run : ℕ) (pre : Premises l crew run) (phase : ℕ) (early : phase < spentPhase)
+module _ (l : Execution) (crew : Crew) (run : ℕ) (pre : Premises l crew run) (phase : ℕ) (early : phase < spentPhase)
     (circle : ℕ → Bool) (good : Good l crew phase circle) where
   -- a round of the phase is in the list, before the records are spent
   held : (j : ℕ) → state (runOf l crew) j .phase ≡ phase → Held (runOf l crew) j
   held j e =
       let left : state (runOf l crew) j .phase < spentPhase = omega arith in
-      (good .listed j (place-early (runOf l crew) j left .0 ∙ e), left)
+      (good .complete j (place-early (runOf l crew) j left .0 ∙ e), left)
 
   -- its place is the state's
   place-is : (j : ℕ) → state (runOf l crew) j .phase ≡ phase
-      → (phaseAt crew j ≡ phase) × (roundAt crew j ≡ number (state (runOf l crew) j .round))
+      → (phaseAt crew j ≡ phase) × (roundAt crew j ≡ roundNumber (state (runOf l crew) j .round))
   place-is j e = let place = place-early (runOf l crew) j (held j e .1) in (place .0 ∙ e, place .1)
 
   -- the counting messages, from the bytes and as the engine has them
@@ -53,14 +52,14 @@ module _ (l : Listing) (crew : Crew) (run : ℕ) (pre : Premises l crew run) (ph
       let counts = good .counts j p q (place-is j e .0) kp kq (λ silent. loud (sym same ∙ ap forward silent)) in
       not-none (sym absent ∙ ap (λ o. slotIn (recordAt l p j) o q) (counts .2 .0) ∙ counts .2 .1)
 
-  good-run : model.Good (runOf l crew) phase circle
+  good-run : model.GoodFor (runOf l crew) phase circle
   good-run = record {
     inside = λ q lq kq. good .inside q kq;
     wide = good .wide;
-    listed = λ j e. held j e .0;
+    complete = λ j e. held j e .0;
     equal = λ j e first p lp kp q lq kq m.
         ap (countIf (sameBallot m)) (sym (same-heard j p e kp))
-        ∙ good .equal j p q (place-is j e .0) (place-is j e .1 ∙ ap number first) kp kq m
+        ∙ good .equal j p q (place-is j e .0) (place-is j e .1 ∙ ap roundNumber first) kp kq m
         ∙ ap (countIf (sameBallot m)) (same-heard j q e kq);
     counts = λ j e p lp kp q lq kq loud. speaks j p q e kp kq loud;
   }

@@ -1,6 +1,5 @@
--- Law 5 of the engine: the order of an inbox does not matter, on any record, sound or not. Assumes nothing.
--- 01: "Two inboxes with the same counting messages, each in as many slots of one as of the other, give the same
--- answers."
+-- Law 5 of the engine: two inboxes with the same counting messages, each in as many slots of one as of the other, give
+-- the same answers, on any record, sound or not.
 use mathlib.Core.Path.{_≡_, ap, ap₂}
 use mathlib.Core.Bool.{cond, _&&_}
 use mathlib.Core.List.{List}

@@ -1,5 +1,5 @@
 -- A round's place in the list: the abstract engine's state when round j begins stands at the phase and round that j
--- gives, until it is spent. Assumes nothing.
+-- gives, until it is spent.
 use mathlib.Core.Path.{_≡_, refl, sym}
 use mathlib.Core.Bool.{Bool, true, false, cond}
 use mathlib.Core.Logic.{_⊎_, inl, inr}
@@ -10,15 +10,15 @@ use lib.Dec.{eqb}
 use Rattle.wire.specs.Sizes.{spentPhase}
 use Rattle.crew.specs.declared.Crew.{Crew}
 use Rattle.crew.specs.Thresholds.{Class, one, two, three}
-use Rattle.model.specs.Node.{Round, selecting, validating, deciding, number}
-use Rattle.model.specs.Run.{State, roundAfter, phaseAfter, step, Run, class, state}
+use Rattle.model.proofs.Voter.{Round, selecting, validating, deciding, roundNumber}
+use Rattle.model.proofs.Engine.{State, nextRound, nextPhase, step, Run, class, state}
 use Rattle.model.proofs.Run.{moves}
 use Rattle.agreement.specs.Statement.{phaseIf, roundIf, phaseAt, roundAt}
 
 -- the phase and round with which round j begins: those of its place, and round 1 of phase 64 once the records are spent
 abbrev Stands : Crew → ℕ → ℕ → Round → Type 0
 Stands crew j phase round =
-    ((phaseAt crew j < spentPhase) × (phase ≡ phaseAt crew j) × (number round ≡ roundAt crew j))
+    ((phaseAt crew j < spentPhase) × (phase ≡ phaseAt crew j) × (roundNumber round ≡ roundAt crew j))
     ⊎ ((spentPhase ≤ phaseAt crew j) × (phase ≡ spentPhase) × (round ≡ selecting))
 
 -- One round on, by the class: of two rounds a phase, or of three.
@@ -32,9 +32,9 @@ three-rounds : (j : ℕ) → ((j % 3 < 2) → (suc j / 3 ≡ j / 3) × (suc j % 
 three-rounds j = (λ r. (omega arith, omega arith), λ r. (omega arith, omega arith))
 
 next-place : (j phase : ℕ) (round : Round) (first second : Bool)
-    → phase ≡ phaseIf first j → number round ≡ roundIf first j
-    → (phaseAfter round phase ≡ phaseIf first (suc j))
-    × (number (roundAfter (cond first one (cond second two three)) round) ≡ roundIf first (suc j))
+    → phase ≡ phaseIf first j → roundNumber round ≡ roundIf first j
+    → (nextPhase round phase ≡ phaseIf first (suc j))
+    × (roundNumber (nextRound (cond first one (cond second two three)) round) ≡ roundIf first (suc j))
 next-place j phase selecting true second p r =
     let next = two-rounds j .0 (omega arith) in (omega (arith, next .0), omega (arith, next .1))
 next-place j phase validating true second p r = absurd (omega arith)
@@ -60,8 +60,8 @@ first-place true = (refl, refl)
 first-place false = (refl, refl)
 
 -- the last round of phase 63 is a round 3, and leads to phase 64
-last-place : (class : Class) (round : Round) (phase : ℕ) → phase < spentPhase → spentPhase ≤ phaseAfter round phase
-    → (phaseAfter round phase ≡ spentPhase) × (roundAfter class round ≡ selecting)
+last-place : (class : Class) (round : Round) (phase : ℕ) → phase < spentPhase → spentPhase ≤ nextPhase round phase
+    → (nextPhase round phase ≡ spentPhase) × (nextRound class round ≡ selecting)
 last-place class selecting phase left end = absurd (omega arith)
 last-place class validating phase left end = absurd (omega arith)
 last-place class deciding phase left end = (omega arith, refl)
@@ -100,7 +100,7 @@ module _ (run : Run) where
 
   -- before the records are spent, the place is the state's
   pub place-early : (j : ℕ) → state run j .phase < spentPhase
-      → (phaseAt (run .crew) j ≡ state run j .phase) × (roundAt (run .crew) j ≡ number (state run j .round))
+      → (phaseAt (run .crew) j ≡ state run j .phase) × (roundAt (run .crew) j ≡ roundNumber (state run j .round))
   place-early j left = elim (place j) [
     | inl here ↦ (sym (here .1), sym (here .2))
     | inr spent ↦ absurd (omega (arith, spent .1))

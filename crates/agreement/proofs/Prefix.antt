@@ -1,5 +1,5 @@
 -- A list cut short after any of its rounds meets the premises of demand 3 where the whole list does, so the
--- conclusions hold after every round. Assumes nothing.
+-- conclusions hold after every round.
 use mathlib.Core.Path.{_≡_, refl, sym, ap, ap₂, _∙_, subst}
 use mathlib.Core.List.{List, []}
 use mathlib.Core.Option.{some}
@@ -10,16 +10,16 @@ use lib.Seq.{getD-take}
 use Rattle.crew.specs.declared.Crew.{Crew}
 use Rattle.ballot.specs.Ballot.{Ballot}
 use Rattle.inbox.specs.Inbox.{ballotAt}
-use Rattle.agreement.specs.Statement.{Listing, afterCalls, callsOf, calls, recordAt, takenInbox, inboxAt, Wrote}
+use Rattle.agreement.specs.Statement.{Execution, afterCalls, callsOf, calls, recordAt, takenInbox, inboxAt, Wrote}
 use Rattle.agreement.specs.Statement.{Whole, Hears, Premises, Conclusions}
 use Rattle.agreement.proofs.Calls.{taken-inside}
 use Rattle.agreement.proofs.Demand.{demand3}
 
 -- the list's first m rounds
-abbrev pub cut : ℕ → Listing → Listing
+abbrev pub cut : ℕ → Execution → Execution
 cut m l = record { starts = l .starts; rounds = take m (l .rounds) }
 
-module _ (l : Listing) (m : ℕ) where
+module _ (l : Execution) (m : ℕ) where
   calls-same : (p j : ℕ) → j < m → calls (cut m l) p j ≡ calls l p j
   calls-same p j h = ap (callsOf p) (getD-take m (l .rounds) j [] h)
 
@@ -62,6 +62,6 @@ module _ (l : Listing) (m : ℕ) where
         (s .0, s .1, subst (λ cs. Wrote (recordAt (cut m l) q j) cs (s .0)) (sym (calls-same q j before)) wrote, s .3);
   }
 
-pub after-every-round : (l : Listing) (crew : Crew) (run : ℕ) → Premises l crew run
+pub after-every-round : (l : Execution) (crew : Crew) (run : ℕ) → Premises l crew run
     → (m : ℕ) → Conclusions (cut m l) crew
 after-every-round l crew run pre m = demand3 (cut m l) crew run (cut-premises l m crew run pre)

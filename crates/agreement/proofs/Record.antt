@@ -1,5 +1,5 @@
 -- A record is a node of the abstract engine with its crew, run, own number and place; taking a round is the
--- engine's turn. Assumes nothing.
+-- engine's turn.
 use mathlib.Core.Path.{_≡_, refl, ap}
 use mathlib.Core.Bool.{Bool, true, false, cond}
 use mathlib.Core.List.{List}
@@ -9,14 +9,13 @@ use lib.Dec.{eqb}
 use Rattle.crew.specs.declared.Crew.{Crew}
 use Rattle.crew.specs.Thresholds.{one, two, three, classOf}
 use Rattle.ballot.specs.Ballot.{Ballot}
-use Rattle.model.specs.Node as model
-use Rattle.model.specs.Node.{Round, selecting, validating, deciding, turn, number}
-use Rattle.model.specs.Run.{roundAfter, phaseAfter}
+use Rattle.model.proofs.Voter.{Voter, Round, selecting, validating, deciding, turn, roundNumber}
+use Rattle.model.proofs.Engine.{nextRound, nextPhase}
 use Rattle.node.specs.declared.Node.{Node}
 use Rattle.rounds.specs.Taking.{afterRound}
 
 -- the record of node q, by the number of its round
-abbrev recordWith : Crew → ℕ → ℕ → model.Node → ℕ → ℕ → Node
+abbrev recordWith : Crew → ℕ → ℕ → Voter → ℕ → ℕ → Node
 recordWith crew run q a phase round = record {
   crew = crew;
   own = q;
@@ -31,19 +30,18 @@ recordWith crew run q a phase round = record {
   history = a .history;
 }
 
-abbrev pub asRecord : Crew → ℕ → ℕ → ℕ → Round → model.Node → Node
-asRecord crew run q phase round a = recordWith crew run q a phase (number round)
+abbrev pub asRecord : Crew → ℕ → ℕ → ℕ → Round → Voter → Node
+asRecord crew run q phase round a = recordWith crew run q a phase (roundNumber round)
 
--- 01: "Class 1 goes on to round 3, the others to round 2 and then 3."
 after-selection : (first second : Bool)
-    → cond first 3 2 ≡ number (roundAfter (cond first one (cond second two three)) selecting)
+    → cond first 3 2 ≡ roundNumber (nextRound (cond first one (cond second two three)) selecting)
 after-selection true second = refl
 after-selection false true = refl
 after-selection false false = refl
 
-pub take-turns : (crew : Crew) (run q phase : ℕ) (round : Round) (a : model.Node) (heard : List Ballot)
+pub take-turns : (crew : Crew) (run q phase : ℕ) (round : Round) (a : Voter) (heard : List Ballot)
     → afterRound (asRecord crew run q phase round a) heard
-    ≡ asRecord crew run q (phaseAfter round phase) (roundAfter (classOf crew) round)
+    ≡ asRecord crew run q (nextPhase round phase) (nextRound (classOf crew) round)
     (turn (classOf crew) crew phase round heard a)
 unfolding afterRound
 take-turns crew run q phase selecting a heard =

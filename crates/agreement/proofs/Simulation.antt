@@ -1,5 +1,4 @@
 -- The list of calls is a run of the abstract engine: every honest record, round by round, is the engine's node.
--- Assumes nothing.
 use mathlib.Core.Path.{_≡_, refl, sym, ap, ap₂, _∙_, subst}
 use mathlib.Core.List.{List}
 use mathlib.Core.Bool.{true}
@@ -14,9 +13,8 @@ use Rattle.crew.specs.Thresholds.{classOf}
 use Rattle.crew.proofs.Facts.{accepts}
 use Rattle.message.specs.Layout.{slotSize}
 use Rattle.ballot.specs.Ballot.{Ballot, inbox}
-use Rattle.model.specs.Node as model
-use Rattle.model.specs.Node.{selecting, begin, turn}
-use Rattle.model.specs.Run.{State, Inboxes, start, step, saying, Run, state, Held}
+use Rattle.model.proofs.Voter.{selecting, opened, turn}
+use Rattle.model.proofs.Engine.{State, Inboxes, opening, step, saying, Run, state, Held}
 use Rattle.model.proofs.Run.{moves}
 use Rattle.node.specs.declared.Node.{Node}
 use Rattle.node.specs.Record.{begun}
@@ -26,7 +24,7 @@ use Rattle.node.proofs.Facts.{Typed, sound-facts}
 use Rattle.node.proofs.StartLaws.{start-accepted, start-sound, start-typed}
 use Rattle.inbox.specs.Inbox.{ballotAt, ballots}
 use Rattle.rounds.specs.Taking.{afterRound}
-use Rattle.agreement.specs.Statement.{Start, Listing, Call, made, honest, recordOf, afterCalls, calls, recordAt}
+use Rattle.agreement.specs.Statement.{Start, Execution, Call, made, honest, recordOf, afterCalls, calls, recordAt}
 use Rattle.agreement.specs.Statement.{takenInbox, inboxAt, write, Puts, Wrote, Whole, Premises}
 use Rattle.agreement.proofs.Answers.{take-whole, take-cut, take-spent}
 use Rattle.agreement.proofs.Soundness.{take-sound, take-typed}
@@ -44,10 +42,10 @@ slotIn d none q = none
 slotIn d (some bytes) q = ballotAt d bytes q
 
 -- what slot q of the inbox that p took in round j says
-abbrev pub said : Listing → ℕ → Inboxes
+abbrev pub said : Execution → ℕ → Inboxes
 said l j p q = slotIn (recordAt l p j) (inboxAt l p j) q
 
-abbrev pub runOf : Listing → Crew → Run
+abbrev pub runOf : Execution → Crew → Run
 runOf l crew = record {
   crew = crew;
   honest = honest l;
@@ -57,7 +55,7 @@ runOf l crew = record {
 }
 
 -- The record of q when round j begins is the engine's node in this state. It is sound, and its fields fit their types.
-pub record Follows (l : Listing) (crew : Crew) (run q j : ℕ) (s : State) : Type 0 where
+pub record Follows (l : Execution) (crew : Crew) (run q j : ℕ) (s : State) : Type 0 where
   pub is : recordAt l q j ≡ asRecord crew run q (s .phase) (s .round) (s .node q)
   pub is-sound : sound (recordAt l q j) ≡ true
   pub typed : Typed (recordAt l q j)
@@ -84,13 +82,13 @@ module _ (d : Node) (ok : sound d ≡ true) (left : d .phase < spentPhase) (cs :
       (take-cut d ok left) cs bytes whole w
 
 -- a record that a start gave
-opening : (d : Node) (crew : Crew) (own run plan : ℕ) → d ≡ begun crew own run plan
-    → d ≡ asRecord (d .crew) (d .run) (d .own) 1 selecting (begin (d .vote))
+start-opens : (d : Node) (crew : Crew) (own run plan : ℕ) → d ≡ begun crew own run plan
+    → d ≡ asRecord (d .crew) (d .run) (d .own) 1 selecting (opened (d .vote))
 unfolding begun
-opening d crew own run plan e =
-    subst (λ (x : Node). x ≡ asRecord (x .crew) (x .run) (x .own) 1 selecting (begin (x .vote))) (sym e) refl
+start-opens d crew own run plan e =
+    subst (λ (x : Node). x ≡ asRecord (x .crew) (x .run) (x .own) 1 selecting (opened (x .vote))) (sym e) refl
 
-module _ (l : Listing) (crew : Crew) (run : ℕ) (pre : Premises l crew run) where
+module _ (l : Execution) (crew : Crew) (run : ℕ) (pre : Premises l crew run) where
   abbrev Typed-start : Start → Type 0
   Typed-start s = (s .run < runLimit) × (s .plan < planLimit)
 
@@ -102,7 +100,7 @@ module _ (l : Listing) (crew : Crew) (run : ℕ) (pre : Premises l crew run) whe
 
   -- The record of an honest node, round by round.
 
-  begins : (q : ℕ) → T (honest l q) → Follows l crew run q 0 (start (runOf l crew .plans))
+  begins : (q : ℕ) → T (honest l q) → Follows l crew run q 0 (opening (runOf l crew .plans))
   unfolding recordAt
   begins q h =
       let made-by = first q h in
@@ -114,8 +112,8 @@ module _ (l : Listing) (crew : Crew) (run : ℕ) (pre : Premises l crew run) whe
       let own-is = made-by .own in
       record {
         is =
-            opening d (s .crew) (s .own) (s .run) (s .plan) (b .is-begun)
-            ∙ (λ i. asRecord (crew-is i) (run-is i) (own-is i) 1 selecting (begin (d .vote)));
+            start-opens d (s .crew) (s .own) (s .run) (s .plan) (b .is-begun)
+            ∙ (λ i. asRecord (crew-is i) (run-is i) (own-is i) 1 selecting (opened (d .vote)));
         is-sound = start-sound (s .crew) (s .own) (s .run) (s .plan) d (made-by .answer);
         typed =
             start-typed (s .crew) (s .own) (s .run) (s .plan) d (made-by .answer) (made-by .of-start .0)

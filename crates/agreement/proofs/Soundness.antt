@@ -1,5 +1,5 @@
 -- Law 4 of the engine: a start gives a sound record; an accepted take leaves a sound record, whatever the record and
--- the inbox; a refused call leaves the record as it was. Assumes nothing.
+-- the inbox; a refused call leaves the record as it was.
 use mathlib.Core.Path.{_≡_, refl, ap, subst, _∙_}
 use mathlib.Core.Bool.{Bool, true, false, cond}
 use mathlib.Core.List.{List}
@@ -13,7 +13,7 @@ use borrow.Author.Tests.{eq-eqb, eqb-true, eqb-false}
 use Rattle.wire.specs.Sizes.{planLimit, spentPhase}
 use Rattle.wire.specs.Plan.{ifPlan}
 use Rattle.wire.specs.Outcome.{accepted, refused, valueOr}
-use Rattle.wire.specs.Bytes.{AreBytes}
+use Rattle.wire.specs.Bytes.{AreBytes, bufferAfter}
 use Rattle.crew.specs.declared.Crew.{Crew}
 use Rattle.crew.specs.Thresholds.{classOf}
 use Rattle.ballot.specs.Ballot.{Ballot}
@@ -23,11 +23,11 @@ use Rattle.ballot.specs.Decision.{decides, decision}
 use Rattle.ballot.proofs.Least.{Voted, leastOf-voted}
 use Rattle.ballot.proofs.Selection.{taken-voted}
 use Rattle.ballot.proofs.Validation.{validated-voted}
-use Rattle.model.proofs.Node.{ifPlan-is, kept, kept-length, kept-other, kept-here}
+use Rattle.model.proofs.Voters.{ifPlan-is, kept, kept-length, kept-other, kept-here}
 use Rattle.node.specs.declared.Node.{Node}
 use Rattle.node.specs.Soundness.{firstUnselected, sound}
 use Rattle.node.specs.Starting.{startOf}
-use Rattle.node.specs.Sending.{writeOf, bufferAfter, comingBytes, bufferOf}
+use Rattle.node.specs.Sending.{writeComingOf, comingBytes, comingBufferOf}
 use Rattle.node.proofs.Facts.{Sound, Typed, sound-facts, facts-sound, last-round}
 use Rattle.node.proofs.StartLaws.{start-sound}
 use Rattle.inbox.specs.Inbox.{ballots}
@@ -256,8 +256,8 @@ pub record KeepsSound : Type 0 where
   -- a refused call leaves the record, and a refused write the buffer
   pub take-refused : (d : Node) (inbox : List ℕ) (number : ℕ) → takeOf d inbox ≡ refused number
       → afterCall d (take-round inbox) ≡ d
-  pub write-refused : (d : Node) (buffer : List ℕ) (number : ℕ) → writeOf d buffer ≡ refused number
-      → (afterCall d (write buffer) ≡ d) × (bufferOf d buffer ≡ buffer)
+  pub write-refused : (d : Node) (buffer : List ℕ) (number : ℕ) → writeComingOf d buffer ≡ refused number
+      → (afterCall d (write buffer) ≡ d) × (comingBufferOf d buffer ≡ buffer)
   pub ask-refused : (d : Node) (inbox : List ℕ) (number : ℕ) → askOf d inbox ≡ refused number
       → afterCall d (ask inbox) ≡ d
 

@@ -1,4 +1,4 @@
--- An honest node's first record is the one that an accepted start gave. Assumes nothing.
+-- An honest node's first record is the one that an accepted start gave.
 use mathlib.Core.Path.{_≡_, refl}
 use mathlib.Core.Bool.{Bool, true, false, cond}
 use mathlib.Core.List.{List, [], _∷_}

@@ -1,6 +1,6 @@
 -- What a slot says, if it counts and begins with bytes that a node wrote: it is read to the node's coming message, and
 -- that puts forward what the abstract engine's node says. That it counts is nowhere supposed of what a node wrote.
--- Builds on law 3, in crate node. Assumes nothing.
+-- Builds on law 3, in crate node.
 use mathlib.Core.Path.{_≡_, refl, sym, ap, _∙_}
 use mathlib.Core.Bool.{Bool, true, false, cond}
 use mathlib.Core.List.{List, _++_}
@@ -19,8 +19,7 @@ use Rattle.message.specs.Fields.{Message}
 use Rattle.message.specs.Reading.{readOf}
 use Rattle.writer.specs.Writing.{validationOf}
 use Rattle.ballot.specs.Ballot.{Ballot}
-use Rattle.model.specs.Node as model
-use Rattle.model.specs.Node.{Round, selecting, validating, deciding, say}
+use Rattle.model.proofs.Voter.{Voter, Round, selecting, validating, deciding, say}
 use Rattle.node.specs.declared.Node.{Node}
 use Rattle.node.specs.Sending.{comingOf, encoded, comingBytes}
 use Rattle.node.proofs.Facts.{Typed}
@@ -45,7 +44,6 @@ pub record Heard (writer reader : Node) (m : Ballot) : Type 0 where
 pub slot-heard : (writer reader : Node) (inbox buffer written rest : List ℕ) (q : ℕ) (m : Ballot) → Typed writer
     → Puts writer (write buffer) written → slotAt inbox q ≡ written ++ rest → ballotAt reader inbox q ≡ some m
     → Heard writer reader m
-unfolding ballotAt
 slot-heard d reader inbox buffer written rest q m typed puts slot counts = go (comingOf d) refl
   where
     bytes : comingBytes d ≡ written
@@ -73,7 +71,7 @@ forward none = none
 forward (some m) = some (ballotOf (m .body))
 
 -- a record's coming message puts forward what the engine's node says, and is silence where that node is silent
-pub coming-said : (crew : Crew) (run q phase : ℕ) (round : Round) (a : model.Node) → Accepts crew
+pub coming-said : (crew : Crew) (run q phase : ℕ) (round : Round) (a : Voter) → Accepts crew
     → forward (comingOf (asRecord crew run q phase round a)) ≡ say (classOf crew) crew phase round q a
 unfolding comingOf
 coming-said crew run q phase selecting a accepts =

@@ -1,6 +1,6 @@
 -- Demand 3: one statement on a whole list of start, write, ask and take calls on bytes (document 01, 'The list in
 -- demand 3'). This is the page that a reader has to believe: definitions only. What a call answers and leaves behind is
--- startOf, writeOf, bufferOf, askOf and takeOf, the very definitions that the contracts of the functions cite.
+-- startOf, writeComingOf, comingBufferOf, askOf and takeOf: the very definitions that the functions' contracts cite.
 -- proofs/Demand.antt proves it; proofs/Example.antt has a list that meets the premises.
 use mathlib.Core.Path.{_≡_}
 use mathlib.Core.Bool.{Bool, true, false, not, cond, _&&_}
@@ -23,7 +23,7 @@ use Rattle.ballot.specs.Decision.{fresh}
 use Rattle.node.specs.declared.Node.{Node}
 use Rattle.node.specs.Record.{blank}
 use Rattle.node.specs.Starting.{startOf}
-use Rattle.node.specs.Sending.{comingOf, comingBytes, writeOf, bufferOf}
+use Rattle.node.specs.Sending.{comingOf, comingBytes, writeComingOf, comingBufferOf}
 use Rattle.inbox.specs.Inbox.{slotAt, ballotAt, ballots}
 use Rattle.rounds.specs.Taking.{takeOf}
 use Rattle.rounds.specs.Asking.{askOf}
@@ -49,7 +49,7 @@ pub record Event : Type 0 where
   pub call : Call
 
 -- 01: "It begins with starts". Then come the rounds, each the list of its calls, in the order in which they are made.
-pub record Listing : Type 0 where
+pub record Execution : Type 0 where
   pub starts : List Start
   pub rounds : List (List Event)
 
@@ -74,7 +74,7 @@ numbered q ds = countIf (λ d. eqb (d .own) q) ds
 
 -- 01: "The honest nodes are those whose records these starts gave; the other numbers below n are the nodes that are not
 -- honest."
-abbrev pub honest : Listing → ℕ → Bool
+abbrev pub honest : Execution → ℕ → Bool
 honest l q = ltb 0 (numbered q (made (l .starts)))
 
 -- the record with this own number; every honest node has one
@@ -124,11 +124,11 @@ callsOf p [] = []
 callsOf p (e ∷ es) = cond (eqb (e .node) p) (e .call ∷ callsOf p es) (callsOf p es)
 
 -- those of round j; the list's first round is round 0
-abbrev pub calls : Listing → ℕ → ℕ → List Call
+abbrev pub calls : Execution → ℕ → ℕ → List Call
 calls l p j = callsOf p (getD (l .rounds) j [])
 
 -- the record of p when round j begins
-unfoldable pub recordAt : Listing → ℕ → ℕ → Node
+unfoldable pub recordAt : Execution → ℕ → ℕ → Node
 recordAt l p zero = recordOf p (made (l .starts))
 recordAt l p (suc j) = afterCalls (recordAt l p j) (calls l p j)
 
@@ -140,7 +140,7 @@ takenInbox d (ask inbox ∷ cs) = takenInbox d cs
 takenInbox d (take-round inbox ∷ cs) = cond (isAccepted (takeOf d inbox)) (some inbox) (takenInbox d cs)
 
 -- the inbox that p took in round j
-abbrev pub inboxAt : Listing → ℕ → ℕ → Option (List ℕ)
+abbrev pub inboxAt : Execution → ℕ → ℕ → Option (List ℕ)
 inboxAt l p j = takenInbox (recordAt l p j) (calls l p j)
 
 -- What a node wrote in a round.
@@ -149,9 +149,9 @@ inboxAt l p j = takenInbox (recordAt l p j) (calls l p j)
 -- written nothing.
 abbrev pub Puts : Node → Call → List ℕ → Type 0
 Puts d (write buffer) bytes =
-    (writeOf d buffer ≡ accepted (length bytes))
+    (writeComingOf d buffer ≡ accepted (length bytes))
     × (0 < length bytes)
-    × (take (length bytes) (bufferOf d buffer) ≡ bytes)
+    × (take (length bytes) (comingBufferOf d buffer) ≡ bytes)
 Puts d (ask inbox) bytes = ⊥
 Puts d (take-round inbox) bytes = ⊥
 
@@ -192,10 +192,10 @@ module _ {A : Type 0} where
   Every P (a ∷ others) = P a × Every P others
 
 -- slot q of the inbox that p took in round j counts for p, and says m; each node has inboxes of its own
-abbrev pub Hears : Listing → ℕ → ℕ → ℕ → List ℕ → Ballot → Type 0
+abbrev pub Hears : Execution → ℕ → ℕ → ℕ → List ℕ → Ballot → Type 0
 Hears l p j q inbox m = (inboxAt l p j ≡ some inbox) × (ballotAt (recordAt l p j) inbox q ≡ some m)
 
-pub record Premises (l : Listing) (crew : Crew) (run : ℕ) : Type 0 where
+pub record Premises (l : Execution) (crew : Crew) (run : ℕ) : Type 0 where
   -- what the types of a start's arguments say: a run has four bytes, a plan two
   pub typed : Every (λ s. (s .run < runLimit) × (s .plan < planLimit)) (l .starts)
   -- the accepted starts have one accepted crew and one run; a refused one may carry anything
@@ -226,7 +226,7 @@ isFor crew phase v m = fresh (classOf crew) phase m && votes v m
 -- In round j the plan v wins for p.
 -- 01: "in some round 3 that it took, at least D counting slots held one plan (in classes 2 and 3 with the phase as
 -- stamp)"
-abbrev pub Wins : Listing → Crew → ℕ → ℕ → ℕ → Type 0
+abbrev pub Wins : Execution → Crew → ℕ → ℕ → ℕ → Type 0
 Wins l crew p j v =
     (roundAt crew j ≡ 3)
     × (inbox : List ℕ)
@@ -234,18 +234,18 @@ Wins l crew p j v =
     × (crew .d ≤ tally (λ q. holds (isFor crew (phaseAt crew j) v) (ballotAt (recordAt l p j) inbox q)) (crew .n))
 
 -- 01: "A node has decided when, in some round 3 that it took, .."
-abbrev pub Decided : Listing → Crew → ℕ → Type 0
+abbrev pub Decided : Execution → Crew → ℕ → Type 0
 Decided l crew p = (j : ℕ) × (v : ℕ) × Wins l crew p j v
 
 -- 01: "The plan it decided is the least such plan of the first such round."
-pub record PlanDecided (l : Listing) (crew : Crew) (p v : ℕ) : Type 0 where
+pub record PlanDecided (l : Execution) (crew : Crew) (p v : ℕ) : Type 0 where
   pub round : ℕ
   pub wins : Wins l crew p round v
   pub least : (w : ℕ) → Wins l crew p round w → v ≤ w
   pub first : (i w : ℕ) → i < round → Wins l crew p i w → ⊥
 
 -- 01: "Its standing result is its record's result after the list."
-abbrev pub standing : Listing → ℕ → ℕ
+abbrev pub standing : Execution → ℕ → ℕ
 standing l p = recordAt l p (length (l .rounds)) .result
 
 -- Good phases.
@@ -256,20 +256,20 @@ ballotsIn d none = []
 ballotsIn d (some inbox) = ballots d inbox
 
 -- those of the inbox that p took in round j
-abbrev pub heard : Listing → ℕ → ℕ → List Ballot
+abbrev pub heard : Execution → ℕ → ℕ → List Ballot
 heard l p j = ballotsIn (recordAt l p j) (inboxAt l p j)
 
 -- 01: "silence (length 0, nothing written) if select is 0". A node whose writes are all refused is not silent by that.
-abbrev pub Silent : Listing → ℕ → ℕ → Type 0
+abbrev pub Silent : Execution → ℕ → ℕ → Type 0
 Silent l q j = comingOf (recordAt l q j) ≡ none
 
 -- The phase is good, with this circle.
-pub record Good (l : Listing) (crew : Crew) (phase : ℕ) (circle : ℕ → Bool) : Type 0 where
+pub record Good (l : Execution) (crew : Crew) (phase : ℕ) (circle : ℕ → Bool) : Type 0 where
   -- 01: "there is a circle of at least n − b − f honest nodes"
   pub inside : (p : ℕ) → T (circle p) → T (honest l p)
   pub wide : crew .n ≤ tally circle (crew .n) + crew .b + crew .f
   -- 01: "A good phase has all its rounds in the list."
-  pub listed : (j : ℕ) → phaseAt crew j ≡ phase → j < length (l .rounds)
+  pub complete : (j : ℕ) → phaseAt crew j ≡ phase → j < length (l .rounds)
   -- 01: "In round 1 all of them have the same counting messages, each in as many slots of one inbox as of another"
   pub equal : (j p q : ℕ) → phaseAt crew j ≡ phase → roundAt crew j ≡ 1 → T (circle p) → T (circle q)
       → (m : Ballot) → countIf (sameBallot m) (heard l p j) ≡ countIf (sameBallot m) (heard l q j)
@@ -280,29 +280,29 @@ pub record Good (l : Listing) (crew : Crew) (phase : ℕ) (circle : ℕ → Bool
 
 -- Conclusions.
 
--- What the calls on an unspent record answer: a write is refused only with 9, a take and an ask only with 14.
--- 01: "Asking outside round 1 is also 7."
+-- What the calls on an unspent record answer: a write is refused only with 9, a take and an ask only with 14, an ask
+-- outside round 1 with 7.
 pub record Unspent (n : ℕ) (d : Node) : Type 0 where
   pub writes : (buffer : List ℕ)
-      → (writeOf d buffer ≡ accepted (length (comingBytes d)))
-      ⊎ ((writeOf d buffer ≡ refused 9) × (length buffer < length (comingBytes d)))
+      → (writeComingOf d buffer ≡ accepted (length (comingBytes d)))
+      ⊎ ((writeComingOf d buffer ≡ refused 9) × (length buffer < length (comingBytes d)))
   pub takes : (inbox : List ℕ) → length inbox ≡ slotSize * n → T (isAccepted (takeOf d inbox))
   pub takes-not : (inbox : List ℕ) → length inbox ≢ slotSize * n → takeOf d inbox ≡ refused 14
   pub asks : (inbox : List ℕ) → d .round ≡ 1 → length inbox ≡ slotSize * n → T (isAccepted (askOf d inbox))
   pub asks-not : (inbox : List ℕ) → d .round ≡ 1 → length inbox ≢ slotSize * n → askOf d inbox ≡ refused 14
   pub asks-late : (inbox : List ℕ) → d .round ≢ 1 → askOf d inbox ≡ refused 7
 
--- 01: "When the records are spent, every call is refused with 8"
+-- what they answer when the record is spent
 pub record Spent (d : Node) : Type 0 where
   pub phase : d .phase ≡ spentPhase
   pub round : d .round ≡ 1
-  pub writes-not : (buffer : List ℕ) → (writeOf d buffer ≡ refused 8) × (bufferOf d buffer ≡ buffer)
+  pub writes-not : (buffer : List ℕ) → (writeComingOf d buffer ≡ refused 8) × (comingBufferOf d buffer ≡ buffer)
   pub takes-not : (inbox : List ℕ) → takeOf d inbox ≡ refused 8
   pub asks-not : (inbox : List ℕ) → askOf d inbox ≡ refused 8
 
 -- A list cut short after any of its rounds is a list again, and meets the premises where the whole does
 -- (proofs/Prefix.antt): so what is said of the standing results holds after every round.
-pub record Conclusions (l : Listing) (crew : Crew) : Type 0 where
+pub record Conclusions (l : Execution) (crew : Crew) : Type 0 where
   -- a standing result is the plan that the node decided, and 0 where it has not decided
   pub result : (p : ℕ) → T (honest l p)
       → PlanDecided l crew p (standing l p) ⊎ ((Decided l crew p → ⊥) × (standing l p ≡ 0))
@@ -325,4 +325,4 @@ pub record Conclusions (l : Listing) (crew : Crew) : Type 0 where
       → Spent (recordAt l p j) × (recordAt l p (suc j) ≡ recordAt l p j)
 
 abbrev pub Demand3 : Type 0
-Demand3 = (l : Listing) (crew : Crew) (run : ℕ) → Premises l crew run → Conclusions l crew
+Demand3 = (l : Execution) (crew : Crew) (run : ℕ) → Premises l crew run → Conclusions l crew

@@ -11,15 +11,16 @@ use borrow.Author.Tests.{le-leb}
 use Rattle.crew.specs.Parts.{mostNodes}
 use Rattle.message.specs.Fields.{selection}
 use Rattle.message.specs.Layout.{slotSize}
-use Rattle.writer.specs.Writing.{listed, bufferOf, selectionBufferOf}
+use Rattle.writer.specs.Writing.{messageBufferOf, selectionBufferOf}
+use Rattle.wire.specs.Entry.{entriesFrom}
 use Rattle.aisle.specs.declared.State.{State}
 use Rattle.aisle.specs.Round.{delivered, slotsOf, inboxSize}
 
 -- a selection that lists no phase has no entries
 pub selection-said : (phase plan stamp : ℕ) (history slot : List ℕ)
     → selectionBufferOf 1 phase plan stamp history 0 slot
-    ≡ bufferOf (record { run = 1; phase = phase; body = selection plan stamp [] }) slot
-unfolding listed
+    ≡ messageBufferOf (record { run = 1; phase = phase; body = selection plan stamp [] }) slot
+unfolding entriesFrom
 selection-said phase plan stamp history slot = rw (le-leb 0 phase (omega arith))
 
 -- A list's front, a part after it and its rest: what the part is, and the list with another part in its place.

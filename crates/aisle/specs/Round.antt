@@ -10,9 +10,10 @@ use Rattle.wire.specs.Sizes.{spentPhase}
 use Rattle.crew.specs.Parts.{blankCrew, mostNodes}
 use Rattle.message.specs.Layout.{slotSize}
 use Rattle.message.specs.Fields.{Body, selection, validation, decision, Message}
-use Rattle.writer.specs.Writing.{bufferOf as messageBuffer}
+use Rattle.writer.specs.Writing.{messageBufferOf}
 use Rattle.node.specs.declared.Node.{Node}
-use Rattle.node.specs.Sending.{bufferOf as nodeBuffer}
+use Rattle.node.specs.Place.{roundAfter, phaseAfter}
+use Rattle.node.specs.Sending.{comingBufferOf}
 use Rattle.rounds.specs.Taking.{takeOf}
 use Rattle.pending.specs.Pairs.{nothing, isCut, saidOf}
 use Rattle.aisle.specs.declared.State.{State}
@@ -56,15 +57,16 @@ sayMessage phase round plan stamp = record { run = 1; phase = phase; body = sayB
 -- A slot with the message of a say at its front; plan 0 stands for no say.
 -- 01: "without a say it sends r nothing"
 unfoldable pub sayBuffer : ℕ → ℕ → ℕ → ℕ → List ℕ → List ℕ
-sayBuffer phase round plan stamp slot = cond (eqb plan 0) slot (messageBuffer (sayMessage phase round plan stamp) slot)
+sayBuffer phase round plan stamp slot =
+    cond (eqb plan 0) slot (messageBufferOf (sayMessage phase round plan stamp) slot)
 
 -- A receiver's slot for a sender, with what reaches it from there at its front.
--- 01: "`cut s r` (s to r is lost)"; "a cut wins over a say"
+-- 01: "a cut wins over a say"
 unfoldable pub delivered : State → ℕ → ℕ → List ℕ → List ℕ
 delivered st sender receiver slot =
     let said = saidOf (st .pending) sender receiver in
     cond (isCut (st .pending) sender receiver) slot
-    (cond (isHonest st sender) (nodeBuffer (nodeAt st sender) slot)
+    (cond (isHonest st sender) (comingBufferOf (nodeAt st sender) slot)
     (sayBuffer (st .phase) (st .round) (said .plan) (said .stamp) slot))
 
 -- the slots of the first n senders, each empty before
@@ -87,13 +89,6 @@ nodeAfter st receiver = valueOr (nodeAt st receiver) (takeOf (nodeAt st receiver
 abbrev pub resultAt : State → ℕ → ℕ
 resultAt st i = nodeAt st i .result
 
--- 01: "Class 1 goes on to round 3, the others to round 2 and then 3."; after it "Phase rises by 1, round is 1."
-abbrev pub roundAfter : ℕ → ℕ → ℕ
-roundAfter class round = cond (leb 3 round) 1 (cond (eqb class 1) 3 (round + 1))
-
-abbrev pub phaseAfter : ℕ → ℕ → ℕ
-phaseAfter phase round = cond (leb 3 round) (phase + 1) phase
-
 -- 01: "Cuts and says last until the next go"
 unfoldable pub goOf : State → State
 goOf st = record {
@@ -109,6 +104,6 @@ goOf st = record {
 abbrev pub ready : State → Bool
 ready st = leb (st .crew .n) mostNodes && ltb (st .phase) spentPhase
 
--- 01: "When the records are spent, every call is refused with 8 and the round leaves all as it was."
+-- a go where no round can be run leaves all as it was
 unfoldable pub gone : State → State
 gone st = cond (ready st) (goOf st) st

@@ -16,6 +16,7 @@ ghost use Rattle.wire.specs.Sizes.{spentPhase};
 ghost use Rattle.crew.specs.Parts.{mostNodes};
 ghost use Rattle.message.specs.Layout.{slotSize};
 ghost use Rattle.node.specs.Record.{blank};
+ghost use Rattle.node.specs.Place.{roundAfter, phaseAfter};
 ghost use Rattle.node.specs.Starting.{startOf};
 ghost use Rattle.aisle.specs.Round.{
   table,
@@ -25,8 +26,6 @@ ghost use Rattle.aisle.specs.Round.{
   inboxOf,
   nodeAfter,
   resultAt,
-  roundAfter,
-  phaseAfter,
   goOf,
   gone,
 };
@@ -120,20 +119,23 @@ fn take_round(state: State, receiver: usize) -> Node
 fn round_after(class: u8, round: u8) -> u8
     ensures { λ r. ⌜ r ≡ roundAfter class round ⌝ }
 {
-    if Node::DECISION <= round {
-        return Node::SELECTION;
+    if round == Node::SELECTION {
+        if class == Crew::CLASS_ONE {
+            return Node::DECISION;
+        }
+        return Node::VALIDATION;
     }
-    if class == Crew::CLASS_ONE {
+    if round == Node::VALIDATION {
         return Node::DECISION;
     }
-    round + 1
+    Node::SELECTION
 }
 
 fn phase_after(phase: u8, round: u8) -> u8
     requires { ⌜ phase < spentPhase ⌝ }
     ensures { λ r. ⌜ r ≡ phaseAfter phase round ⌝ }
 {
-    if Node::DECISION <= round {
+    if round == Node::DECISION {
         return phase + 1;
     }
     phase

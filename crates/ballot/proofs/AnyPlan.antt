@@ -1,5 +1,5 @@
 -- The laws of the choice for 'any'. No other proof looks into `anyPlan`: what is taken for 'any' is settled by its
--- definition and these laws alone. Assumes nothing.
+-- definition and these laws alone.
 use mathlib.Core.Path.{_≡_, ap}
 use mathlib.Core.List.{List, [], _∷_}
 use mathlib.Core.Logic.{_≢_}

@@ -1,5 +1,5 @@
 -- The board of document 01: the examples that are to be proved, in its order, as one table with one theorem. Below it a
--- second table, of what no law of this crate would notice. Assumes nothing.
+-- second table, of what no law of this crate would notice.
 use mathlib.Core.Path.{_≡_, refl}
 use mathlib.Core.List.{List, [], _∷_, map}
 use Prim.Native.Nat.{ℕ}

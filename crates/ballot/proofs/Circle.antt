@@ -1,5 +1,5 @@
 -- Selection answers, and does not say 'none', where the slots of a circle of n − b − f honest senders count.
--- Stated of one inbox of n slots. Assumes nothing.
+-- Stated of one inbox of n slots.
 use mathlib.Core.Path.{_≡_, ap}
 use mathlib.Core.Bool.{Bool, true}
 use mathlib.Core.List.{List}

@@ -1,5 +1,4 @@
 -- The laws of counting, for any n and any list. Builds on specs/Count.antt.
--- Assumes nothing.
 use mathlib.Core.Path.{_≡_, refl, ap, _∙_, subst}
 use mathlib.Core.Bool.{Bool, true, false, not, _&&_}
 use mathlib.Core.List.{List, [], _∷_, _++_}

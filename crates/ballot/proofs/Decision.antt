@@ -1,5 +1,5 @@
 -- Decision by counts: what is decided is the least plan that stands in D slots, and in classes 2 and 3 only votes with
--- the phase as stamp decide. Builds on specs/Decision.antt. Assumes nothing.
+-- the phase as stamp decide. Builds on specs/Decision.antt.
 use mathlib.Core.Path.{_≡_, ap}
 use mathlib.Core.Bool.{Bool, _&&_}
 use mathlib.Core.List.{List}

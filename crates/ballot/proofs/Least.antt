@@ -1,5 +1,4 @@
 -- What the least vote is, said by counts. Builds on specs/Least.antt.
--- Assumes nothing.
 use mathlib.Core.Path.{_≡_, refl, ap, _∙_, fun-ext}
 use mathlib.Core.Bool.{Bool, true, false, cond, _&&_}
 use mathlib.Core.List.{List, [], _∷_}

@@ -1,5 +1,5 @@
 -- Selection keeps a lock: a node that selects while v is locked takes v, or nothing (source document 000, theorems 5 to
--- 7). Stated of one inbox of n slots. Assumes nothing.
+-- 7). Stated of one inbox of n slots.
 use mathlib.Core.Path.{_≡_, refl, ap}
 use mathlib.Core.Bool.{Bool, true, false, not, _&&_}
 use mathlib.Core.List.{List}
@@ -21,7 +21,7 @@ use Rattle.ballot.proofs.Counting.{count-le, count-none, count-not, len
 use Rattle.ballot.proofs.AnyPlan.{any-leader}
 use Rattle.ballot.proofs.Selection.{otherVote, supports-is, supports-vote, supports-below}
 use Rattle.ballot.proofs.Selection.{backed-three, selection-only, selection-finds}
-use Rattle.ballot.proofs.Slots.{Slots, EachFrom, FewLiars, liars-at-most-b, outside-core-at-most-E}
+use Rattle.ballot.proofs.Slots.{Slots, EachFrom, FewByzantine, byzantine-at-most-b, outside-core-at-most-E}
 
 -- the node takes v, or nothing
 abbrev pub Takes : ℕ → Class → Crew → List Ballot → Type 0
@@ -76,7 +76,7 @@ module _ (crew : Crew) (reach : crew .d + crew .b + crew .f ≤ crew .n) (slots 
 
   -- Classes 2 and 3: of the honest ballots those that do not vote v have a stamp below t.
 
-  module _ (honest : ℕ → Bool) (few : FewLiars crew honest)
+  module _ (honest : ℕ → Bool) (few : FewByzantine crew honest)
       (rest : EachFrom honest crew slots (λ m. (m .vote ≡ v) ⊎ (m .stamp < t))) where
     -- a rival with a stamp up to t is not possible: nobody in the core supports it
     not-possible : (m : Ballot) → m .vote ≢ v → m .stamp ≤ t → T (possible crew ballots m) → ⊥
@@ -96,7 +96,7 @@ module _ (crew : Crew) (reach : crew .d + crew .b + crew .f ≤ crew .n) (slots 
         let d = and-T (backed two crew ballots m) (not (votes v m)) h in
         omega (
           tests,
-          liars-at-most-b crew slots (λ k. possible crew ballots k && votes (m .vote) k) honest few λ q l y k e x.
+          byzantine-at-most-b crew slots (λ k. possible crew ballots k && votes (m .vote) k) honest few λ q l y k e x.
               let z = and-T (possible crew ballots k) (votes (m .vote) k) x in
               elim (rest q l y k e) [
                 | inl w ↦ omega tests
@@ -112,7 +112,7 @@ module _ (crew : Crew) (reach : crew .d + crew .b + crew .f ≤ crew .n) (slots 
         omega (
           tests,
           count-not (supports m) ballots,
-          liars-at-most-b crew slots (λ k. not (supports m k)) honest few λ q i y k o x.
+          byzantine-at-most-b crew slots (λ k. not (supports m k)) honest few λ q i y k o x.
               T-not (supports m k) x (elim (rest q i y k o) [
                 | inl w ↦ supports-vote m k (omega arith)
                 | inr w ↦ supports-below m k (omega arith)
@@ -152,7 +152,7 @@ module _ (crew : Crew) (reach : crew .d + crew .b + crew .f ≤ crew .n) (slots 
           let e = backed-three crew ballots m (d .0) in
           omega (
             tests,
-            liars-at-most-b crew slots (lists (m .vote) (m .stamp)) honest few λ q l y k o x.
+            byzantine-at-most-b crew slots (lists (m .vote) (m .stamp)) honest few λ q l y k o x.
                 elim (decLe (m .stamp) t) [
                   | yes z ↦ not-possible m (omega tests) z (e .0)
                   | no z ↦ omega (tests, listed q l y k o (m .vote) (m .stamp) x (omega arith))
@@ -170,7 +170,7 @@ module _ (crew : Crew) (reach : crew .d + crew .b + crew .f ≤ crew .n) (slots 
       leads-three : t ≡ 0 → T (enough three crew ballots) → anyPlan crew ballots ≡ v
       unfolding enough
       leads-three z h =
-          let others = liars-at-most-b crew slots (λ m. not (votes v m)) honest few λ q l y k o x.
+          let others = byzantine-at-most-b crew slots (λ m. not (votes v m)) honest few λ q l y k o x.
           elim (rest q l y k o) [ inl w ↦ omega tests | inr w ↦ omega arith ] in
           let zeros = count-le (stamped 0) (λ m. true) ballots (λ m x. tt) in
           let leader : crew .b < countIf (votes v) ballots

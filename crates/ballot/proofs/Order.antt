@@ -1,5 +1,5 @@
 -- An inbox's order does not matter: two lists with the same ballots, each as often, give the same selection, the same
--- plan taken, the same validation and the same decision. Assumes nothing.
+-- plan taken, the same validation and the same decision.
 use mathlib.Core.Path.{_≡_, refl, ap, ap₂, _∙_, fun-ext}
 use mathlib.Core.Bool.{Bool, true, false, cond, _&&_}
 use mathlib.Core.List.{List, [], _∷_}

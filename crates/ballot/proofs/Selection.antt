@@ -1,5 +1,5 @@
 -- Selection by counts: whether none, exactly one or several plans are backed, when the answer is not 'none', and that
--- the plan taken is a slot's vote. Builds on specs/Selection.antt. Assumes nothing.
+-- the plan taken is a slot's vote. Builds on specs/Selection.antt.
 use mathlib.Core.Path.{_≡_, refl, ap, _∙_}
 use mathlib.Core.Bool.{Bool, true, false, not, cond, _&&_}
 use mathlib.Core.List.{List}

@@ -1,5 +1,5 @@
 -- What a set of senders says, and how many slots of an inbox then pass a test: the bounds by which every later argument
--- counts. Assumes nothing.
+-- counts.
 use mathlib.Core.Path.{_≡_, ap}
 use mathlib.Core.Bool.{Bool, not}
 use mathlib.Core.List.{[]}
@@ -44,8 +44,8 @@ abbrev pub EachFrom : (ℕ → Bool) → Crew → Slots → (Ballot → Type 0) 
 EachFrom senders crew slots P = (q : ℕ) → q < crew .n → T (senders q) → (m : Ballot) → slots q ≡ some m → P m
 
 -- at most b nodes are not honest
-abbrev pub FewLiars : Crew → (ℕ → Bool) → Type 0
-FewLiars crew honest = tally (λ q. not (honest q)) (crew .n) ≤ crew .b
+abbrev pub FewByzantine : Crew → (ℕ → Bool) → Type 0
+FewByzantine crew honest = tally (λ q. not (honest q)) (crew .n) ≤ crew .b
 
 module _ (crew : Crew) (slots : Slots) (p : Ballot → Bool) where
   pub slot-counts : (q : ℕ) → q < crew .n → (m : Ballot) → slots q ≡ some m → T (p m)
@@ -69,9 +69,10 @@ module _ (crew : Crew) (slots : Slots) (p : Ballot → Bool) where
       )
 
   -- what no honest ballot passes, at most b slots pass
-  pub liars-at-most-b : (honest : ℕ → Bool) → FewLiars crew honest → EachFrom honest crew slots (λ m. T (p m) → ⊥)
+  pub byzantine-at-most-b : (honest : ℕ → Bool) → FewByzantine crew honest
+      → EachFrom honest crew slots (λ m. T (p m) → ⊥)
       → countIf p (inbox crew slots) ≤ crew .b
-  liars-at-most-b honest few h =
+  byzantine-at-most-b honest few h =
       omega (
         arith,
         count-gather p slots (crew .n),
@@ -105,7 +106,7 @@ module _ (crew : Crew) (slots : Slots) (p : Ballot → Bool) where
 
 -- Overlap: two tests that no honest slot passes both. If their slots come from certain senders, the two counts make at
 -- most the number of these senders and b.
-pub overlap : (crew : Crew) (honest : ℕ → Bool) → FewLiars crew honest → (senders : ℕ → Bool) (left right : Slots)
+pub overlap : (crew : Crew) (honest : ℕ → Bool) → FewByzantine crew honest → (senders : ℕ → Bool) (left right : Slots)
     (p r : Ballot → Bool)
     → Implies (crew .n) (λ q. holds p (left q)) senders → Implies (crew .n) (λ q. holds r (right q)) senders
     → ((q : ℕ) → q < crew .n → T (honest q) → T (holds p (left q)) → T (holds r (right q)) → ⊥)

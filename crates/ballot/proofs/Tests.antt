@@ -1,5 +1,4 @@
 -- Tests joined by `&&` and `||`, and tests on a slot that may be empty, as facts.
--- Assumes nothing.
 use mathlib.Core.Path.{_≡_, refl}
 use mathlib.Core.Bool.{Bool, true, false, _&&_, _||_}
 use mathlib.Core.Logic.{_⊎_, inl, inr}

@@ -1,5 +1,5 @@
 -- Validation by counts: one plan at most is validated in a phase, and only one that stands in slots.
--- Builds on specs/Validation.antt. Assumes nothing.
+-- Builds on specs/Validation.antt.
 use mathlib.Core.Path.{_≡_, sym, _∙_}
 use mathlib.Core.Bool.{Bool, not}
 use mathlib.Core.List.{List}
@@ -17,7 +17,7 @@ use Rattle.ballot.specs.Validation.{validates, valid, validated}
 use Rattle.ballot.proofs.Tests.{holds-T}
 use Rattle.ballot.proofs.Counting.{all-of, tally-none, tally-all}
 use Rattle.ballot.proofs.Least.{Voted, leastOf-passes, leastOf-voted, leastOf-only}
-use Rattle.ballot.proofs.Slots.{Slots, same-ballot, same-vote, FewLiars, overlap}
+use Rattle.ballot.proofs.Slots.{Slots, same-ballot, same-vote, FewByzantine, overlap}
 
 module _ (crew : Crew) where
   pub validated-voted : (ballots : List Ballot) → Voted (validated crew ballots) ballots
@@ -35,7 +35,7 @@ module _ (crew : Crew) where
   validators-counted phase = omega (arith, tally-all (crew .n))
 
   -- two plans that validators vote for, and no honest one for both: not both are valid
-  valid-apart : (honest : ℕ → Bool) → FewLiars crew honest → (phase : ℕ) (left right : Slots) (v w : ℕ)
+  valid-apart : (honest : ℕ → Bool) → FewByzantine crew honest → (phase : ℕ) (left right : Slots) (v w : ℕ)
       → ((q : ℕ) → q < crew .n → T (honest q) → T (holds (votes v) (left q)) → T (holds (votes w) (right q)) → ⊥)
       → countIf (votes v) (inbox crew left) + countIf (votes w) (inbox crew right) ≤ validAbove crew
   valid-apart honest few phase left right v w apart =
@@ -46,7 +46,7 @@ module _ (crew : Crew) where
       )
 
   -- two inboxes of a phase, in which no honest sender says two things: one plan is validated, if any is
-  pub validated-unique : (honest : ℕ → Bool) → FewLiars crew honest → (phase : ℕ) (left right : Slots)
+  pub validated-unique : (honest : ℕ → Bool) → FewByzantine crew honest → (phase : ℕ) (left right : Slots)
       → ((q v w : ℕ) → q < crew .n → T (honest q) → T (holds (votes v) (left q)) → T (holds (votes w) (right q))
       → v ≡ w)
       → validated crew (inbox crew left) ≢ 0 → validated crew (inbox crew right) ≢ 0

@@ -1,6 +1,5 @@
--- A ballot is what one counting slot says; the rules see an inbox as the list of its ballots.
--- Document 01, 'Messages': "A slot counts when reading it succeeds and its run, kind and phase are those of the node's
--- coming round".
+-- A ballot is what one counting slot says; the rules see an inbox as the list of its ballots. Which slots count says
+-- inbox/specs/Inbox, from document 01, 'Messages'.
 use mathlib.Core.Bool.{Bool, true, false, _&&_}
 use mathlib.Core.List.{List, [], _∷_}
 use mathlib.Core.Option.{Option}

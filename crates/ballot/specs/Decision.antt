@@ -19,6 +19,6 @@ fresh three phase m = stamped phase m
 unfoldable pub decides : Class → Crew → ℕ → List Ballot → ℕ → Bool
 decides class crew phase ballots v = leb (crew .d) (countIf (λ m. fresh class phase m && votes v m) ballots)
 
--- 01: "If there are any and result is 0, result becomes the least": the least, 0 where there are none
+-- the least of them, 0 where there are none
 unfoldable pub decision : Class → Crew → ℕ → List Ballot → ℕ
 decision class crew phase ballots = leastOf (decides class crew phase ballots) ballots

@@ -57,7 +57,6 @@ enough one crew ballots = ltb (anyAbove one crew) (length ballots)
 enough two crew ballots = ltb (anyAbove two crew) (length ballots)
 enough three crew ballots = ltb (anyAbove three crew) (countIf (stamped 0) ballots)
 
--- 01: "'any' if .., else 'none'"
 abbrev pub anyIf : Bool → Choice
 anyIf true = any
 anyIf false = nothing
@@ -89,7 +88,7 @@ mostVoted ballots = leastOf (leading ballots) ballots
 unfoldable pub anyPlan : Crew → List Ballot → ℕ
 anyPlan crew ballots = mostVoted ballots
 
--- 01: "Select is the plan, or 0 for 'none'": what a node takes on an answer
+-- what a node takes on an answer, 0 for 'none'
 abbrev pub takenOn : Crew → List Ballot → Choice → ℕ
 takenOn crew ballots (plan v) = v
 takenOn crew ballots any = anyPlan crew ballots

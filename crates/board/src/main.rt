@@ -1,10 +1,10 @@
 // The board examples of document 01 that are not proved as theorems, and further ones, which go to the bounds of each
 // rule from both sides. Each is put to the engine, and what it answers is compared with the file stdout beside this
 // folder.
+use crew::AcceptRefusal;
 use crew::Acceptance;
 use crew::Crew;
 use crew::MOST_NODES;
-use crew::Refusal;
 use libc::STDOUT_FILENO;
 use message::SLOT;
 use node::Node;
@@ -72,12 +72,12 @@ fn show_crew(crew: Crew) {
 }
 
 // 01's number of a refusal.
-fn number_of(why: Refusal) -> u64 {
+fn number_of(why: AcceptRefusal) -> u64 {
     match why {
-        Refusal::Class => boundary::CLASS,
-        Refusal::Size => boundary::SIZE,
-        Refusal::QuorumTooHigh => boundary::QUORUM_TOO_HIGH,
-        Refusal::QuorumTooLow => boundary::QUORUM_TOO_LOW,
+        AcceptRefusal::Class => boundary::CLASS,
+        AcceptRefusal::Size => boundary::SIZE,
+        AcceptRefusal::QuorumTooHigh => boundary::QUORUM_TOO_HIGH,
+        AcceptRefusal::QuorumTooLow => boundary::QUORUM_TOO_LOW,
     }
 }
 

@@ -1,6 +1,5 @@
 -- What a caller makes of an answer to asking: 0 is 'none', 2^32 is 'any', every other value a plan. Where the inbox
 -- holds bytes no plan is 0 or above what a plan's bytes can hold, so that is the choice which the engine answers.
--- Assumes nothing.
 use mathlib.Core.Path.{_≡_, refl, subst}
 use mathlib.Core.Bool.{cond, _&&_}
 use mathlib.Core.List.{List}

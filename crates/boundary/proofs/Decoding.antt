@@ -1,6 +1,5 @@
 -- What a caller sees: the top byte of an answer is the number of the refusal, 0 where there is none, and the seven
 -- below it are the value. That each function's answers are `Apart` is in its contract.
--- Assumes nothing.
 use mathlib.Core.Path.{_≡_}
 use Prim.Native.Nat.{ℕ, _/_, _%_}
 use native.Mathlib.Omega.{arith}

@@ -1,5 +1,4 @@
 -- What the engine's answers say of the definitions' outcomes, as the functions for C and Rust use them.
--- Assumes nothing.
 use mathlib.Core.Path.{_≡_, refl, ap}
 use mathlib.Core.List.{List}
 use Prim.Native.Nat.{ℕ, _*_, _<_}

@@ -7,7 +7,7 @@ use lib.Dec.{ltb, eqb}
 use Rattle.wire.specs.Sizes.{planSize, runSize}
 use Rattle.wire.specs.Outcome.{Outcome, accepted, refused, require, after, verdict}
 use Rattle.wire.specs.Entry.{Entry}
-use Rattle.wire.specs.Bytes.{bytesOf}
+use Rattle.wire.specs.Bytes.{bytesOf, bufferAfter}
 use Rattle.crew.specs.declared.Crew.{Crew}
 use Rattle.message.specs.Layout.{entrySize}
 use Rattle.message.specs.Fields.{Body, selection, validation, decision, Message}
@@ -16,7 +16,7 @@ use Rattle.ballot.specs.Selection.{Choice, plan, any, nothing}
 use Rattle.node.specs.declared.Node.{Node}
 use Rattle.node.specs.Soundness.{sound}
 use Rattle.node.specs.Starting.{startOf}
-use Rattle.node.specs.Sending.{writeOf, comingBytes, bufferAfter}
+use Rattle.node.specs.Sending.{writeComingOf, comingBytes}
 use Rattle.rounds.specs.Taking.{takeOf}
 use Rattle.rounds.specs.Asking.{askOf}
 use Rattle.image.specs.Layout.{imageFits, imageOf, recordIn}
@@ -71,7 +71,7 @@ abbrev pub startInto : List ℕ → Crew → ℕ → ℕ → ℕ → Outcome Nod
 startInto image crew own run first = onImage image (startOf crew own run first)
 
 abbrev pub writeFrom : List ℕ → List ℕ → Outcome ℕ
-writeFrom image buffer = onImage image (writeOf (recordIn image) buffer)
+writeFrom image buffer = onImage image (writeComingOf (recordIn image) buffer)
 
 -- the whole buffer after writing
 abbrev pub bufferFrom : List ℕ → List ℕ → List ℕ

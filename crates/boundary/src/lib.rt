@@ -23,12 +23,12 @@ ghost use Prim.Native.Nat.{ℕ, _*_, _<_};
 ghost use lib.ListN.{length};
 ghost use Rattle.wire.specs.Outcome.{valueOr};
 ghost use Rattle.crew.specs.Parts.{crewOf};
-ghost use Rattle.crew.specs.Acceptance.{acceptOf, answered as acceptedAs, number as crewNumber};
-ghost use Rattle.message.specs.Reading.{bodyAs, number as readNumber};
-ghost use Rattle.node.specs.Starting.{number as startNumber};
-ghost use Rattle.node.specs.Sending.{number as sendNumber, answered as sentAs};
-ghost use Rattle.rounds.specs.Taking.{number as roundNumber};
-ghost use Rattle.rounds.specs.Asking.{answered as askedAs};
+ghost use Rattle.crew.specs.Acceptance.{acceptOf, acceptAnswer, acceptNumber};
+ghost use Rattle.message.specs.Reading.{bodyAs, readNumber};
+ghost use Rattle.node.specs.Starting.{startNumber};
+ghost use Rattle.node.specs.Sending.{sendNumber, sendAnswer};
+ghost use Rattle.rounds.specs.Taking.{takeNumber};
+ghost use Rattle.rounds.specs.Asking.{askAnswer};
 ghost use Rattle.boundary.specs.Answers.{
   refusalUnit,
   done,
@@ -54,7 +54,7 @@ ghost use Rattle.boundary.specs.Answers.{
 };
 
 // 01's numbers of the refusals. The engine below answers by name, so this is the one place where its code has them.
-// 01: "Accepting a crew: 1 class not 1 to 3; 2 n not 1 to 32; 3 D + b + f > n; 4 D too low for the class."
+// Accepting a crew.
 pub const CLASS: u64 = 1;
 
 pub const SIZE: u64 = 2;
@@ -63,20 +63,19 @@ pub const QUORUM_TOO_HIGH: u64 = 3;
 
 pub const QUORUM_TOO_LOW: u64 = 4;
 
-// 01: "Starting a node: 1 to 4; 5 own number not below n; 6 plan 0."
+// Starting a node: a crew's as well.
 const OWN: u64 = 5;
 
 const NO_PLAN: u64 = 6;
 
-// 01: "Writing the coming message: 7 record not sound; 8 spent; 9 buffer shorter than the message."
+// Writing the coming message.
 const UNSOUND: u64 = 7;
 
 const SPENT: u64 = 8;
 
 const SHORT: u64 = 9;
 
-// 01: "Reading: 10 slice under 9 bytes, length under 9, or length beyond the slice; 11 kind not 1 to 3; 12 length not
-// that of the kind ..; 13 a bound broken, or k above 63."
+// Reading.
 const CUT: u64 = 10;
 
 const KIND: u64 = 11;
@@ -85,7 +84,7 @@ const LENGTH: u64 = 12;
 
 const BOUND: u64 = 13;
 
-// 01: "Taking a round, or only asking for the coming selection ..: 7; 8; 14 inbox length not 202n."
+// Taking a round, or asking for the coming selection: unsound and spent as well.
 const INBOX: u64 = 14;
 
 // What only this boundary refuses: after the engine's own numbers and those kept for it.
@@ -133,14 +132,14 @@ fn refusal(number: u64) -> u64
     REFUSAL * number
 }
 
-fn crew_number(why: crew::Refusal) -> u64
-    ensures { λ r. ⌜ (r ≡ crewNumber why) × (0 < r) × (r < 256) ⌝ }
+fn crew_number(why: crew::AcceptRefusal) -> u64
+    ensures { λ r. ⌜ (r ≡ acceptNumber why) × (0 < r) × (r < 256) ⌝ }
 {
     match why {
-        crew::Refusal::Class => CLASS,
-        crew::Refusal::Size => SIZE,
-        crew::Refusal::QuorumTooHigh => QUORUM_TOO_HIGH,
-        crew::Refusal::QuorumTooLow => QUORUM_TOO_LOW,
+        crew::AcceptRefusal::Class => CLASS,
+        crew::AcceptRefusal::Size => SIZE,
+        crew::AcceptRefusal::QuorumTooHigh => QUORUM_TOO_HIGH,
+        crew::AcceptRefusal::QuorumTooLow => QUORUM_TOO_LOW,
     }
 }
 
@@ -164,29 +163,29 @@ fn send_number(why: node::SendRefusal) -> u64
     }
 }
 
-fn read_number(why: message::Refusal) -> u64
+fn read_number(why: message::ReadRefusal) -> u64
     ensures { λ r. ⌜ (r ≡ readNumber why) × (0 < r) × (r < 256) ⌝ }
 {
     match why {
-        message::Refusal::Cut => CUT,
-        message::Refusal::Kind => KIND,
-        message::Refusal::Length => LENGTH,
-        message::Refusal::Bound => BOUND,
+        message::ReadRefusal::Cut => CUT,
+        message::ReadRefusal::Kind => KIND,
+        message::ReadRefusal::Length => LENGTH,
+        message::ReadRefusal::Bound => BOUND,
     }
 }
 
-fn round_number(why: rounds::Refusal) -> u64
-    ensures { λ r. ⌜ (r ≡ roundNumber why) × (0 < r) × (r < 256) ⌝ }
+fn round_number(why: rounds::TakeRefusal) -> u64
+    ensures { λ r. ⌜ (r ≡ takeNumber why) × (0 < r) × (r < 256) ⌝ }
 {
     match why {
-        rounds::Refusal::Unsound => UNSOUND,
-        rounds::Refusal::Spent => SPENT,
-        rounds::Refusal::Inbox => INBOX,
+        rounds::TakeRefusal::Unsound => UNSOUND,
+        rounds::TakeRefusal::Spent => SPENT,
+        rounds::TakeRefusal::Inbox => INBOX,
     }
 }
 
 fn accepting_answer(answer: Acceptance) -> u64
-    ensures { λ r. ⌜ (r ≡ answerOf done (acceptedAs answer)) × Apart done (acceptedAs answer) ⌝ }
+    ensures { λ r. ⌜ (r ≡ answerOf done (acceptAnswer answer)) × Apart done (acceptAnswer answer) ⌝ }
 {
     match answer {
         Acceptance::Accepted => 0,
@@ -246,8 +245,8 @@ pub extern "C" fn rail_start(
 
 // What writing the coming message answers, as a number.
 fn sending_answer(answer: Sending) -> u64
-    requires { ⌜ valueOr 0 (sentAs answer) < refusalUnit ⌝ }
-    ensures { λ r. ⌜ (r ≡ answerOf itself (sentAs answer)) × Apart itself (sentAs answer) ⌝ }
+    requires { ⌜ valueOr 0 (sendAnswer answer) < refusalUnit ⌝ }
+    ensures { λ r. ⌜ (r ≡ answerOf itself (sendAnswer answer)) × Apart itself (sendAnswer answer) ⌝ }
 {
     match answer {
         Sending::Bytes(size) => size as u64,
@@ -298,7 +297,7 @@ pub extern "C" fn rail_take(image: &mut [u8], inbox: &[u8]) -> u64
 
 // What asking answers, as a number: a plan, 0 for 'none', 2^32 for 'any'.
 fn asking_answer(answer: Asking) -> u64
-    ensures { λ r. ⌜ (r ≡ answerOf choiceNumber (askedAs answer)) × Apart choiceNumber (askedAs answer) ⌝ }
+    ensures { λ r. ⌜ (r ≡ answerOf choiceNumber (askAnswer answer)) × Apart choiceNumber (askAnswer answer) ⌝ }
 {
     match answer {
         Asking::Plan(plan) => plan as u64,

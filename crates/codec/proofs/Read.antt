@@ -1,5 +1,4 @@
 -- What is read is, byte for byte, what its fields are written as, and keeps the bounds: law 2 of the codec.
--- Assumes nothing.
 use mathlib.Core.Path.{_≡_, refl, sym, ap, _∙_, subst}
 use mathlib.Core.Bool.{true, _&&_}
 use mathlib.Core.List.{List, _∷_, _++_}

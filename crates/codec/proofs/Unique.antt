@@ -1,7 +1,6 @@
 -- The encoding is unique: two messages never share one, and all slices that are read to a message begin with the
 -- same bytes.
 -- 01: "Fields within the bounds have one encoding, this layout; demand 2's written form of a read message is it."
--- Assumes nothing.
 use mathlib.Core.Path.{_≡_, sym, ap, _∙_}
 use mathlib.Core.Bool.{true}
 use mathlib.Core.List.{List, _++_}

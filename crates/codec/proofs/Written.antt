@@ -1,5 +1,4 @@
 -- What is written is read to the fields that it was written from, whatever bytes follow: law 1 of the codec.
--- Assumes nothing.
 use mathlib.Core.Path.{_≡_, refl, ap}
 use mathlib.Core.Bool.{true, _&&_}
 use mathlib.Core.List.{List, [], _∷_, _++_}

@@ -1,5 +1,5 @@
 -- What acceptance gives, for every accepted crew: the inequalities on which all later arguments rest.
--- Builds on specs/Acceptance.antt and specs/Thresholds.antt. Assumes nothing.
+-- Builds on specs/Acceptance.antt and specs/Thresholds.antt.
 use mathlib.Core.Path.{_≡_}
 use mathlib.Core.Bool.{Bool, true, false, cond}
 use Prim.Native.Nat.{_+_, _-_, _*_, _≤_, _<_}
@@ -90,12 +90,12 @@ quorum-high {crew} a = go (classOf crew) (a .high)
     go two h = omega arith
     go three h = omega arith
 
--- a decision takes at least one vote, and more than the liars have
+-- a decision takes at least one vote, and more than the nodes that are not honest have
 pub quorum-positive : {crew : Crew} → Accepts crew → 1 ≤ crew .d
 quorum-positive a = omega (arith, quorum-high a)
 
-pub quorum-above-liars : {crew : Crew} → Accepts crew → crew .b < crew .d
-quorum-above-liars a = omega (arith, quorum-high a)
+pub quorum-above-b : {crew : Crew} → Accepts crew → crew .b < crew .d
+quorum-above-b a = omega (arith, quorum-high a)
 
 -- a circle of n − b − f nodes has the votes that decide
 pub circle-decides : {crew : Crew} → Accepts crew → crew .d ≤ crew .n - crew .b - crew .f

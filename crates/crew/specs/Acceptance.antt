@@ -5,8 +5,8 @@ use lib.Dec.{leb, ltb, eqb}
 use Rattle.wire.specs.Outcome.{Outcome, accepted, refused, require}
 use Rattle.crew.specs.Parts.{mostNodes}
 use Rattle.crew.specs.declared.Crew.{Crew}
-use Rattle.crew.specs.declared.Refusal.{Refusal}
-use Rattle.crew.specs.declared.Refusal.the-variants.{Class, Size, QuorumTooHigh, QuorumTooLow}
+use Rattle.crew.specs.declared.AcceptRefusal.{AcceptRefusal}
+use Rattle.crew.specs.declared.AcceptRefusal.the-variants.{Class, Size, QuorumTooHigh, QuorumTooLow}
 use Rattle.crew.specs.declared.Acceptance.{Acceptance}
 use Rattle.crew.specs.declared.Acceptance.the-variants.{Accepted, Refused}
 
@@ -39,13 +39,13 @@ acceptOf crew =
     (accepted tt))))
 
 -- 01's number of each refusal
-abbrev pub number : Refusal → ℕ
-number Class = 1
-number Size = 2
-number QuorumTooHigh = 3
-number QuorumTooLow = 4
+abbrev pub acceptNumber : AcceptRefusal → ℕ
+acceptNumber Class = 1
+acceptNumber Size = 2
+acceptNumber QuorumTooHigh = 3
+acceptNumber QuorumTooLow = 4
 
 -- what an answer of `accept` says in 01's terms
-abbrev pub answered : Acceptance → Outcome (Unit {0})
-answered Accepted = accepted tt
-answered (Refused why) = refused (number why)
+abbrev pub acceptAnswer : Acceptance → Outcome (Unit {0})
+acceptAnswer Accepted = accepted tt
+acceptAnswer (Refused why) = refused (acceptNumber why)

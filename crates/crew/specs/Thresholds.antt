@@ -15,15 +15,12 @@ classOf crew = cond (eqb (crew .class) 1) one (cond (eqb (crew .class) 2) two th
 abbrev pub E : Crew → ℕ
 E crew = crew .n - crew .d + crew .b
 
--- 'any' asks for more slots than this.
--- 01: class 1 "'any' if more than 2E slots count", class 2 "if more than E + b slots count", class 3 "if more than E
--- slots have stamp 0"
+-- 'any' asks for more slots than this: `enough` in ballot/specs/Selection
 abbrev pub anyAbove : Class → Crew → ℕ
 anyAbove one crew = 2 * E crew
 anyAbove two crew = E crew + crew .b
 anyAbove three crew = E crew
 
--- Validation asks that twice the count passes this.
--- 01: "If a plan stands in c slots with 2c > n + b"
+-- validation asks that twice the count passes this: `valid` in ballot/specs/Validation
 abbrev pub validAbove : Crew → ℕ
 validAbove crew = crew .n + crew .b

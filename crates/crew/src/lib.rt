@@ -3,7 +3,7 @@
 ghost use mathlib.Core.Path.{_≡_};
 ghost use Rattle.wire.specs.Outcome.{isAccepted};
 ghost use Rattle.crew.specs.Parts.{blankCrew};
-ghost use Rattle.crew.specs.Acceptance.{acceptOf, answered, classKnown, sizeKnown, reachable, highEnough};
+ghost use Rattle.crew.specs.Acceptance.{acceptOf, acceptAnswer, classKnown, sizeKnown, reachable, highEnough};
 
 // No aisle has more controllers: columns and tables have a place for each of so many.
 pub const MOST_NODES: usize = 32;
@@ -22,8 +22,8 @@ pub struct Crew {
     pub d: u8,
 }
 
-// Why a crew is turned down; `number` in specs/Acceptance.antt has 01's numbers.
-pub enum Refusal {
+// Why a crew is turned down; `acceptNumber` in specs/Acceptance.antt has 01's numbers.
+pub enum AcceptRefusal {
     Class,
     Size,
     QuorumTooHigh,
@@ -32,7 +32,7 @@ pub enum Refusal {
 
 pub enum Acceptance {
     Accepted,
-    Refused(Refusal),
+    Refused(AcceptRefusal),
 }
 
 // The sums below pass a byte's range, so they are taken wide.
@@ -101,7 +101,7 @@ fn is_high_enough(crew: Crew) -> bool
 
 // Accepts a crew, or says why not: the first of 01's four conditions that fails.
 pub fn accept(crew: Crew) -> Acceptance
-    ensures { λ r. ⌜ answered r ≡ acceptOf crew ⌝ }
+    ensures { λ r. ⌜ acceptAnswer r ≡ acceptOf crew ⌝ }
 {
     if is_class(crew) {
         if is_size(crew) {
@@ -109,13 +109,13 @@ pub fn accept(crew: Crew) -> Acceptance
                 if is_high_enough(crew) {
                     return Acceptance::Accepted;
                 }
-                return Acceptance::Refused(Refusal::QuorumTooLow);
+                return Acceptance::Refused(AcceptRefusal::QuorumTooLow);
             }
-            return Acceptance::Refused(Refusal::QuorumTooHigh);
+            return Acceptance::Refused(AcceptRefusal::QuorumTooHigh);
         }
-        return Acceptance::Refused(Refusal::Size);
+        return Acceptance::Refused(AcceptRefusal::Size);
     }
-    Acceptance::Refused(Refusal::Class)
+    Acceptance::Refused(AcceptRefusal::Class)
 }
 
 // Whether a crew is accepted, where it does not matter why not.

@@ -7,8 +7,8 @@ use Prim.Native.Nat.{ℕ, _+_, _*_, _-_, _<_, _≤_}
 use native.Mathlib.Omega.{arith}
 use lib.ListN.{length, drop, length-append}
 use lib.Seq.{sets}
-use lib.Dec.{ltb, leb, eqb}
-use borrow.Author.Tests.{ltb-true, leb-true, leb-false}
+use lib.Dec.{ltb, eqb}
+use borrow.Author.Tests.{ltb-true, eqb-true, eqb-false}
 use Rattle.wire.specs.Outcome.{isAccepted}
 use Rattle.wire.specs.Sizes.{spentPhase}
 use Rattle.wire.proofs.Stores.{sets-front}
@@ -25,7 +25,8 @@ use Rattle.script.specs.declared.CrewLine.the-variants.{Crew as CrewRead, NoCre
 use Rattle.print.specs.Texts.{resultMost, badLine, badMost, endLine, longLine}
 use Rattle.print.proofs.Lengths.{result-most, bad-most}
 use Rattle.aisle.specs.declared.State.{State}
-use Rattle.aisle.specs.Round.{table, resultAt, roundAfter, phaseAfter, goOf}
+use Rattle.aisle.specs.Round.{table, resultAt, goOf}
+use Rattle.node.specs.Place.{roundAfter, phaseAfter}
 use Rattle.aisle.specs.Start.{begunOf}
 use Rattle.drill.specs.Steps.{allowed, after, text}
 use Rattle.drill.specs.Run.{mostBytes, mostPrinted, isLast, follow, second, crewed, first, drillOf}
@@ -44,23 +45,26 @@ record Placed (phase round : ℕ) : Type 0 where
 round-done : (class phase round : ℕ) → Placed phase round → phase < spentPhase
     → Placed (phaseAfter phase round) (roundAfter class round)
     × (roundsLeft (phaseAfter phase round) (roundAfter class round) + 1 ≤ roundsLeft phase round)
-round-done class phase round p h = go (leb 3 round) (eqb class 1) refl
+round-done class phase round p h = go (eqb round 1) (eqb round 2) (eqb round 3) (eqb class 1) refl refl refl
   where
-    go : (last one : Bool) → leb 3 round ≡ last
-        → Placed (cond last (phase + 1) phase) (cond last 1 (cond one 3 (round + 1)))
-        × (roundsLeft (cond last (phase + 1) phase) (cond last 1 (cond one 3 (round + 1))) + 1 ≤ roundsLeft phase round)
-    go true one e = (
-      record { last = omega arith; from = omega arith; to = omega arith },
-      omega (arith, p .to, leb-true 3 round e),
-    )
-    go false true e = (
-      record { last = omega arith; from = omega arith; to = omega arith },
-      omega (arith, leb-false 3 round e),
-    )
-    go false false e = (
-      record { last = omega arith; from = omega arith; to = omega (arith, leb-false 3 round e) },
-      omega (arith, leb-false 3 round e),
-    )
+    Done : ℕ → ℕ → Type 0
+    Done next-phase next-round =
+        Placed next-phase next-round × (roundsLeft next-phase next-round + 1 ≤ roundsLeft phase round)
+
+    go : (first second third one : Bool) → eqb round 1 ≡ first → eqb round 2 ≡ second → eqb round 3 ≡ third
+        → Done (cond third (phase + 1) phase) (cond first (cond one 3 2) (cond second 3 1))
+    go true second true one e₁ e₂ e₃ = absurd (omega (arith, eqb-true round 1 e₁, eqb-true round 3 e₃))
+    go true second false true e₁ e₂ e₃ =
+        (record { last = omega arith; from = omega arith; to = omega arith }, omega (arith, eqb-true round 1 e₁))
+    go true second false false e₁ e₂ e₃ =
+        (record { last = omega arith; from = omega arith; to = omega arith }, omega (arith, eqb-true round 1 e₁))
+    go false true true one e₁ e₂ e₃ = absurd (omega (arith, eqb-true round 2 e₂, eqb-true round 3 e₃))
+    go false true false one e₁ e₂ e₃ =
+        (record { last = omega arith; from = omega arith; to = omega arith }, omega (arith, eqb-true round 2 e₂))
+    go false false true one e₁ e₂ e₃ =
+        (record { last = omega arith; from = omega arith; to = omega arith }, omega (arith, eqb-true round 3 e₃))
+    go false false false one e₁ e₂ e₃ =
+        absurd (omega (arith, p .from, p .to, eqb-false round 1 e₁, eqb-false round 2 e₂, eqb-false round 3 e₃))
 
 -- what may still be printed: a line for each round that is left, and one more
 abbrev most : State → ℕ

@@ -3,7 +3,8 @@ use mathlib.Core.Path.{_≡_, refl}
 use mathlib.Core.List.{List, [], _∷_, _++_}
 use Prim.Native.Nat.{ℕ, _+_}
 use Rattle.crew.specs.Acceptance.{acceptOf}
-use Rattle.writer.specs.Writing.{writeOf, listed}
+use Rattle.writer.specs.Writing.{writeMessageOf}
+use Rattle.wire.specs.Entry.{entriesFrom}
 use Rattle.message.specs.Reading.{entriesIn, bodyAt, tested, readOf}
 use Rattle.message.specs.Encoding.{entryBytes, encode}
 use Rattle.message.specs.Bounds.{entriesOk}
@@ -16,8 +17,7 @@ use Rattle.ballot.specs.Least.{least, leastOf}
 use Rattle.node.specs.Soundness.{emptyFrom, sound}
 use Rattle.node.specs.Record.{begun, blank}
 use Rattle.node.specs.Starting.{startOf}
-use Rattle.node.specs.Sending.{comingOf, writeOf as sendOf}
-use Rattle.inbox.specs.Inbox.{ballotAt}
+use Rattle.node.specs.Sending.{comingOf, writeComingOf}
 use Rattle.rounds.specs.Taking.{afterRound, takeOf}
 use Rattle.script.specs.Commands.{commandOf}
 use Rattle.script.specs.Lines.{space, newline, until, onto, split}
@@ -52,9 +52,9 @@ output =
 
 pub example : drillOf script ≡ output
 unfolding
-    acceptOf writeOf listed entriesIn bodyAt tested readOf entryBytes encode entriesOk decides decision tally
-    countIf gather valid validated lists possible backed backing enough selection leading mostVoted anyPlan taken least
-    leastOf emptyFrom sound begun blank startOf comingOf sendOf ballotAt afterRound takeOf commandOf until onto
+    acceptOf writeMessageOf entriesFrom entriesIn bodyAt tested readOf entryBytes encode entriesOk decides decision
+    tally countIf gather valid validated lists possible backed backing enough selection leading mostVoted anyPlan taken
+    least leastOf emptyFrom sound begun blank startOf comingOf writeComingOf afterRound takeOf commandOf until onto
     split valueFrom numberOf numbersFrom starts decimalOf fieldOf fieldsFrom resultLine badLine nothing withCut
     withSay isCut saidOf follow second first drillOf begunOf table sayBuffer delivered slotsOf nodeAfter goOf
 example = refl
@@ -76,9 +76,9 @@ pub bad-lines :
     × (drillOf (beginning ++ (103 ∷ 111 ∷ [])) ≡ badAt 3)
     × (drillOf (beginning ++ sayLine) ≡ badAt 3)
 unfolding
-    acceptOf writeOf listed entriesIn bodyAt tested readOf entryBytes encode entriesOk decides decision tally
-    countIf gather valid validated lists possible backed backing enough selection leading mostVoted anyPlan taken least
-    leastOf emptyFrom sound begun blank startOf comingOf sendOf ballotAt afterRound takeOf commandOf until onto
+    acceptOf writeMessageOf entriesFrom entriesIn bodyAt tested readOf entryBytes encode entriesOk decides decision
+    tally countIf gather valid validated lists possible backed backing enough selection leading mostVoted anyPlan taken
+    least leastOf emptyFrom sound begun blank startOf comingOf writeComingOf afterRound takeOf commandOf until onto
     split valueFrom numberOf numbersFrom starts decimalOf fieldOf fieldsFrom resultLine badLine nothing withCut
     withSay isCut saidOf follow second first drillOf begunOf table sayBuffer delivered slotsOf nodeAfter goOf
 bad-lines = (refl, refl, refl, refl, refl)

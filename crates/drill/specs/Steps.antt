@@ -13,7 +13,7 @@ use Rattle.pending.specs.Pairs.{withCut, withSay}
 use Rattle.aisle.specs.declared.State.{State}
 use Rattle.aisle.specs.Round.{table, isHonest, resultAt, goOf}
 
--- 01: "stamp below the phase in kind 1, at most the phase in kind 3"; "t is 0 in round 2"
+-- the bounds of a stamp in the message that a say stands for; 01: "t is 0 in round 2"
 abbrev pub stampFits : ℕ → ℕ → ℕ → Bool
 stampFits round phase stamp =
     cond (eqb round 1) (ltb stamp phase) (cond (eqb round 2) (eqb stamp 0) (leb stamp phase))
@@ -50,8 +50,7 @@ after st (Say sender receiver plan stamp) = waiting st (withSay (st .pending) se
 after st Go = goOf st
 after st BadLine = st
 
--- What a good line prints.
--- 01: "Each go prints phase, round just done, and each node's result"
+-- what a good line prints
 abbrev pub text : State → Command → List ℕ
 text st (Cut sender receiver) = []
 text st (Say sender receiver plan stamp) = []

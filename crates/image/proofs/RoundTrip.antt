@@ -1,6 +1,5 @@
 -- Every record has one image, and every 149 bytes are the image of one record: reading and writing an image undo each
 -- other, both ways.
--- Assumes nothing.
 use mathlib.Core.Path.{_≡_, refl, ap, sym, _∙_}
 use mathlib.Core.List.{List, [], _∷_, _++_}
 use Prim.Native.Nat.{ℕ, zero, suc, _+_, _*_, _<_, _≤_}

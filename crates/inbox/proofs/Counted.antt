@@ -1,5 +1,4 @@
 -- A slot that counts: it is read to a message of the coming round, and says what that message puts forward.
--- Assumes nothing.
 use mathlib.Core.Path.{_≡_, refl}
 use mathlib.Core.Bool.{Bool, true, false, cond}
 use mathlib.Core.List.{List}

@@ -1,5 +1,4 @@
 -- What the walk over the slots goes by: one slot more in the columns.
--- Assumes nothing.
 use mathlib.Core.Path.{_≡_}
 use mathlib.Core.Option.{Option}
 use Prim.Native.Nat.{ℕ, _+_}

@@ -1,5 +1,4 @@
 -- An inbox as columns: the ballots of the columns that its slots were read into are the ballots that count.
--- Assumes nothing.
 use mathlib.Core.Path.{_≡_, sym, ap, _∙_}
 use mathlib.Core.Bool.{true, false}
 use mathlib.Core.List.{List}

@@ -1,6 +1,5 @@
 -- Looking an entry up tells whether it is listed: where the phases of a slot's entries rise, the last entry that is not
 -- after a phase tells whether the plan is listed at it.
--- Assumes nothing.
 use mathlib.Core.Path.{_≡_, refl, sym, ap, _∙_}
 use mathlib.Core.Bool.{Bool, true, false, cond}
 use mathlib.Core.List.{List}
@@ -14,16 +13,16 @@ use Rattle.wire.specs.Entry.{Entry}
 use Rattle.wire.specs.Bytes.{numberAt}
 use Rattle.wire.specs.Sizes.{planSize, historySize}
 use Rattle.message.specs.Bounds.{entriesOk}
-use Rattle.message.specs.Reading.{entriesIn, listedAt}
+use Rattle.message.specs.Reading.{entriesIn, entryInSlice}
 use Rattle.message.proofs.EntryLaws.{entries-next}
 use Rattle.message.specs.Layout.{countPlace, entriesPlace, entrySize}
 use Rattle.ballot.specs.Count.{bit, countIf}
 use Rattle.ballot.specs.Ballot.{isEntry}
 use Rattle.inbox.specs.Columns.{historyIn}
-use Rattle.message.specs.Lookup.{entriesUntil, lookedUp, listsIn}
+use Rattle.message.specs.Lookup.{entriesUntil, lookedUp, hasEntry}
 use Rattle.inbox.proofs.Rising.{first-kept}
 
--- entry i of those from a place on; from place 13 on it is `listedAt`
+-- entry i of those from a place on; from place 13 on it is `entryInSlice`
 abbrev at : List ℕ → ℕ → ℕ → Entry
 at s place i = record {
   phase = getD s (place + entrySize * i) 0;
@@ -103,18 +102,18 @@ module _ (slot : List ℕ) (plan phase : ℕ) where
   times i = countIf (isEntry phase plan) (entriesIn i (drop entriesPlace slot))
 
   -- an entry of another phase adds nothing
-  other-adds : (i : ℕ) → listedAt slot i .phase ≢ phase → times (suc i) ≡ times i
+  other-adds : (i : ℕ) → entryInSlice slot i .phase ≢ phase → times (suc i) ≡ times i
   other-adds i other =
-      let none : bit (isEntry phase plan (listedAt slot i)) ≡ 0 = rw (ne-eqb _ _ other) in
+      let none : bit (isEntry phase plan (entryInSlice slot i)) ≡ 0 = rw (ne-eqb _ _ other) in
       omega (arith, count-more slot (isEntry phase plan) i entriesPlace, none)
 
-  none-listed : (i : ℕ) → ((j : ℕ) → j < i → listedAt slot j .phase ≢ phase) → times i ≡ 0
+  none-listed : (i : ℕ) → ((j : ℕ) → j < i → entryInSlice slot j .phase ≢ phase) → times i ≡ 0
   unfolding countIf entriesIn
   none-listed zero others = refl
   none-listed (suc i) others =
       other-adds i (others i (omega arith)) ∙ none-listed i (λ j less. others j (omega arith))
 
-  others-add : (i more : ℕ) → ((j : ℕ) → i ≤ j → j < i + more → listedAt slot j .phase ≢ phase)
+  others-add : (i more : ℕ) → ((j : ℕ) → i ≤ j → j < i + more → entryInSlice slot j .phase ≢ phase)
       → times (i + more) ≡ times i
   others-add i zero others =
       let same : i + 0 ≡ i = omega arith in
@@ -132,32 +131,32 @@ module _ (slot : List ℕ) (plan phase : ℕ) where
     lookup-first : (i : ℕ) → i ≤ count → lookedUp slot plan phase i ≡ ltb 0 (times i)
     unfolding lookedUp
     lookup-first zero few = ap (ltb 0) (sym (none-listed 0 (λ j less. absurd (omega arith))))
-    lookup-first (suc i) few = go (lookup-first i (omega arith)) (leb (listedAt slot i .phase) phase) refl
+    lookup-first (suc i) few = go (lookup-first i (omega arith)) (leb (entryInSlice slot i .phase) phase) refl
       where
         positive : (b : Bool) → b ≡ ltb 0 (bit b)
         positive true = refl
         positive false = refl
 
-        go : lookedUp slot plan phase i ≡ ltb 0 (times i) → (b : Bool) → leb (listedAt slot i .phase) phase ≡ b
-            → cond b (isEntry phase plan (listedAt slot i)) (lookedUp slot plan phase i) ≡ ltb 0 (times (suc i))
+        go : lookedUp slot plan phase i ≡ ltb 0 (times i) → (b : Bool) → leb (entryInSlice slot i .phase) phase ≡ b
+            → cond b (isEntry phase plan (entryInSlice slot i)) (lookedUp slot plan phase i) ≡ ltb 0 (times (suc i))
         go earlier true here =
-            let at-most : listedAt slot i .phase ≤ phase = leb-true _ _ here in
+            let at-most : entryInSlice slot i .phase ≤ phase = leb-true _ _ here in
             let before = none-listed i (λ j less same. omega (
               arith,
               at-most,
               same,
               phases-rise slot 0 historySize count entriesPlace j i ok less (omega arith),
             )) in
-            let sum : bit (isEntry phase plan (listedAt slot i)) ≡ times (suc i) =
+            let sum : bit (isEntry phase plan (entryInSlice slot i)) ≡ times (suc i) =
             omega (arith, count-more slot (isEntry phase plan) i entriesPlace, before) in
-            positive (isEntry phase plan (listedAt slot i)) ∙ ap (ltb 0) sum
+            positive (isEntry phase plan (entryInSlice slot i)) ∙ ap (ltb 0) sum
         go earlier false after =
-            let above : phase < listedAt slot i .phase = leb-false _ _ after in
+            let above : phase < entryInSlice slot i .phase = leb-false _ _ after in
             earlier ∙ ap (ltb 0) (sym (other-adds i (λ same. omega (arith, above, same))))
 
     -- and no entry after those that can be of the phase does
     pub lookup-listed : entriesPlace + entrySize * count ≤ length slot
-        → listsIn slot plan phase ≡ ltb 0 (countIf (isEntry phase plan) (historyIn slot))
+        → hasEntry slot plan phase ≡ ltb 0 (countIf (isEntry phase plan) (historyIn slot))
     lookup-listed fits =
         let k = entriesUntil slot phase in
         let more : ℕ = count - k in

@@ -1,5 +1,4 @@
 -- The columns mean the slots: what they say of a slot that was read is the ballot of that slot, with what it lists.
--- Assumes nothing.
 use mathlib.Core.Path.{_≡_, refl, ap, ap₂, _∙_}
 use mathlib.Core.Bool.{true, false}
 use mathlib.Core.List.{List}

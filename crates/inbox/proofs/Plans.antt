@@ -1,5 +1,5 @@
 -- The votes of counting messages are plans: not 0, and of two bytes where the inbox holds bytes. So is the plan
--- that a rule answers, where it answers one. Assumes nothing.
+-- that a rule answers, where it answers one.
 use mathlib.Core.Path.{_≡_, subst}
 use mathlib.Core.Bool.{Bool, true, _&&_}
 use mathlib.Core.List.{List}
@@ -45,7 +45,6 @@ body-fits (validation plan) fits = fits
 body-fits (decision vote stamp) fits = fits
 
 pub slot-plan : (d : Node) (inbox : List ℕ) (q : ℕ) (m : Ballot) → ballotAt d inbox q ≡ some m → 1 ≤ m .vote
-unfolding ballotAt
 slot-plan d inbox q m e =
     let c = counted-message (d .run) (d .phase) (d .round) (slotAt inbox q) m e in
     let k = c .message in
@@ -64,7 +63,6 @@ part-bytes s from size bytes place = elim (decLt place size) [
 
 slot-fits : (d : Node) (inbox : List ℕ) → AreBytes inbox → (q : ℕ) (m : Ballot) → ballotAt d inbox q ≡ some m
     → m .vote < planLimit
-unfolding ballotAt
 slot-fits d inbox bytes q m e =
     let c = counted-message (d .run) (d .phase) (d .round) (slotAt inbox q) m e in
     let slot-bytes = part-bytes inbox (slotSize * q) slotSize bytes in

@@ -1,5 +1,4 @@
 -- What entries that keep their bounds say: their phases rise, each above the one before.
--- Assumes nothing.
 use mathlib.Core.Path.{_≡_, refl}
 use mathlib.Core.Bool.{true, _&&_}
 use mathlib.Core.List.{List, [], _∷_}

@@ -1,6 +1,5 @@
 -- What is known of a slot that counts as a selection: its ballot lists the entries that stand in it, they have room in
 -- it, and their phases rise.
--- Assumes nothing.
 use mathlib.Core.Path.{_≡_, refl, sym, ap, _∙_}
 use mathlib.Core.Bool.{Bool, true, false, cond, _&&_}
 use mathlib.Core.List.{List}

@@ -14,7 +14,7 @@ use Rattle.wire.specs.Sizes.{historySize}
 use Rattle.crew.specs.Parts.{mostNodes}
 use Rattle.message.specs.Bounds.{entriesOk}
 use Rattle.message.specs.Reading.{entriesIn}
-use Rattle.message.specs.Lookup.{listsIn}
+use Rattle.message.specs.Lookup.{hasEntry}
 use Rattle.message.specs.Layout.{countPlace, entriesPlace, entrySize, slotSize}
 use Rattle.ballot.specs.Count.{gather}
 use Rattle.ballot.specs.Ballot.{Ballot}
@@ -82,5 +82,5 @@ abbrev pub polled : Columns → (ℕ → List Entry) → ℕ → List Ballot
 polled read histories n = gather (slotOf read histories) n
 
 -- slot q, where the inbox has it, lists the plan at the phase
-abbrev pub listsAt : List ℕ → ℕ → ℕ → ℕ → Bool
-listsAt bytes q plan phase = ltb q (slotsIn (length bytes)) && listsIn (slotAt bytes q) plan phase
+abbrev pub slotHasEntry : List ℕ → ℕ → ℕ → ℕ → Bool
+slotHasEntry bytes q plan phase = ltb q (slotsIn (length bytes)) && hasEntry (slotAt bytes q) plan phase

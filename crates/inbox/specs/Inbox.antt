@@ -6,6 +6,7 @@ use mathlib.Core.Option.{Option, none, some}
 use lib.ListN.{take, drop}
 use lib.Dec.{eqb}
 use Rattle.wire.specs.Outcome.{Outcome, accepted, refused}
+use Rattle.crew.specs.declared.Crew.{Crew}
 use Rattle.message.specs.Fields.{Body, selection, validation, decision, Message}
 use Rattle.message.specs.Encoding.{kindOf}
 use Rattle.message.specs.Reading.{readOf}
@@ -33,9 +34,17 @@ abbrev pub counted : ℕ → ℕ → ℕ → Outcome Message → Option Ballot
 counted run phase round (accepted m) = cond (isOf run phase round m) (some (ballotOf (m .body))) none
 counted run phase round (refused number) = none
 
-unfoldable pub ballotAt : Node → List ℕ → ℕ → Option Ballot
-ballotAt d bytes q = counted (d .run) (d .phase) (d .round) (readOf (slotAt bytes q))
+-- what slot q says to a node whose coming round is this one
+abbrev pub ballotIn : ℕ → ℕ → ℕ → List ℕ → ℕ → Option Ballot
+ballotIn run phase round bytes q = counted run phase round (readOf (slotAt bytes q))
 
--- the ballots of the n slots
+-- what its n slots say
+abbrev pub ballotsFor : Crew → ℕ → ℕ → ℕ → List ℕ → List Ballot
+ballotsFor crew run phase round bytes = inbox crew (ballotIn run phase round bytes)
+
+-- the same for a node's record: slot q, and the n slots
+abbrev pub ballotAt : Node → List ℕ → ℕ → Option Ballot
+ballotAt d bytes q = ballotIn (d .run) (d .phase) (d .round) bytes q
+
 abbrev pub ballots : Node → List ℕ → List Ballot
-ballots d bytes = inbox (d .crew) (ballotAt d bytes)
+ballots d bytes = ballotsFor (d .crew) (d .run) (d .phase) (d .round) bytes

@@ -18,7 +18,7 @@ ghost use Rattle.message.specs.Encoding.{kindOf};
 ghost use Rattle.message.specs.Reading.{readOf, bodyAs};
 ghost use Rattle.message.specs.Layout.{slotSize};
 ghost use Rattle.inbox.specs.Inbox.{slotAt, ballotOf, counted};
-ghost use Rattle.inbox.specs.Columns.{columns, put, slotsIn, filled, listsAt};
+ghost use Rattle.inbox.specs.Columns.{columns, put, slotsIn, filled, slotHasEntry};
 
 // The number of a message's kind.
 fn kind_of(body: Body) -> u16
@@ -79,8 +79,8 @@ fn put_body(
     }
 }
 
-// Puts what a slot says into the columns. 01: "a slot that reading refuses is simply absent"; and so is one whose run,
-// kind or phase are not those of the coming round. Round k takes kind k.
+// Puts what a slot says into the columns. One that reading refuses is absent, and so is one whose run, kind or phase
+// are not those of the coming round. Round k takes kind k.
 fn read_slot(
     slot: &[u8],
     q: usize,
@@ -153,14 +153,15 @@ pub fn read_slots(
     }
 }
 
-// Whether the selection in slot q lists the plan at a phase, for slots that count in a selection: see `message::lists`.
-pub fn lists(inbox: &[u8], q: usize, plan: Plan, phase: u8) -> bool
-    ensures { λ r. ⌜ r ≡ listsAt (now (inbox .entry)) q plan phase ⌝ }
+// Whether the selection in slot q lists the plan at a phase, for slots that count in a selection: see
+// `message::has_entry`.
+pub fn slot_has_entry(inbox: &[u8], q: usize, plan: Plan, phase: u8) -> bool
+    ensures { λ r. ⌜ r ≡ slotHasEntry (now (inbox .entry)) q plan phase ⌝ }
 {
     if q < slots_in(inbox.len()) {
         let start = SLOT * q;
         let end = start + SLOT;
-        return message::lists(&inbox[start..end], plan, phase);
+        return message::has_entry(&inbox[start..end], plan, phase);
     }
     false
 }

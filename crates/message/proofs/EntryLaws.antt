@@ -1,5 +1,4 @@
 -- The entries in a list of bytes: how many there are, and what the loop over them goes by.
--- Assumes nothing.
 use mathlib.Core.Path.{_≡_, refl, ap, sym, _∙_}
 use mathlib.Core.Bool.{Bool, true, false, cond, _&&_}
 use mathlib.Core.List.{List, _∷_}
@@ -18,7 +17,7 @@ use Rattle.wire.proofs.Tests.{and-false, and-true}
 use Rattle.wire.specs.Sizes.{planSize}
 use Rattle.message.specs.Layout.{entriesPlace, entrySize}
 use Rattle.message.specs.Bounds.{planOk, entriesOk, leastAfter}
-use Rattle.message.specs.Reading.{entriesIn, listedAt}
+use Rattle.message.specs.Reading.{entriesIn, entryInSlice}
 
 pub entries-count : (k : ℕ) (s : List ℕ) → length (entriesIn k s) ≡ k
 unfolding entriesIn
@@ -80,7 +79,7 @@ pub all-left : (s : List ℕ) (count phase : ℕ) → Left s count phase 0 0
 all-left s count phase = record { same = simp (sub-zero, le-leb 0 phase (omega arith)) }
 
 module _ {s : List ℕ} {count phase i least : ℕ} (left : Left s count phase i least) where
-  step : i < count → (keeps least (listedAt s i) && rest s count phase (i + 1) (listedAt s i .phase + 1))
+  step : i < count → (keeps least (entryInSlice s i) && rest s count phase (i + 1) (entryInSlice s i .phase + 1))
       ≡ whole s count phase
   step more =
       let some : count - i ≡ suc (count - (i + 1)) = omega arith in
@@ -89,17 +88,17 @@ module _ {s : List ℕ} {count phase i least : ℕ} (left : Left s count phase i
       rw next (sym (one-entry least phase _ _) ∙ first)
 
   -- an entry that keeps its bounds leaves those after it
-  pub entry-passes : (after : ℕ) → after ≡ leastAfter least (listedAt s i) → i < count → after ≢ 0
+  pub entry-passes : (after : ℕ) → after ≡ leastAfter least (entryInSlice s i) → i < count → after ≢ 0
       → Left s count phase (i + 1) after
   entry-passes after after-is more some =
-      let same = kept (keeps least (listedAt s i)) _ after (rest s count phase (i + 1)) after-is some in
+      let same = kept (keeps least (entryInSlice s i)) _ after (rest s count phase (i + 1)) after-is some in
       record { same = sym same ∙ step more }
 
   -- an entry that breaks a bound settles the answer
-  pub entry-breaks : (after : ℕ) → after ≡ leastAfter least (listedAt s i) → i < count → after ≡ 0
+  pub entry-breaks : (after : ℕ) → after ≡ leastAfter least (entryInSlice s i) → i < count → after ≡ 0
       → false ≡ whole s count phase
   entry-breaks after after-is more none =
-      sym (broken (keeps least (listedAt s i)) (listedAt s i .phase) _ (sym after-is ∙ none)) ∙ step more
+      sym (broken (keeps least (entryInSlice s i)) (entryInSlice s i .phase) _ (sym after-is ∙ none)) ∙ step more
 
   -- with no entry left, only the message's phase counts
   pub none-left : count ≤ i → leb least phase ≡ whole s count phase

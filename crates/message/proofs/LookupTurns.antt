@@ -1,5 +1,4 @@
 -- What the loop goes by that looks an entry up: one entry less.
--- Assumes nothing.
 use mathlib.Core.Path.{_≡_, sym, ap, _∙_}
 use mathlib.Core.Bool.{false, _&&_}
 use mathlib.Core.List.{List}
@@ -9,8 +8,8 @@ use lib.Dec.{eqb}
 use lib.ListN.{length, getD}
 use borrow.Author.Tests.{le-leb, lt-leb}
 use Rattle.message.specs.Layout.{entriesPlace, entrySize}
-use Rattle.message.specs.Reading.{listedAt}
-use Rattle.message.specs.Lookup.{entriesUntil, lookedUp, listsIn}
+use Rattle.message.specs.Reading.{entryInSlice}
+use Rattle.message.specs.Lookup.{entriesUntil, lookedUp, hasEntry}
 
 module _ (s : List ℕ) (plan phase i : ℕ) (more : 0 < i) where
   steps : i ≡ suc (i - 1)
@@ -18,7 +17,7 @@ module _ (s : List ℕ) (plan phase i : ℕ) (more : 0 < i) where
 
   -- the last entry is not after the phase: it tells
   pub lookup-here : getD s (entriesPlace + entrySize * (i - 1)) 0 ≤ phase
-      → lookedUp s plan phase i ≡ (eqb (listedAt s (i - 1) .phase) phase && eqb (listedAt s (i - 1) .plan) plan)
+      → lookedUp s plan phase i ≡ (eqb (entryInSlice s (i - 1) .phase) phase && eqb (entryInSlice s (i - 1) .plan) plan)
   unfolding lookedUp
   lookup-here here = ap (lookedUp s plan phase) steps ∙ rw (le-leb _ _ here)
 
@@ -29,7 +28,7 @@ module _ (s : List ℕ) (plan phase i : ℕ) (more : 0 < i) where
   lookup-before after = ap (lookedUp s plan phase) steps ∙ rw (lt-leb _ _ after)
 
 -- bytes that end before the first entry list nothing
-pub short-lists : (s : List ℕ) (plan phase : ℕ) → length s < entriesPlace → false ≡ listsIn s plan phase
+pub short-lists : (s : List ℕ) (plan phase : ℕ) → length s < entriesPlace → false ≡ hasEntry s plan phase
 unfolding lookedUp
 short-lists s plan phase short =
     let none : entriesUntil s phase ≡ 0 = omega arith in

@@ -1,5 +1,4 @@
 -- What reading tells of the bytes that were read, and the other way round: for all three kinds at once.
--- Assumes nothing.
 use mathlib.Core.Path.{_≡_, refl, sym, ap, _∙_}
 use mathlib.Core.Bool.{Bool, true, false, cond}
 use mathlib.Core.Logic.{_≢_}

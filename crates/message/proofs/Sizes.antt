@@ -1,4 +1,4 @@
--- What the sums of the layout come to: the lengths that 01 names. Assumes nothing.
+-- What the sums of the layout come to: the lengths that 01 names.
 use mathlib.Core.Path.{_≡_, refl}
 use Prim.Native.Nat.{ℕ, _+_, _*_}
 use mathlib.Core.List.{List}

@@ -7,7 +7,7 @@ use mathlib.Core.List.{List}
 use lib.ListN.{length, getD}
 use lib.Dec.{leb, eqb}
 use Rattle.message.specs.Layout.{countPlace, entriesPlace, entrySize}
-use Rattle.message.specs.Reading.{listedAt}
+use Rattle.message.specs.Reading.{entryInSlice}
 
 -- how many entries can be of a phase or an earlier one: as many as are counted and have room in the slice, and, since
 -- phases rise from 0, so that entry i is of phase i or a later one, no more than the phase and one
@@ -18,9 +18,10 @@ entriesUntil s phase = min (min (getD s countPlace 0) ((length s - entriesPlace)
 unfoldable pub lookedUp : List ℕ → ℕ → ℕ → ℕ → Bool
 lookedUp s plan phase zero = false
 lookedUp s plan phase (suc i) =
-    cond (leb (listedAt s i .phase) phase) (eqb (listedAt s i .phase) phase && eqb (listedAt s i .plan) plan)
+    cond (leb (entryInSlice s i .phase) phase)
+    (eqb (entryInSlice s i .phase) phase && eqb (entryInSlice s i .plan) plan)
     (lookedUp s plan phase i)
 
 -- the bytes, taken for a selection, list the plan at the phase
-abbrev pub listsIn : List ℕ → ℕ → ℕ → Bool
-listsIn s plan phase = lookedUp s plan phase (entriesUntil s phase)
+abbrev pub hasEntry : List ℕ → ℕ → ℕ → Bool
+hasEntry s plan phase = lookedUp s plan phase (entriesUntil s phase)

@@ -14,8 +14,8 @@ use Rattle.message.specs.Fields.{Body, selection, validation, decision, 
 use Rattle.message.specs.Bounds.{within}
 use Rattle.message.specs.Encoding.{sizeOf}
 use Rattle.message.specs.declared.Entry.{Entry as ShownEntry}
-use Rattle.message.specs.declared.Refusal.{Refusal}
-use Rattle.message.specs.declared.Refusal.the-variants.{Cut, Kind, Length, Bound}
+use Rattle.message.specs.declared.ReadRefusal.{ReadRefusal}
+use Rattle.message.specs.declared.ReadRefusal.the-variants.{Cut, Kind, Length, Bound}
 use Rattle.message.specs.declared.Body.{Body as ReadBody}
 use Rattle.message.specs.declared.Body.the-variants.{Selection, Validation, Decision}
 use Rattle.message.specs.declared.Reading.{Reading}
@@ -37,8 +37,8 @@ entriesIn zero s = []
 entriesIn (suc k) s = record { phase = getD s 0 0; plan = numberAt planSize s 1 } ∷ entriesIn k (drop entrySize s)
 
 -- entry i of those that a selection lists, where it stands
-abbrev pub listedAt : List ℕ → ℕ → Entry
-listedAt s i = record {
+abbrev pub entryInSlice : List ℕ → ℕ → Entry
+entryInSlice s i = record {
   phase = getD s (entriesPlace + entrySize * i) 0;
   plan = numberAt planSize s (entriesPlace + entrySize * i + 1);
 }
@@ -110,11 +110,11 @@ abbrev pub entryAs : ShownEntry → Entry
 entryAs e = record { phase = e .phase; plan = e .plan }
 
 -- 01's number of each refusal
-abbrev pub number : Refusal → ℕ
-number Cut = 10
-number Kind = 11
-number Length = 12
-number Bound = 13
+abbrev pub readNumber : ReadRefusal → ℕ
+readNumber Cut = 10
+readNumber Kind = 11
+readNumber Length = 12
+readNumber Bound = 13
 
 -- how many entries a declared body counts
 abbrev pub countIn : ReadBody → ℕ
@@ -129,6 +129,6 @@ bodyAs (Validation plan) s = validation plan
 bodyAs (Decision vote stamp) s = decision vote stamp
 
 -- what an answer of `read` says of the slice
-abbrev pub answered : Reading → List ℕ → Outcome Message
-answered (Read m) s = accepted (record { run = m .run; phase = m .phase; body = bodyAs (m .body) s })
-answered (Refused why) s = refused (number why)
+abbrev pub readAnswer : Reading → List ℕ → Outcome Message
+readAnswer (Read m) s = accepted (record { run = m .run; phase = m .phase; body = bodyAs (m .body) s })
+readAnswer (Refused why) s = refused (readNumber why)

@@ -21,7 +21,7 @@ ghost use Rattle.message.specs.Reading.{
   kindAt,
   messageWith,
   entriesIn,
-  listedAt,
+  entryInSlice,
   selectionAt,
   validationAt,
   decisionAt,
@@ -35,9 +35,9 @@ ghost use Rattle.message.specs.Reading.{
   entryAs,
   countIn,
   bodyAs,
-  answered as readAs,
+  readAnswer,
 };
-ghost use Rattle.message.specs.Lookup.{entriesUntil, listsIn};
+ghost use Rattle.message.specs.Lookup.{entriesUntil, hasEntry};
 
 // Where the fields stand, each where the one before it ends, as in specs/Layout.antt.
 pub const LENGTH_AT: usize = 0;
@@ -78,8 +78,8 @@ pub const DECISION_LENGTH: u16 = (STAMP_AT + 1) as u16;
 
 pub const SELECTION_LENGTH: u16 = ENTRIES_AT as u16;
 
-// Why reading refuses; `number` in specs/Reading.antt has 01's numbers.
-pub enum Refusal {
+// Why reading refuses; `readNumber` in specs/Reading.antt has 01's numbers.
+pub enum ReadRefusal {
     // The slice ends before the message does, or before its header does.
     Cut,
     Kind,
@@ -103,7 +103,7 @@ pub struct Message {
 // What reading a slice answers.
 pub enum Reading {
     Message(Message),
-    Refused(Refusal),
+    Refused(ReadRefusal),
 }
 
 // An entry of a history: the plan of a phase.
@@ -173,7 +173,7 @@ pub fn is_plan(plan: Plan) -> bool
 // or it has no plan.
 fn least_after(s: &[u8], i: usize, least: u16) -> u16
     requires { ⌜ entriesPlace + entrySize * (i + 1) ≤ length (now s) ⌝ }
-    ensures { λ r. ⌜ r ≡ leastAfter least (listedAt (now (s .entry)) i) ⌝ }
+    ensures { λ r. ⌜ r ≡ leastAfter least (entryInSlice (now (s .entry)) i) ⌝ }
 {
     let place = ENTRIES_AT + ENTRY_SIZE * i;
     let phase = wide(s[place]);
@@ -310,7 +310,7 @@ fn body_in(s: &[u8], kind: u16) -> Body
 // Reads the message at the front of a slice; bytes after its length are ignored. These are 01's tests in 01's order,
 // with one place for each refusal: 10 not framed, 11 the kind, 12 the length, 13 a bound.
 pub fn read(s: &[u8]) -> Reading
-    ensures { λ r. ⌜ readAs r (now (s .entry)) ≡ readOf (now (s .entry)) ⌝ }
+    ensures { λ r. ⌜ readAnswer r (now (s .entry)) ≡ readOf (now (s .entry)) ⌝ }
 {
     if is_framed(s) {
         let kind = u16_at(s, KIND_AT);
@@ -323,13 +323,13 @@ pub fn read(s: &[u8]) -> Reading
                         body: body_in(s, kind),
                     });
                 }
-                return Reading::Refused(Refusal::Bound);
+                return Reading::Refused(ReadRefusal::Bound);
             }
-            return Reading::Refused(Refusal::Length);
+            return Reading::Refused(ReadRefusal::Length);
         }
-        return Reading::Refused(Refusal::Kind);
+        return Reading::Refused(ReadRefusal::Kind);
     }
-    Reading::Refused(Refusal::Cut)
+    Reading::Refused(ReadRefusal::Cut)
 }
 
 // The bytes of a selection's entries where reading it has told how many there are, as a part of the slice. Empty where
@@ -411,7 +411,7 @@ fn entries_until(s: &[u8], phase: u8) -> usize
 // later.
 fn look_up(s: &[u8], plan: Plan, phase: u8) -> bool
     requires { ⌜ entriesPlace ≤ length (now s) ⌝ }
-    ensures { λ r. ⌜ r ≡ listsIn (now (s .entry)) plan phase ⌝ }
+    ensures { λ r. ⌜ r ≡ hasEntry (now (s .entry)) plan phase ⌝ }
 {
     let mut i = entries_until(s, phase);
     while 0 < i {
@@ -425,9 +425,9 @@ fn look_up(s: &[u8], plan: Plan, phase: u8) -> bool
 }
 
 // Whether a selection that reading accepts lists the plan at a phase. It is not read again: the look-up goes by the
-// phases' rising, which reading has tested. Of other bytes it tells what `listsIn` says, which nobody asks.
-pub fn lists(s: &[u8], plan: Plan, phase: u8) -> bool
-    ensures { λ r. ⌜ r ≡ listsIn (now (s .entry)) plan phase ⌝ }
+// phases' rising, which reading has tested. Of other bytes it tells what `hasEntry` says, which nobody asks.
+pub fn has_entry(s: &[u8], plan: Plan, phase: u8) -> bool
+    ensures { λ r. ⌜ r ≡ hasEntry (now (s .entry)) plan phase ⌝ }
 {
     if s.len() < ENTRIES_AT {
         return false;

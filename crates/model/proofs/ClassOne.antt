@@ -1,4 +1,4 @@
--- Class 1: a decision locks the votes of D − b honest nodes, and selection keeps them. Assumes nothing.
+-- Class 1: a decision locks the votes of D − b honest nodes, and selection keeps them.
 use mathlib.Core.Path.{_≡_, sym, _∙_}
 use mathlib.Core.Bool.{Bool, not, _&&_}
 use mathlib.Core.List.{List}
@@ -19,11 +19,11 @@ use Rattle.ballot.specs.Selection.{taken}
 use Rattle.ballot.specs.Decision.{decides}
 use Rattle.ballot.proofs.Tests.{and-T, holds-T}
 use Rattle.ballot.proofs.Counting.{count-gather, tally-split, tally-not}
-use Rattle.ballot.proofs.Slots.{same-ballot, same-vote, FewLiars}
+use Rattle.ballot.proofs.Slots.{same-ballot, same-vote, FewByzantine}
 use Rattle.ballot.proofs.Locked.{Core, Takes, outside-lock-at-most-E, lock-taken-one}
-use Rattle.model.specs.Node.{Node, Round, selecting, validating, deciding, say, turn}
-use Rattle.model.specs.Run.{Each, State, Inboxes, roundAfter, step, Faithful, Decides}
-use Rattle.model.proofs.Node.{ifPlan-is}
+use Rattle.model.proofs.Voter.{Voter, Round, selecting, validating, deciding, say, turn}
+use Rattle.model.proofs.Engine.{Each, State, Inboxes, nextRound, step, Faithful, Decides}
+use Rattle.model.proofs.Voters.{ifPlan-is}
 use Rattle.model.proofs.Run.{Locking}
 
 -- the rounds that class 1 has
@@ -32,20 +32,20 @@ InClassOne selecting = Unit {0}
 InClassOne validating = ⊥
 InClassOne deciding = Unit {0}
 
-in-class-one-after : (r : Round) → InClassOne r → InClassOne (roundAfter one r)
+in-class-one-after : (r : Round) → InClassOne r → InClassOne (nextRound one r)
 in-class-one-after selecting o = tt
 in-class-one-after validating o = absurd o
 in-class-one-after deciding o = tt
 
 -- in both rounds a node says its vote
-says-vote : (crew : Crew) (r : Round) → InClassOne r → (phase q : ℕ) (d : Node) (m : Ballot)
+says-vote : (crew : Crew) (r : Round) → InClassOne r → (phase q : ℕ) (d : Voter) (m : Ballot)
     → say one crew phase r q d ≡ some m → d .vote ≡ m .vote
 says-vote crew selecting o phase q d m e = same-vote (same-ballot e)
 says-vote crew validating o phase q d m e = absurd o
 says-vote crew deciding o phase q d m e = same-vote (same-ballot e)
 
 -- a node that takes v or nothing keeps the vote v
-keeps-vote : (crew : Crew) (r : Round) → InClassOne r → (phase : ℕ) (ballots : List Ballot) (d : Node) (v : ℕ)
+keeps-vote : (crew : Crew) (r : Round) → InClassOne r → (phase : ℕ) (ballots : List Ballot) (d : Voter) (v : ℕ)
     → d .vote ≡ v → Takes v one crew ballots → (turn one crew phase r ballots d) .vote ≡ v
 keeps-vote crew selecting o phase ballots d v e h =
     let x = taken one crew ballots in
@@ -56,7 +56,7 @@ keeps-vote crew selecting o phase ballots d v e h =
 keeps-vote crew validating o phase ballots d v e h = absurd o
 keeps-vote crew deciding o phase ballots d v e h = e
 
-module _ (crew : Crew) (honest : ℕ → Bool) (few : FewLiars crew honest)
+module _ (crew : Crew) (honest : ℕ → Bool) (few : FewByzantine crew honest)
     (reach : crew .d + crew .b + crew .f ≤ crew .n) (high : High one crew) where
   -- at least D − b honest nodes have the vote v
   record Lock (v : ℕ) (s : State) : Type 0 where

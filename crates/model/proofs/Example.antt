@@ -1,5 +1,5 @@
 -- The drill's example of document 01 as a run of the abstract engine: it computes to 5 5 5, it meets the premises, and
--- its nodes decide, so the theorems are not about nothing. Assumes nothing.
+-- its nodes decide, so the theorems are not about nothing.
 use mathlib.Core.Path.{_≡_, refl, _∙_}
 use mathlib.Core.Bool.{Bool, true, false, cond}
 use mathlib.Core.List.{List, [], _∷_, map}
@@ -8,6 +8,7 @@ use mathlib.Core.Option.{none, some}
 use Prim.Native.Nat.{ℕ, zero, suc, _<_}
 use native.Mathlib.Omega.{arith}
 use lib.Dec.{ltb}
+use Rattle.wire.specs.Entry.{entriesFrom}
 use Rattle.crew.specs.Parts.{crewOf}
 use Rattle.crew.specs.Acceptance.{acceptOf}
 use Rattle.ballot.specs.Count.{tally, countIf, gather}
@@ -18,8 +19,7 @@ use Rattle.ballot.specs.Selection.{leading, mostVoted, anyPlan, taken}
 use Rattle.ballot.specs.Validation.{valid, validated}
 use Rattle.ballot.specs.Decision.{decides, decision}
 use Rattle.ballot.proofs.Slots.{same-ballot, same-vote, not-none}
-use Rattle.model.specs.Node.{entriesBelow}
-use Rattle.model.specs.Run.{Run, class, state, saying, DecidesAt, Admissible}
+use Rattle.model.proofs.Engine.{Run, class, state, saying, DecidesAt, Admissible}
 
 -- what each honest node says in the three rounds of phase 1
 abbrev speech : ℕ → Ballot
@@ -42,12 +42,12 @@ resultsAfter j = map (λ q. state drill j .node q .result) (0 ∷ 1 ∷ 2 ∷ []
 
 drill-results : map resultsAfter (1 ∷ 2 ∷ 3 ∷ []) ≡ (0 ∷ 0 ∷ 0 ∷ []) ∷ (0 ∷ 0 ∷ 0 ∷ []) ∷ (5 ∷ 5 ∷ 5 ∷ []) ∷ []
 unfolding state countIf gather lists least leastOf possible backed backing enough selection leading mostVoted anyPlan
-    taken valid validated decides decision entriesBelow
+    taken valid validated decides decision entriesFrom
 drill-results = refl
 
 says-speech : (j q : ℕ) → j < 3 → saying (class drill) (drill .crew) (state drill j) q ≡ some (speech j)
 unfolding state countIf gather lists least leastOf possible backed backing enough selection leading mostVoted anyPlan
-    taken valid validated entriesBelow
+    taken valid validated entriesFrom
 says-speech zero q l = refl
 says-speech (suc zero) q l = refl
 says-speech (suc (suc zero)) q l = refl

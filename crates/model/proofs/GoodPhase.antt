@@ -1,5 +1,5 @@
 -- A good phase: its circle selects one plan, validates it in classes 2 and 3, and decides it. Stated of one phase,
--- whatever went before. Assumes nothing.
+-- whatever went before.
 use mathlib.Core.Path.{_≡_, sym, ap, _∙_}
 use mathlib.Core.Bool.{Bool, not, _&&_}
 use mathlib.Core.List.{[]}
@@ -11,6 +11,7 @@ use lib.ListN.{getD}
 use lib.Dec.{T, eqb, lt→ltb}
 use Rattle.wire.specs.Plan.{ifPlan}
 use Rattle.wire.proofs.Tests.{tests}
+use Rattle.wire.specs.Entry.{entriesFrom}
 use Rattle.crew.specs.declared.Crew.{Crew}
 use Rattle.crew.specs.Thresholds.{Class, one, two, three, anyAbove, validAbove}
 use Rattle.ballot.specs.Count.{tally, countIf, holds}
@@ -26,9 +27,9 @@ use Rattle.ballot.proofs.Validation.{valid-validated}
 use Rattle.ballot.proofs.Decision.{Stamps, stamp-fresh}
 use Rattle.ballot.proofs.Order.{taken-same}
 use Rattle.ballot.proofs.Circle.{circle-counts, answers-one, answers-two, answers-three}
-use Rattle.model.specs.Node.{Node, Round, selecting, validating, deciding, number, entriesBelow}
-use Rattle.model.specs.Run.{Each, State, Inboxes, turned, step, saying}
-use Rattle.model.proofs.Node.{ifPlan-is, turn-says, confirms-is, lists-below}
+use Rattle.model.proofs.Voter.{Voter, Round, selecting, validating, deciding, roundNumber}
+use Rattle.model.proofs.Engine.{Each, State, Inboxes, turned, step, saying}
+use Rattle.model.proofs.Voters.{ifPlan-is, turn-says, confirms-is, lists-from}
 use Rattle.model.proofs.Run.{at}
 use Rattle.model.proofs.Invariant.{Invariant, listers}
 use Rattle.model.proofs.Phases.{Unstamped}
@@ -66,7 +67,7 @@ CircleDecides class crew circle phase i =
 module _ (crew : Crew) (circle : ℕ → Bool) (wide : crew .n ≤ tally circle (crew .n) + crew .b + crew .f)
     (quorum : 1 ≤ crew .d) (full : crew .d ≤ crew .n - crew .b - crew .f) where
   -- Selection: the circle takes one plan, where selection answers.
-  one-plan : (class : Class) (i : Inboxes) (phase : ℕ) (nodes : ℕ → Node)
+  one-plan : (class : Class) (i : Inboxes) (phase : ℕ) (nodes : ℕ → Voter)
       → Hears class crew circle i (at phase selecting nodes) → Alike crew circle i
       → Each crew circle (λ p. Answers (selection class crew (inbox crew (i p))))
       → (v : ℕ) × (v ≢ 0) × Each crew circle (λ p. taken class crew (inbox crew (i p)) ≡ v)
@@ -84,7 +85,7 @@ module _ (crew : Crew) (circle : ℕ → Bool) (wide : crew .n ≤ tally circle 
           )
 
   -- Validation: where all of the circle have selected v, and enough of them validate, each of them validates it.
-  all-validated : (class : Class) (i : Inboxes) (phase : ℕ) (nodes : ℕ → Node) (v : ℕ)
+  all-validated : (class : Class) (i : Inboxes) (phase : ℕ) (nodes : ℕ → Voter) (v : ℕ)
       → CanValidate crew circle phase → v ≢ 0
       → Hears class crew circle i (at phase validating nodes) → Each crew circle (λ q. nodes q .select ≡ v)
       → Each crew circle (λ p. validated crew (inbox crew (i p)) ≡ v)
@@ -105,7 +106,7 @@ module _ (crew : Crew) (circle : ℕ → Bool) (wide : crew .n ≤ tally circle 
       ]
 
   -- Decision: where all of the circle say v, in classes 2 and 3 with the phase as stamp, each of them decides it.
-  all-decide : (class : Class) (i : Inboxes) (phase : ℕ) (nodes : ℕ → Node) (v : ℕ)
+  all-decide : (class : Class) (i : Inboxes) (phase : ℕ) (nodes : ℕ → Voter) (v : ℕ)
       → Hears class crew circle i (at phase deciding nodes)
       → Each crew circle (λ q. (nodes q .vote ≡ v)
       × T (fresh class phase (record { vote = nodes q .vote; stamp = nodes q .stamp; entries = [] })))
@@ -122,13 +123,13 @@ module _ (crew : Crew) (circle : ℕ → Bool) (wide : crew .n ≤ tally circle 
 
   -- Class 1: two rounds.
   pub two-rounds : (class : Class) → Unstamped class → anyAbove class crew < crew .n - crew .b - crew .f
-      → (i g : Inboxes) (phase : ℕ) (round : Round) (nodes : ℕ → Node) → round ≡ selecting
+      → (i g : Inboxes) (phase : ℕ) (round : Round) (nodes : ℕ → Voter) → round ≡ selecting
       → (let s = at phase round nodes in Hears class crew circle i s → Alike crew circle i
       → Hears class crew circle g (step class crew i s) → CircleDecides class crew circle phase g)
   two-rounds two a above i g phase round nodes r h alike h₂ = absurd a
   two-rounds three a above i g phase round nodes r h alike h₂ = absurd a
-  two-rounds one a above i g phase validating nodes r h alike h₂ = absurd (omega (arith, ap number r))
-  two-rounds one a above i g phase deciding nodes r h alike h₂ = absurd (omega (arith, ap number r))
+  two-rounds one a above i g phase validating nodes r h alike h₂ = absurd (omega (arith, ap roundNumber r))
+  two-rounds one a above i g phase deciding nodes r h alike h₂ = absurd (omega (arith, ap roundNumber r))
   two-rounds one a above i g phase selecting nodes r h alike h₂ =
       let v = one-plan one i phase nodes h alike λ p lp kp.
       answers-one crew (i p) circle wide (λ q lq kq. (_, h p lp kp q lq kq)) above in (
@@ -142,7 +143,7 @@ module _ (crew : Crew) (circle : ℕ → Bool) (wide : crew .n ≤ tally circle 
       )
 
   -- Classes 2 and 3: three rounds, where selection answers.
-  three-rounds : (class : Class) → Stamps class → (i e g : Inboxes) (phase : ℕ) (nodes : ℕ → Node)
+  three-rounds : (class : Class) → Stamps class → (i e g : Inboxes) (phase : ℕ) (nodes : ℕ → Voter)
       → CanValidate crew circle phase
       → (let nodes₁ = turned class crew i phase selecting nodes in
       Hears class crew circle i (at phase selecting nodes) → Alike crew circle i
@@ -154,7 +155,7 @@ module _ (crew : Crew) (circle : ℕ → Bool) (wide : crew .n ≤ tally circle 
       let one = one-plan class i phase nodes h alike answers in
       go (one .0) (one .1) (one .2)
     where
-      nodes₁ : ℕ → Node
+      nodes₁ : ℕ → Voter
       nodes₁ = turned class crew i phase selecting nodes
 
       go : (v : ℕ) → v ≢ 0 → Each crew circle (λ p. taken class crew (inbox crew (i p)) ≡ v)
@@ -174,14 +175,14 @@ module _ (crew : Crew) (circle : ℕ → Bool) (wide : crew .n ≤ tally circle 
   module _ (honest : ℕ → Bool) (inside : Each crew circle (λ q. T (honest q)))
       (strong : Strong three crew)
       (above : anyAbove three crew < crew .n - crew .b - crew .f)
-      (phase : ℕ) (nodes : ℕ → Node) (j : Invariant crew honest (at phase selecting nodes)) (i : Inboxes)
+      (phase : ℕ) (nodes : ℕ → Voter) (j : Invariant crew honest (at phase selecting nodes)) (i : Inboxes)
       (h : Hears three crew circle i (at phase selecting nodes)) (alike : Alike crew circle i)
       (p : ℕ) (lp : p < crew .n) (kp : T (circle p)) where
     spoken : ℕ → Ballot
     spoken q = record {
       vote = nodes q .vote;
       stamp = nodes q .stamp;
-      entries = entriesBelow (nodes q .history) phase;
+      entries = entriesFrom (nodes q .history) 0 phase;
     }
 
     votes-plan : Each crew circle (λ q. nodes q .vote ≢ 0)
@@ -208,8 +209,8 @@ module _ (crew : Crew) (circle : ℕ → Bool) (wide : crew .n ≤ tally circle 
         let z = and-T (honest a) (eqb (getD (nodes a .history) (nodes q .stamp) 0) (nodes q .base)) (y .1) in
         let entry : getD (nodes a .history) (nodes q .stamp) 0 ≡ nodes q .vote = omega (tests, ok .voted) in
         T-holds test (i p a) (spoken a) (h p lp kp a la (y .0))
-        (lt→ltb 0 _ (lists-below (nodes a .history) phase (nodes q .stamp) (nodes q .vote) (ok .stamped) entry
-        (votes-plan q lq kq))) in
+        (lt→ltb 0 _ (lists-from (nodes a .history) 0 phase (nodes q .stamp) (nodes q .vote) (omega arith)
+        (omega (arith, ok .stamped)) entry (votes-plan q lq kq))) in
         omega (arith, tally-not honest (crew .n), j .backing q lq hq pos, count-gather test (i p) (crew .n))
 
     highest-answers : Answers (selection three crew (inbox crew (i p)))
@@ -230,16 +231,16 @@ module _ (crew : Crew) (circle : ℕ → Bool) (wide : crew .n ≤ tally circle 
   -- Classes 2 and 3: a good phase.
   pub good-rounds : (class : Class) → Stamps class → (honest : ℕ → Bool) → Each crew circle (λ q. T (honest q))
       → Strong class crew → anyAbove class crew < crew .n - crew .b - crew .f
-      → (i e g : Inboxes) (phase : ℕ) (round : Round) (nodes : ℕ → Node)
+      → (i e g : Inboxes) (phase : ℕ) (round : Round) (nodes : ℕ → Voter)
       → CircleValidates class crew circle phase → round ≡ selecting
       → (let s = at phase round nodes in Invariant crew honest s → Hears class crew circle i s → Alike crew circle i
       → Hears class crew circle e (step class crew i s)
       → Hears class crew circle g (step class crew e (step class crew i s))
       → CircleDecides class crew circle phase g)
   good-rounds class a honest inside strong above i e g phase validating nodes enough r j h alike h₂ h₃ =
-      absurd (omega (arith, ap number r))
+      absurd (omega (arith, ap roundNumber r))
   good-rounds class a honest inside strong above i e g phase deciding nodes enough r j h alike h₂ h₃ =
-      absurd (omega (arith, ap number r))
+      absurd (omega (arith, ap roundNumber r))
   good-rounds one a honest inside strong above i e g phase selecting nodes enough r j h alike h₂ h₃ = absurd a
   good-rounds two a honest inside strong above i e g phase selecting nodes enough r j h alike h₂ h₃ =
       three-rounds two a i e g phase nodes enough h alike

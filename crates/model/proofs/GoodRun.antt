@@ -1,4 +1,4 @@
--- A good phase of a run: what the circle hears in each of its rounds, and that it decides. Assumes nothing.
+-- A good phase of a run: what the circle hears in each of its rounds, and that it decides.
 use mathlib.Core.Path.{_≡_, refl, sym, ap, _∙_, subst}
 use mathlib.Core.Bool.{Bool, _&&_}
 use mathlib.Core.Logic.{inl, inr}
@@ -18,8 +18,8 @@ use Rattle.ballot.proofs.Counting.{tally-le}
 use Rattle.ballot.proofs.Decision.{Stamps}
 use Rattle.ballot.proofs.Slots.{not-none}
 use Rattle.ballot.proofs.Order.{same-inboxes}
-use Rattle.model.specs.Node.{selecting, deciding}
-use Rattle.model.specs.Run.{Each, step, saying, Run, class, state, Held, DecidesAt, Admissible, Good}
+use Rattle.model.proofs.Voter.{selecting, deciding}
+use Rattle.model.proofs.Engine.{Each, step, saying, Run, class, state, Held, DecidesAt, Admissible, GoodFor}
 use Rattle.model.proofs.Invariant.{Invariant}
 use Rattle.model.proofs.Phases.{Unstamped, class-cases, Stands, next}
 use Rattle.model.proofs.Phases.{decision-next, validation-next, decision-then, phase-begins}
@@ -28,7 +28,7 @@ use Rattle.model.proofs.GoodPhase.{two-rounds, good-rounds}
 use Rattle.model.proofs.Results.{no-zero-votes}
 
 module _ (run : Run) (ok : Admissible run) (phase : ℕ) (early : phase < spentPhase) (circle : ℕ → Bool)
-    (good : Good run phase circle) where
+    (good : GoodFor run phase circle) where
   facts : Accepts (run .crew)
   facts = accepts (run .crew) (ok .crew-accepted)
 
@@ -40,7 +40,7 @@ module _ (run : Run) (ok : Admissible run) (phase : ℕ) (early : phase < spentP
 
       go : (slot o : Option Ballot) → run .rounds j p q ≡ slot → says ≡ o → run .rounds j p q ≡ says
       go (some m) o z s =
-          let held : Held run j = (good .listed j e, omega arith) in
+          let held : Held run j = (good .complete j e, omega arith) in
           z ∙ sym (ok .faithful j held .said p lp (good .inside p lp kp) q lq (good .inside q lq kq) m z)
       go none none z s = z ∙ sym s
       go none (some m) z s = absurd (good .counts j e p lp kp q lq kq (λ x. not-none (sym x ∙ s)) z)
@@ -51,7 +51,7 @@ module _ (run : Run) (ok : Admissible run) (phase : ℕ) (early : phase < spentP
         same-inboxes (inbox (run .crew) (run .rounds j p)) (inbox (run .crew) (run .rounds j q)) λ m.
         good .equal j (s .0) (s .1) p lp kp q lq kq m;
     plans = λ p lp kp.
-        no-zero-votes run ok p lp (good .inside p lp kp) j (good .listed j (s .0), omega (arith, s .0));
+        no-zero-votes run ok p lp (good .inside p lp kp) j (good .complete j (s .0), omega (arith, s .0));
   }
 
   -- What acceptance gives by the class.
@@ -81,7 +81,7 @@ module _ (run : Run) (ok : Admissible run) (phase : ℕ) (early : phase < spentP
   decided : (j : ℕ) → Stands run j phase deciding
       → CircleDecides (class run) (run .crew) circle (state run j .phase) (run .rounds j) → Decides
   decided j s d p lp kp =
-      (j, d .0, s .0, ((good .listed j (s .0), omega (arith, s .0)), (s .1, d .1 p lp kp)))
+      (j, d .0, s .0, ((good .complete j (s .0), omega (arith, s .0)), (s .1, d .1 p lp kp)))
 
   -- the second round, and the third, as steps from the first
   second : (j : ℕ) → Stands run j phase selecting → state run (suc j) .phase ≡ phase
@@ -134,5 +134,5 @@ module _ (run : Run) (ok : Admissible run) (phase : ℕ) (early : phase < spentP
       let r = phase-begins run phase from (omega arith) in
       elim (class-cases (class run)) [
         | inl a ↦ good-one (r .0) (r .1) a
-        | inr a ↦ good-later (r .0) (r .1) a (inv a (r .0) (omega (arith, good .listed (r .0) (r .1 .0))))
+        | inr a ↦ good-later (r .0) (r .1) a (inv a (r .0) (omega (arith, good .complete (r .0) (r .1 .0))))
       ]

@@ -1,5 +1,5 @@
 -- Classes 2 and 3: what holds of every honest node when a round begins; that a phase validates one plan; and that every
--- stamp is backed by the histories of those who let it be validated. Assumes nothing.
+-- stamp is backed by the histories of those who let it be validated.
 use mathlib.Core.Path.{_≡_, refl, ap}
 use mathlib.Core.Bool.{Bool, not, _&&_}
 use mathlib.Core.Logic.{inl, inr, _≢_}
@@ -20,51 +20,51 @@ use Rattle.ballot.specs.Validation.{validates, validated}
 use Rattle.ballot.specs.Decision.{decision}
 use Rattle.ballot.proofs.Tests.{and-T, T-and, holds-T}
 use Rattle.ballot.proofs.Counting.{count-gather, tally-le, tally-split}
-use Rattle.ballot.proofs.Slots.{same-vote, FewLiars}
+use Rattle.ballot.proofs.Slots.{same-vote, FewByzantine}
 use Rattle.ballot.proofs.Validation.{validated-slots, validated-unique}
 use Rattle.ballot.proofs.Decision.{Stamps}
-use Rattle.model.specs.Node.{Node, Round, selecting, validating, deciding, number}
-use Rattle.model.specs.Node.{begin, selects, confirms, settles}
-use Rattle.model.specs.Run.{Each, State, Inboxes, turned, step, Faithful, start}
-use Rattle.model.proofs.Node.{ifPlan-is, confirms-is, said-plan, said-turn, begins-blank}
-use Rattle.model.proofs.Node.{kept-length, kept-other, kept-here}
+use Rattle.model.proofs.Voter.{Voter, Round, selecting, validating, deciding, roundNumber}
+use Rattle.model.proofs.Voter.{opened, selects, confirms, settles}
+use Rattle.model.proofs.Engine.{Each, State, Inboxes, turned, step, Faithful, opening}
+use Rattle.model.proofs.Voters.{ifPlan-is, confirms-is, said-plan, said-turn, begins-blank}
+use Rattle.model.proofs.Voters.{kept-length, kept-other, kept-here}
 use Rattle.model.proofs.Run.{at}
 
 -- One node.
 
--- 01: "stamp below phase, or equal to it in round 3"
+-- a sound record's stamp
 abbrev pub StampOk : Round → ℕ → ℕ → Type 0
 StampOk selecting stamp phase = stamp < phase
 StampOk validating stamp phase = stamp < phase
 StampOk deciding stamp phase = stamp ≤ phase
 
 -- but between selection and validation the vote is the base
-abbrev VoteOk : Round → Node → Type 0
+abbrev VoteOk : Round → Voter → Type 0
 VoteOk selecting d = d .vote ≡ d .base
 VoteOk validating d = Unit {0}
 VoteOk deciding d = d .vote ≡ d .base
 
--- 01: "entries of phases not yet selected"
+-- the phases without an entry so far
 abbrev pub Unselected : Round → ℕ → ℕ → Type 0
 Unselected selecting phase x = phase ≤ x
 Unselected validating phase x = phase < x
 Unselected deciding phase x = phase < x
 
 -- between selection and validation a plan that was selected stands in the history
-abbrev Recorded : Round → ℕ → Node → Type 0
+abbrev Recorded : Round → ℕ → Voter → Type 0
 Recorded selecting phase d = Unit {0}
 Recorded validating phase d = d .select ≢ 0 → getD (d .history) phase 0 ≡ d .select
 Recorded deciding phase d = Unit {0}
 
 -- what holds of an honest node when this round of this phase begins; each round keeps it, whatever the node hears
-pub record NodeOk (phase : ℕ) (round : Round) (d : Node) : Type 0 where
+pub record NodeOk (phase : ℕ) (round : Round) (d : Voter) : Type 0 where
   pub stamped : StampOk round (d .stamp) phase
   pub voted : VoteOk round d
   pub blank : (x : ℕ) → Unselected round phase x → getD (d .history) x 0 ≡ 0
   pub long : length (d .history) ≡ historySize
   pub recorded : Recorded round phase d
 
-node-begins : (v : ℕ) → NodeOk 1 selecting (begin v)
+node-begins : (v : ℕ) → NodeOk 1 selecting (opened v)
 node-begins v = record {
   stamped = omega arith;
   voted = refl;
@@ -73,7 +73,7 @@ node-begins v = record {
   recorded = tt;
 }
 
-node-selects : (phase v : ℕ) (d : Node) → phase < spentPhase → NodeOk phase selecting d
+node-selects : (phase v : ℕ) (d : Voter) → phase < spentPhase → NodeOk phase selecting d
     → NodeOk phase validating (selects phase v d)
 node-selects phase v d t o = record {
   stamped = o .stamped;
@@ -83,7 +83,7 @@ node-selects phase v d t o = record {
   recorded = λ plan. omega (arith, kept-here (d .history) phase v (omega (arith, o .long)) plan);
 }
 
-node-confirms : (phase v : ℕ) (d : Node) → NodeOk phase validating d → NodeOk phase deciding (confirms phase v d)
+node-confirms : (phase v : ℕ) (d : Voter) → NodeOk phase validating d → NodeOk phase deciding (confirms phase v d)
 node-confirms phase v d o = record {
   stamped = elim (ifPlan-is v phase (d .stamp)) [ inl z ↦ omega (arith, o .stamped) | inr z ↦ omega arith ];
   voted = refl;
@@ -92,7 +92,7 @@ node-confirms phase v d o = record {
   recorded = tt;
 }
 
-node-settles : (phase v : ℕ) (d : Node) → NodeOk phase deciding d → NodeOk (suc phase) selecting (settles v d)
+node-settles : (phase v : ℕ) (d : Voter) → NodeOk phase deciding d → NodeOk (suc phase) selecting (settles v d)
 node-settles phase v d o = record {
   stamped = omega (arith, o .stamped);
   voted = o .voted;
@@ -104,7 +104,7 @@ node-settles phase v d o = record {
 -- All honest nodes.
 
 -- the honest nodes whose history has v at phase t
-abbrev pub listers : (ℕ → Bool) → (ℕ → Node) → ℕ → ℕ → ℕ → Bool
+abbrev pub listers : (ℕ → Bool) → (ℕ → Voter) → ℕ → ℕ → ℕ → Bool
 listers honest nodes t v a = honest a && eqb (getD (nodes a .history) t 0) v
 
 pub record Invariant (crew : Crew) (honest : ℕ → Bool) (s : State) : Type 0 where
@@ -119,7 +119,7 @@ pub record Invariant (crew : Crew) (honest : ℕ → Bool) (s : State) : Type 0 
       → validAbove crew < 2 * (tally (listers honest (s .node) (s .node q .stamp) (s .node q .base)) (crew .n)
       + tally (λ a. not (honest a)) (crew .n))
 
-pub invariant-begins : (crew : Crew) (honest : ℕ → Bool) (plans : ℕ → ℕ) → Invariant crew honest (start plans)
+pub invariant-begins : (crew : Crew) (honest : ℕ → Bool) (plans : ℕ → ℕ) → Invariant crew honest (opening plans)
 invariant-begins crew honest plans = record {
   begun = omega arith;
   each = λ q lq hq. node-begins (plans q);
@@ -127,8 +127,8 @@ invariant-begins crew honest plans = record {
   backing = λ q lq hq pos. omega arith;
 }
 
-module _ (class : Class) (crew : Crew) (honest : ℕ → Bool) (few : FewLiars crew honest) (i : Inboxes) (phase : ℕ)
-    (nodes : ℕ → Node) where
+module _ (class : Class) (crew : Crew) (honest : ℕ → Bool) (few : FewByzantine crew honest) (i : Inboxes) (phase : ℕ)
+    (nodes : ℕ → Voter) where
   invariant-selects : phase < spentPhase → Invariant crew honest (at phase selecting nodes)
       → Invariant crew honest (at phase validating (turned class crew i phase selecting nodes))
   invariant-selects t j = record {
@@ -220,18 +220,18 @@ module _ (class : Class) (crew : Crew) (honest : ℕ → Bool) (few : FewLiars c
 
 -- Any round.
 
-pub unique-in-round : (class : Class) (crew : Crew) (honest : ℕ → Bool) → FewLiars crew honest
-    → (i : Inboxes) (phase : ℕ) (round : Round) (nodes : ℕ → Node) → round ≡ validating
+pub unique-in-round : (class : Class) (crew : Crew) (honest : ℕ → Bool) → FewByzantine crew honest
+    → (i : Inboxes) (phase : ℕ) (round : Round) (nodes : ℕ → Voter) → round ≡ validating
     → Faithful class crew honest i (at phase round nodes) → Each crew honest λ p. Each crew honest λ q.
     validated crew (inbox crew (i p)) ≢ 0 → validated crew (inbox crew (i q)) ≢ 0
     → validated crew (inbox crew (i p)) ≡ validated crew (inbox crew (i q))
-unique-in-round class crew honest few i phase selecting nodes e f = absurd (omega (arith, ap number e))
+unique-in-round class crew honest few i phase selecting nodes e f = absurd (omega (arith, ap roundNumber e))
 unique-in-round class crew honest few i phase validating nodes e f =
     unique-validation class crew honest few i phase nodes f
-unique-in-round class crew honest few i phase deciding nodes e f = absurd (omega (arith, ap number e))
+unique-in-round class crew honest few i phase deciding nodes e f = absurd (omega (arith, ap roundNumber e))
 
-pub invariant-step : (class : Class) → Stamps class → (crew : Crew) (honest : ℕ → Bool) → FewLiars crew honest
-    → (i : Inboxes) (phase : ℕ) (round : Round) (nodes : ℕ → Node) → phase < spentPhase
+pub invariant-step : (class : Class) → Stamps class → (crew : Crew) (honest : ℕ → Bool) → FewByzantine crew honest
+    → (i : Inboxes) (phase : ℕ) (round : Round) (nodes : ℕ → Voter) → phase < spentPhase
     → Invariant crew honest (at phase round nodes) → Faithful class crew honest i (at phase round nodes)
     → Invariant crew honest (step class crew i (at phase round nodes))
 invariant-step one a crew honest few i phase selecting nodes t j f = absurd a

@@ -1,4 +1,6 @@
-pub mod Node
+pub mod Voter
+pub mod Engine
+pub mod Voters
 pub mod Run
 pub mod ClassOne
 pub mod Invariant

@@ -1,5 +1,5 @@
 -- Classes 2 and 3: a decision at a phase locks its plan, as the base of D − b honest nodes with a stamp from that phase
--- on. Rounds keep the lock, and while it holds nothing else is decided. Assumes nothing.
+-- on. Rounds keep the lock, and while it holds nothing else is decided.
 use mathlib.Core.Path.{_≡_, ap}
 use mathlib.Core.Bool.{Bool, not, _&&_}
 use mathlib.Core.Logic.{_⊎_, inl, inr}
@@ -19,13 +19,13 @@ use Rattle.ballot.specs.Validation.{validated}
 use Rattle.ballot.specs.Decision.{fresh, decides}
 use Rattle.ballot.proofs.Tests.{and-T, holds-T}
 use Rattle.ballot.proofs.Counting.{count-gather, tally-split, tally-not, tally-some}
-use Rattle.ballot.proofs.Slots.{same-ballot, same-vote, same-stamp, EachFrom, FewLiars, liars-at-most-b}
+use Rattle.ballot.proofs.Slots.{same-ballot, same-vote, same-stamp, EachFrom, FewByzantine, byzantine-at-most-b}
 use Rattle.ballot.proofs.Validation.{validated-slots}
 use Rattle.ballot.proofs.Decision.{Stamps, fresh-stamp}
 use Rattle.ballot.proofs.Locked.{Core, Takes, lock-taken-two, lock-taken-three}
-use Rattle.model.specs.Node.{Node, Round, selecting, validating, deciding, number, entriesSaid}
-use Rattle.model.specs.Run.{Each, State, Inboxes, turned, step, Faithful, Decides, start}
-use Rattle.model.proofs.Node.{confirms-is, said-lists, kept-keeps, begins-blank}
+use Rattle.model.proofs.Voter.{Voter, Round, selecting, validating, deciding, roundNumber, entriesSaid}
+use Rattle.model.proofs.Engine.{Each, State, Inboxes, turned, step, Faithful, Decides, opening}
+use Rattle.model.proofs.Voters.{confirms-is, said-lists, kept-keeps, begins-blank}
 use Rattle.model.proofs.Run.{at, Locking}
 use Rattle.model.proofs.Invariant.{Invariant, invariant-begins, invariant-step, slot-selected}
 
@@ -51,8 +51,8 @@ record Lock (crew : Crew) (honest : ℕ → Bool) (v : ℕ) (s : State) : Type 0
   selected : Each crew honest (λ q. Selected (s .round) (s .node q .select) v)
 
 -- where all honest nodes begin with v, it is locked
-common-locks : (crew : Crew) (honest : ℕ → Bool) → FewLiars crew honest → crew .d + crew .b + crew .f ≤ crew .n
-    → (plans : ℕ → ℕ) (v : ℕ) → Each crew honest (λ q. plans q ≡ v) → Lock crew honest v (start plans)
+common-locks : (crew : Crew) (honest : ℕ → Bool) → FewByzantine crew honest → crew .d + crew .b + crew .f ≤ crew .n
+    → (plans : ℕ → ℕ) (v : ℕ) → Each crew honest (λ q. plans q ≡ v) → Lock crew honest v (opening plans)
 common-locks crew honest few reach plans v all = record {
   since = 0;
   since-past = omega arith;
@@ -64,9 +64,9 @@ common-locks crew honest few reach plans v all = record {
   selected = λ q lq hq. tt;
 }
 
-module _ (class : Class) (stamps : Stamps class) (crew : Crew) (honest : ℕ → Bool) (few : FewLiars crew honest)
+module _ (class : Class) (stamps : Stamps class) (crew : Crew) (honest : ℕ → Bool) (few : FewByzantine crew honest)
     (reach : crew .d + crew .b + crew .f ≤ crew .n) (above : crew .b < crew .d) (i : Inboxes) (phase : ℕ)
-    (nodes : ℕ → Node) where
+    (nodes : ℕ → Voter) where
   -- Selection.
 
   module _ (j : Invariant crew honest (at phase selecting nodes))
@@ -145,7 +145,7 @@ module _ (class : Class) (stamps : Stamps class) (crew : Crew) (honest : ℕ →
         go (yes z) y = inr z
         go (no z) (yes y) = inl y
         go (no z) (no y) =
-            let liars = liars-at-most-b crew (i q) (votes w) honest few λ a la ha m e x.
+            let few-votes = byzantine-at-most-b crew (i q) (votes w) honest few λ a la ha m e x.
             let b = slot-selected class crew honest few i phase nodes f q lq hq a la ha m e in
             elim (l .selected a la ha) [ inl u ↦ omega tests | inr u ↦ b .0 u ] in
             absurd (omega (arith, validated-slots crew (inbox crew (i q)) z))
@@ -248,9 +248,9 @@ module _ (class : Class) (stamps : Stamps class) (crew : Crew) (honest : ℕ →
 
 -- Any round.
 
-module _ (class : Class) (stamps : Stamps class) (crew : Crew) (honest : ℕ → Bool) (few : FewLiars crew honest)
+module _ (class : Class) (stamps : Stamps class) (crew : Crew) (honest : ℕ → Bool) (few : FewByzantine crew honest)
     (reach : crew .d + crew .b + crew .f ≤ crew .n) (above : crew .b < crew .d) (i : Inboxes) where
-  lock-step : (phase : ℕ) (round : Round) (nodes : ℕ → Node)
+  lock-step : (phase : ℕ) (round : Round) (nodes : ℕ → Voter)
       → Invariant crew honest (at phase round nodes) → Faithful class crew honest i (at phase round nodes)
       → (v : ℕ) → Lock crew honest v (at phase round nodes)
       → Lock crew honest v (step class crew i (at phase round nodes))
@@ -265,18 +265,18 @@ module _ (class : Class) (stamps : Stamps class) (crew : Crew) (honest : ℕ →
   lock-step phase deciding nodes j f v l = lock-settles class stamps crew honest few reach above i phase nodes v l
 
   -- what is decided is locked, and is what was locked before
-  locks : (phase : ℕ) (round : Round) (nodes : ℕ → Node)
+  locks : (phase : ℕ) (round : Round) (nodes : ℕ → Voter)
       → Invariant crew honest (at phase round nodes) → Faithful class crew honest i (at phase round nodes)
       → Each crew honest λ p. (v : ℕ) → Decides class crew i (at phase round nodes) p v
       → Lock crew honest v (at phase round nodes) × ((w : ℕ) → Lock crew honest w (at phase round nodes) → v ≡ w)
-  locks phase selecting nodes j f p lp hp v d = absurd (omega (arith, ap number (d .0)))
-  locks phase validating nodes j f p lp hp v d = absurd (omega (arith, ap number (d .0)))
+  locks phase selecting nodes j f p lp hp v d = absurd (omega (arith, ap roundNumber (d .0)))
+  locks phase validating nodes j f p lp hp v d = absurd (omega (arith, ap roundNumber (d .0)))
   locks phase deciding nodes j f p lp hp v d = (
     decision-locks class stamps crew honest few reach above i phase nodes j f p lp hp v (d .1),
     decision-locked class stamps crew honest few reach above i phase nodes j f p lp hp v (d .1),
   )
 
-module _ (class : Class) (stamps : Stamps class) (crew : Crew) (honest : ℕ → Bool) (few : FewLiars crew honest)
+module _ (class : Class) (stamps : Stamps class) (crew : Crew) (honest : ℕ → Bool) (few : FewByzantine crew honest)
     (reach : crew .d + crew .b + crew .f ≤ crew .n) (above : crew .b < crew .d) where
   pub locking-later : Locking class crew honest
   locking-later = record {

@@ -1,5 +1,4 @@
 -- Which round stands where: every phase has its rounds, one after the other, until the records are spent.
--- Assumes nothing.
 use mathlib.Core.Path.{_≡_, refl, ap, ap₂, _∙_}
 use mathlib.Core.Bool.{cond}
 use mathlib.Core.Logic.{_⊎_, inl, inr}
@@ -9,8 +8,8 @@ use borrow.Author.Tests.{lt-ltb}
 use Rattle.wire.specs.Sizes.{spentPhase}
 use Rattle.crew.specs.Thresholds.{Class, one, two, three}
 use Rattle.ballot.proofs.Decision.{Stamps}
-use Rattle.model.specs.Node.{Round, selecting, validating, deciding}
-use Rattle.model.specs.Run.{State, roundAfter, phaseAfter, step, Run, class, state}
+use Rattle.model.proofs.Voter.{Round, selecting, validating, deciding}
+use Rattle.model.proofs.Engine.{State, nextRound, nextPhase, step, Run, class, state}
 
 -- class 1, which has no round 2
 abbrev pub Unstamped : Class → Type 0
@@ -23,12 +22,12 @@ class-cases one = inl tt
 class-cases two = inr tt
 class-cases three = inr tt
 
-second-unstamped : (class : Class) → Unstamped class → roundAfter class selecting ≡ deciding
+second-unstamped : (class : Class) → Unstamped class → nextRound class selecting ≡ deciding
 second-unstamped one a = refl
 second-unstamped two a = absurd a
 second-unstamped three a = absurd a
 
-second-stamped : (class : Class) → Stamps class → roundAfter class selecting ≡ validating
+second-stamped : (class : Class) → Stamps class → nextRound class selecting ≡ validating
 second-stamped one a = absurd a
 second-stamped two a = refl
 second-stamped three a = refl
@@ -46,11 +45,11 @@ module _ (run : Run) where
   Stands j phase round = (state run j .phase ≡ phase) × (state run j .round ≡ round)
 
   advance : (j phase : ℕ) (round : Round) → phase < spentPhase → Stands j phase round
-      → Stands (suc j) (phaseAfter round phase) (roundAfter (class run) round)
+      → Stands (suc j) (nextPhase round phase) (nextRound (class run) round)
   advance j phase round t s =
       let n = next j (omega (arith, s .0)) in (
-        ap (λ (y : State). y .phase) n ∙ ap₂ phaseAfter (s .1) (s .0),
-        ap (λ (y : State). y .round) n ∙ ap (roundAfter (class run)) (s .1),
+        ap (λ (y : State). y .phase) n ∙ ap₂ nextPhase (s .1) (s .0),
+        ap (λ (y : State). y .round) n ∙ ap (nextRound (class run)) (s .1),
       )
 
   -- class 1: selection, decision

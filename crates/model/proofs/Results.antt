@@ -1,4 +1,4 @@
--- A node's result is the plan that it decided, and 0 where it has decided none. Assumes nothing.
+-- A node's result is the plan that it decided, and 0 where it has decided none.
 use mathlib.Core.Path.{_≡_, refl, ap, subst}
 use mathlib.Core.List.{List}
 use mathlib.Core.Logic.{_⊎_, inl, inr, _≢_}
@@ -13,9 +13,9 @@ use Rattle.ballot.specs.Ballot.{Ballot, inbox, votes}
 use Rattle.ballot.specs.Decision.{decision}
 use Rattle.ballot.proofs.Slots.{no-slot-counts}
 use Rattle.ballot.proofs.Decision.{decision-decides, decides-voted, decision-least, decision-plan}
-use Rattle.model.specs.Node.{Round, selecting, validating, deciding, number, turn}
-use Rattle.model.specs.Run.{Run, class, state, Held, DecidesAt, Undecided, PlanDecided, Admissible}
-use Rattle.model.proofs.Node.{ifPlan-is}
+use Rattle.model.proofs.Voter.{Round, selecting, validating, deciding, roundNumber, turn}
+use Rattle.model.proofs.Engine.{Run, class, state, Held, DecidesAt, NotYet, FirstDecision, Admissible}
+use Rattle.model.proofs.Voters.{ifPlan-is}
 use Rattle.model.proofs.Run.{moves}
 
 module _ (run : Run) (ok : Admissible run) (p : ℕ) (lp : p < run .crew .n) (hp : T (run .honest p)) where
@@ -37,10 +37,10 @@ module _ (run : Run) (ok : Admissible run) (p : ℕ) (lp : p < run .crew .n) (hp
 
   -- the plan decided in the first j rounds, or 0
   abbrev Result : ℕ → ℕ → Type 0
-  Result j v = PlanDecided run p j v ⊎ (Undecided run p j × (v ≡ 0))
+  Result j v = FirstDecision run p j v ⊎ (NotYet run p j × (v ≡ 0))
 
   -- one round more does not change a plan that was decided
-  longer : (j v : ℕ) → PlanDecided run p j v → Result (suc j) v
+  longer : (j v : ℕ) → FirstDecision run p j v → Result (suc j) v
   longer j v r = inl (record {
     round = r .round;
     before = omega (arith, r .before);
@@ -66,7 +66,7 @@ module _ (run : Run) (ok : Admissible run) (p : ℕ) (lp : p < run .crew .n) (hp
   decided j = decision (class run) (run .crew) (state run j .phase) (ballots j)
 
   module _ (j : ℕ) (held : Held run j) (r : state run j .round ≡ deciding) where
-    decision-result : Undecided run p j → Dec (decided j ≡ 0) → Result (suc j) (decided j)
+    decision-result : NotYet run p j → Dec (decided j ≡ 0) → Result (suc j) (decided j)
     decision-result free (yes z) =
         let no-zero = no-zero-votes j held in
         idle j (decided j)
@@ -89,9 +89,9 @@ module _ (run : Run) (ok : Admissible run) (p : ℕ) (lp : p < run .crew .n) (hp
       → Result (suc j)
       ((turn (class run) (run .crew) (state run j .phase) round (ballots j) (state run j .node p)) .result)
   takes-round j held selecting r s =
-      idle j _ (λ w d. omega (arith, ap number r, ap number (d .1 .0))) s
+      idle j _ (λ w d. omega (arith, ap roundNumber r, ap roundNumber (d .1 .0))) s
   takes-round j held validating r s =
-      idle j _ (λ w d. omega (arith, ap number r, ap number (d .1 .0))) s
+      idle j _ (λ w d. omega (arith, ap roundNumber r, ap roundNumber (d .1 .0))) s
   takes-round j held deciding r s =
       let v = state run j .node p .result in
       settles j held r v _
@@ -100,7 +100,7 @@ module _ (run : Run) (ok : Admissible run) (p : ℕ) (lp : p < run .crew .n) (hp
       s
 
   pub result-is : (j : ℕ) → j ≤ run .total
-      → PlanDecided run p j (state run j .node p .result) ⊎ (Undecided run p j × (state run j .node p .result ≡ 0))
+      → FirstDecision run p j (state run j .node p .result) ⊎ (NotYet run p j × (state run j .node p .result ≡ 0))
   unfolding state
   result-is zero h = inr (λ i v t d. omega arith, refl)
   result-is (suc j) h =

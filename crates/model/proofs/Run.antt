@@ -1,5 +1,5 @@
 -- Agreement from a lock: what one round must keep, and what then holds of every list of rounds.
--- Builds on specs/Run.antt. Assumes nothing.
+-- Builds on specs/Run.antt.
 use mathlib.Core.Path.{_≡_, refl, sym, subst}
 use mathlib.Core.Bool.{Bool, true, false, cond}
 use Prim.Native.Nat.{ℕ, zero, suc, _≤_, _<_}
@@ -10,11 +10,11 @@ use borrow.Author.Tests.{ltb-true, ltb-false}
 use Rattle.wire.specs.Sizes.{spentPhase}
 use Rattle.crew.specs.declared.Crew.{Crew}
 use Rattle.crew.specs.Thresholds.{Class}
-use Rattle.model.specs.Node.{Node, Round}
-use Rattle.model.specs.Run.{Each, State, Inboxes, step, Faithful, Decides, start}
-use Rattle.model.specs.Run.{Run, class, state, Held, DecidesAt}
+use Rattle.model.proofs.Voter.{Voter, Round}
+use Rattle.model.proofs.Engine.{Each, State, Inboxes, step, Faithful, Decides, opening}
+use Rattle.model.proofs.Engine.{Run, class, state, Held, DecidesAt}
 
-abbrev pub at : ℕ → Round → (ℕ → Node) → State
+abbrev pub at : ℕ → Round → (ℕ → Voter) → State
 at phase round nodes = record { phase = phase; round = round; node = nodes }
 
 -- An invariant, and a lock on a plan. A start has the invariant, and the lock where all begin with one plan; a round
@@ -22,8 +22,8 @@ at phase round nodes = record { phase = phase; round = round; node = nodes }
 pub record Locking (class : Class) (crew : Crew) (honest : ℕ → Bool) : Type 1 where
   pub Inv : State → Type 0
   pub Lock : ℕ → State → Type 0
-  pub begins : (plans : ℕ → ℕ) → Inv (start plans)
-  pub common : (plans : ℕ → ℕ) (v : ℕ) → Each crew honest (λ q. plans q ≡ v) → Lock v (start plans)
+  pub begins : (plans : ℕ → ℕ) → Inv (opening plans)
+  pub common : (plans : ℕ → ℕ) (v : ℕ) → Each crew honest (λ q. plans q ≡ v) → Lock v (opening plans)
   pub inv-step : (i : Inboxes) (s : State) → s .phase < spentPhase → Inv s → Faithful class crew honest i s
       → Inv (step class crew i s)
   pub lock-step : (i : Inboxes) (s : State) → Inv s → Faithful class crew honest i s

@@ -1,1 +1,1 @@
-// No code: the abstract engine (specs/) and why its honest nodes agree (proofs/).
+// No code: the abstract engine, and why its honest nodes agree. All of it is a matter of proofs/.

@@ -1,5 +1,4 @@
 -- The message of the coming round: what it says of the record, and that it keeps a message's bounds and widths.
--- Assumes nothing.
 use mathlib.Core.Path.{_≡_, refl, subst}
 use mathlib.Core.Bool.{Bool, true, false, cond}
 use mathlib.Core.List.{List, [], _∷_, _++_}
@@ -12,7 +11,8 @@ use borrow.Author.Tests.{leb-true, eqb-true, eqb-false, lt-ltb, le-leb, eq-eqb, 
 use Rattle.wire.specs.Sizes.{planLimit, lastPhase, spentPhase}
 use Rattle.message.specs.Fields.{Message}
 use Rattle.message.specs.Bounds.{within, PlansFit, Fits}
-use Rattle.writer.specs.Writing.{listed, selectionOf, validationOf, decisionOf}
+use Rattle.writer.specs.Writing.{selectionOf, validationOf, decisionOf}
+use Rattle.wire.specs.Entry.{entriesFrom}
 use Rattle.writer.proofs.WriteLaws.{allowed-within}
 use Rattle.node.specs.declared.Node.{Node}
 use Rattle.node.specs.Sending.{listedPhases, comingOf}
@@ -91,14 +91,15 @@ says-within {d} s left (decides three) =
 
 -- the entries that are listed fit their bytes where the history's do
 plans-fit : (history : List ℕ) → ((phase : ℕ) → getD history phase 0 < planLimit) → (from count : ℕ)
-    → PlansFit (listed history from count)
-unfolding listed
+    → PlansFit (entriesFrom history from count)
+unfolding entriesFrom
 plans-fit history small from zero = tt
 plans-fit history small from (suc count) = go (leb 1 (getD history from 0)) (plans-fit history small (from + 1) count)
   where
-    go : (full : Bool) → PlansFit (listed history (from + 1) count)
+    go : (full : Bool) → PlansFit (entriesFrom history (from + 1) count)
         → PlansFit
-        (cond full (record { phase = from; plan = getD history from 0 } ∷ []) [] ++ listed history (from + 1) count)
+        (cond full (record { phase = from; plan = getD history from 0 } ∷ []) []
+        ++ entriesFrom history (from + 1) count)
     go true rest = (small from, rest)
     go false rest = rest
 

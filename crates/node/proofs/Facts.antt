@@ -1,5 +1,5 @@
 -- Soundness as facts, both ways, and what the types of a record's fields say: with these, later crates take a record
--- apart. Assumes nothing.
+-- apart.
 use mathlib.Core.Path.{_≡_, refl, ap}
 use mathlib.Core.Bool.{Bool, true, false, not, _&&_, _||_, or-true}
 use mathlib.Core.Logic.{_⊎_, inl, inr, _≢_}

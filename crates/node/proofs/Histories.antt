@@ -1,5 +1,4 @@
 -- The empty entries of a history: a turn of the loop over them, and the test as a fact and back.
--- Assumes nothing.
 use mathlib.Core.Path.{_≡_, refl, sym, ap, _∙_}
 use mathlib.Core.Bool.{Bool, true, false, _&&_, and-assoc}
 use mathlib.Core.List.{List}

@@ -1,5 +1,4 @@
 -- No coming message is longer than a slot of an inbox: a buffer of 202 bytes is long enough for every one.
--- Assumes nothing.
 use mathlib.Core.Path.{_≡_, refl}
 use mathlib.Core.Bool.{Bool, true, false, cond}
 use mathlib.Core.List.{List}
@@ -16,7 +15,7 @@ use Rattle.writer.specs.Writing.{selectionOf, validationOf, decisionOf}
 use Rattle.writer.proofs.HistoryLaws.{listed-count}
 use Rattle.message.proofs.EncodeLaws.{encode-length}
 use Rattle.node.specs.declared.Node.{Node}
-use Rattle.node.specs.Sending.{listedPhases, comingOf, encoded, comingBytes, writeOf}
+use Rattle.node.specs.Sending.{listedPhases, comingOf, encoded, comingBytes, writeComingOf}
 use Rattle.node.proofs.Coming.{listed-before}
 use Rattle.node.proofs.SendLaws.{write-accepted}
 
@@ -43,10 +42,10 @@ coming-length d left = go (eqb (d .round) 1) (eqb (d .round) 2) (leb 1 (d .selec
     go false false chosen = omega (arith, encode-length decides)
 
 -- what an accepted write answers is no longer than that
-pub write-length : (d : Node) (buffer : List ℕ) → valueOr 0 (writeOf d buffer) ≤ slotSize
-write-length d buffer = go (writeOf d buffer) refl
+pub write-length : (d : Node) (buffer : List ℕ) → valueOr 0 (writeComingOf d buffer) ≤ slotSize
+write-length d buffer = go (writeComingOf d buffer) refl
   where
-    go : (outcome : Outcome ℕ) → writeOf d buffer ≡ outcome → valueOr 0 outcome ≤ slotSize
+    go : (outcome : Outcome ℕ) → writeComingOf d buffer ≡ outcome → valueOr 0 outcome ≤ slotSize
     go (accepted size) e =
         let w = write-accepted d buffer size e in
         omega (arith, coming-length d (w .1), w .2)

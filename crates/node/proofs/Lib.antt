@@ -4,5 +4,4 @@ pub mod StartLaws
 pub mod Coming
 pub mod SendLaws
 pub mod Lengths
-pub mod Listed
 pub mod ReadBack

@@ -1,5 +1,5 @@
 -- What a node writes is read to its record's fields: law 3 of the engine.
--- Builds on crate codec, where any message within the bounds is read to itself. Assumes nothing.
+-- Builds on crate codec, where any message within the bounds is read to itself.
 use mathlib.Core.Path.{_≡_, ap}
 use mathlib.Core.Bool.{true}
 use mathlib.Core.List.{List, _++_}
@@ -14,7 +14,8 @@ use Rattle.message.specs.Reading.{readOf}
 use Rattle.codec.proofs.Written.{read-of-encode}
 use Rattle.node.specs.declared.Node.{Node}
 use Rattle.node.specs.Soundness.{sound}
-use Rattle.node.specs.Sending.{comingOf, encoded, comingBytes, writeOf, bufferAfter, bufferOf}
+use Rattle.node.specs.Sending.{comingOf, encoded, comingBytes, writeComingOf, comingBufferOf}
+use Rattle.wire.specs.Bytes.{bufferAfter}
 use Rattle.node.proofs.Facts.{Typed, sound-facts}
 use Rattle.node.proofs.SendLaws.{write-accepted}
 use Rattle.node.proofs.Coming.{Says, coming-says, says-within, says-fits}
@@ -31,9 +32,10 @@ read-back d typed ok left m e =
     (says, bounds, λ tail. rw bytes (read-of-encode m tail bounds (says-fits typed says)))
 
 -- So the buffer after an accepted write is read to the message of the coming round, whatever stands behind it.
-pub written-read : (d : Node) → Typed d → (buffer : List ℕ) (size : ℕ) → writeOf d buffer ≡ accepted size
-    → (m : Message) → comingOf d ≡ some m → readOf (bufferOf d buffer) ≡ accepted m
+pub written-read : (d : Node) → Typed d → (buffer : List ℕ) (size : ℕ) → writeComingOf d buffer ≡ accepted size
+    → (m : Message) → comingOf d ≡ some m → readOf (comingBufferOf d buffer) ≡ accepted m
 written-read d typed buffer size e m coming =
     let w = write-accepted d buffer size e in
-    let after : bufferOf d buffer ≡ comingBytes d ++ drop size buffer = ap (bufferAfter (comingBytes d) buffer) e in
+    let after : comingBufferOf d buffer ≡ comingBytes d ++ drop size buffer
+    = ap (bufferAfter (comingBytes d) buffer) e in
     rw after (read-back d typed (w .0) (w .1) m coming .2 (drop size buffer))

@@ -1,5 +1,4 @@
 -- What a start answers, case by case, and what an accepted start gives: the first part of law 4 of the engine.
--- Assumes nothing.
 use mathlib.Core.Path.{_≡_, refl, sym, subst, _∙_}
 use mathlib.Core.Bool.{true, false}
 use Prim.Native.Nat.{ℕ, _≤_, _<_}

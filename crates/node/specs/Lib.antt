@@ -1,4 +1,5 @@
 pub mod Record
+pub mod Place
 pub mod Soundness
 pub mod Starting
 pub mod Sending

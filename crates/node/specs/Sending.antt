@@ -1,11 +1,12 @@
 -- What a node writes in its coming round, what writing it answers, and what it leaves in the lent buffer: document 01.
 use Prim.Native.Nat.{ℕ}
 use mathlib.Core.Bool.{cond}
-use mathlib.Core.List.{List, [], _++_}
+use mathlib.Core.List.{List, []}
 use mathlib.Core.Option.{Option, none, some}
-use lib.ListN.{length, drop}
+use lib.ListN.{length}
 use lib.Dec.{leb, ltb, eqb}
 use Rattle.wire.specs.Outcome.{Outcome, accepted, refused, require}
+use Rattle.wire.specs.Bytes.{bufferAfter}
 use Rattle.wire.specs.Sizes.{spentPhase}
 use Rattle.message.specs.Fields.{Message}
 use Rattle.message.specs.Encoding.{encode}
@@ -42,29 +43,24 @@ comingBytes d = encoded (comingOf d)
 
 -- The length of what is written, or the number of the refusal.
 -- 01: "Writing the coming message: 7 record not sound; 8 spent; 9 buffer shorter than the message."
-unfoldable pub writeOf : Node → List ℕ → Outcome ℕ
-writeOf d buffer =
+unfoldable pub writeComingOf : Node → List ℕ → Outcome ℕ
+writeComingOf d buffer =
     require (sound d) 7
     (require (ltb (d .phase) spentPhase) 8
     (require (leb (length (comingBytes d)) (length buffer)) 9
     (accepted (length (comingBytes d)))))
 
--- The whole buffer afterwards: what is written, then the bytes after it as they were; as it was where writing refuses.
--- 01: "no lent byte is written"; "Bytes after a written message keep their values."
-abbrev pub bufferAfter : List ℕ → List ℕ → Outcome ℕ → List ℕ
-bufferAfter bytes buffer (accepted size) = bytes ++ drop size buffer
-bufferAfter bytes buffer (refused number) = buffer
-
-abbrev pub bufferOf : Node → List ℕ → List ℕ
-bufferOf d buffer = bufferAfter (comingBytes d) buffer (writeOf d buffer)
+-- the whole buffer afterwards
+abbrev pub comingBufferOf : Node → List ℕ → List ℕ
+comingBufferOf d buffer = bufferAfter (comingBytes d) buffer (writeComingOf d buffer)
 
 -- 01's number of each refusal
-abbrev pub number : SendRefusal → ℕ
-number Unsound = 7
-number Spent = 8
-number Short = 9
+abbrev pub sendNumber : SendRefusal → ℕ
+sendNumber Unsound = 7
+sendNumber Spent = 8
+sendNumber Short = 9
 
 -- what an answer of `write` says in 01's terms
-abbrev pub answered : Sending → Outcome ℕ
-answered (Bytes size) = accepted size
-answered (Refused why) = refused (number why)
+abbrev pub sendAnswer : Sending → Outcome ℕ
+sendAnswer (Bytes size) = accepted size
+sendAnswer (Refused why) = refused (sendNumber why)

@@ -3,7 +3,7 @@ use Prim.Native.Nat.{ℕ}
 use lib.Dec.{leb, ltb}
 use Rattle.wire.specs.Outcome.{Outcome, accepted, refused, require, after}
 use Rattle.crew.specs.declared.Crew.{Crew}
-use Rattle.crew.specs.Acceptance.{acceptOf, number as crewNumber}
+use Rattle.crew.specs.Acceptance.{acceptOf, acceptNumber}
 use Rattle.node.specs.Record.{begun}
 use Rattle.node.specs.declared.Node.{Node}
 use Rattle.node.specs.declared.StartRefusal.{StartRefusal}
@@ -20,12 +20,12 @@ startOf crew own run plan =
     (accepted (begun crew own run plan))))
 
 -- 01's number of each refusal; a crew's is the crew's own
-abbrev pub number : StartRefusal → ℕ
-number (CrewRefused why) = crewNumber why
-number Own = 5
-number NoPlan = 6
+abbrev pub startNumber : StartRefusal → ℕ
+startNumber (CrewRefused why) = acceptNumber why
+startNumber Own = 5
+startNumber NoPlan = 6
 
 -- what an answer of `start` says in 01's terms; the record stands beside it
-abbrev pub answered : Starting → Outcome (Unit {0})
-answered Accepted = accepted tt
-answered (Refused why) = refused (number why)
+abbrev pub startAnswer : Starting → Outcome (Unit {0})
+startAnswer Accepted = accepted tt
+startAnswer (Refused why) = refused (startNumber why)

@@ -13,7 +13,7 @@ ghost use lib.Dec.{leb};
 ghost use lib.ListN.{getD};
 ghost use Rattle.wire.specs.Outcome.{refused, verdict, valueOr};
 ghost use Rattle.wire.specs.Sizes.{spentPhase};
-ghost use Rattle.writer.specs.Writing.{answered as writtenAs};
+ghost use Rattle.writer.specs.Writing.{writeAnswer};
 ghost use Rattle.node.specs.Record.{blank, begun};
 ghost use Rattle.node.specs.Soundness.{
   placeKnown,
@@ -22,8 +22,8 @@ ghost use Rattle.node.specs.Soundness.{
   restEmpty,
   sound,
 };
-ghost use Rattle.node.specs.Starting.{startOf, answered as startedAs};
-ghost use Rattle.node.specs.Sending.{listedPhases, writeOf, bufferOf, answered as sentAs};
+ghost use Rattle.node.specs.Starting.{startOf, startAnswer};
+ghost use Rattle.node.specs.Sending.{listedPhases, writeComingOf, comingBufferOf, sendAnswer};
 
 // 01's node record. Any values may stand in it: `is_sound` says whether they are those of a node.
 pub struct Node {
@@ -48,10 +48,10 @@ pub struct Node {
     pub history: [Plan; PHASES],
 }
 
-// Why a start is refused; `number` in specs/Starting.antt has 01's numbers.
+// Why a start is refused; `startNumber` in specs/Starting.antt has 01's numbers.
 pub enum StartRefusal {
     // The crew is turned down.
-    Crew(crew::Refusal),
+    Crew(crew::AcceptRefusal),
     // The own number is not below n.
     Own,
     NoPlan,
@@ -69,7 +69,7 @@ pub struct Started {
     pub node: Node,
 }
 
-// Why the coming message is not written; `number` in specs/Sending.antt has 01's numbers.
+// Why the coming message is not written; `sendNumber` in specs/Sending.antt has 01's numbers.
 pub enum SendRefusal {
     Unsound,
     Spent,
@@ -141,8 +141,8 @@ fn refuse_start(why: StartRefusal) -> Started
 // A writer's answer as the node's. A writer refuses with 13 where a field breaks a bound; the fields of a sound record
 // break none, so what is left is a buffer that is too short.
 fn to_sending(writing: Writing) -> Sending
-    requires { ⌜ (writtenAs writing ≡ refused 13 → ⊥) ⌝ }
-    ensures { λ r. ⌜ sentAs r ≡ writtenAs writing ⌝ }
+    requires { ⌜ (writeAnswer writing ≡ refused 13 → ⊥) ⌝ }
+    ensures { λ r. ⌜ sendAnswer r ≡ writeAnswer writing ⌝ }
 {
     match writing {
         Writing::Bytes(size) => Sending::Bytes(size),
@@ -168,7 +168,7 @@ impl Node {
 
     // Starts a node with its initial plan, or says why not.
     pub fn start(crew: Crew, own: u8, run: u32, plan: Plan) -> Started
-        ensures { λ r. ⌜ (startedAs (r .answer) ≡ verdict (startOf crew own run plan))
+        ensures { λ r. ⌜ (startAnswer (r .answer) ≡ verdict (startOf crew own run plan))
             × (r .node ≡ valueOr blank (startOf crew own run plan)) ⌝ }
     {
         match crew::accept(crew) {
@@ -267,8 +267,8 @@ impl Node {
     // Writes the message of the coming round. Silence is a length of 0, for which any buffer is long enough.
     fn write_coming(self, buf: &mut [u8]) -> Writing
         requires { ⌜ (sound self ≡ true) × (self .phase < spentPhase) ⌝ }
-        ensures { λ r. ⌜ (writtenAs r ≡ writeOf self (now (buf .entry)))
-            × (now (buf .exit) ≡ bufferOf self (now (buf .entry))) ⌝ }
+        ensures { λ r. ⌜ (writeAnswer r ≡ writeComingOf self (now (buf .entry)))
+            × (now (buf .exit) ≡ comingBufferOf self (now (buf .entry))) ⌝ }
     {
         if self.round == Node::SELECTION {
             let history = self.history;
@@ -294,9 +294,9 @@ impl Node {
 
     // Writes the coming message to the front of a lent buffer, or says why not; the record comes back unchanged.
     pub fn write(self, buf: &mut [u8]) -> Sent
-        ensures { λ r. ⌜ (sentAs (r .answer) ≡ writeOf self (now (buf .entry)))
+        ensures { λ r. ⌜ (sendAnswer (r .answer) ≡ writeComingOf self (now (buf .entry)))
             × (r .node ≡ self)
-            × (now (buf .exit) ≡ bufferOf self (now (buf .entry))) ⌝ }
+            × (now (buf .exit) ≡ comingBufferOf self (now (buf .entry))) ⌝ }
     {
         if self.is_sound() {
             if self.phase < Node::SPENT {

@@ -1,4 +1,4 @@
--- What 01 says of cuts and says, as theorems on the definitions.
+-- What is said of cuts and says, as theorems on the definitions.
 use mathlib.Core.Path.{_≡_, refl}
 use mathlib.Core.Bool.{Bool, true, false, cond}
 use Prim.Native.Nat.{ℕ, _<_}
@@ -11,13 +11,13 @@ use Rattle.pending.specs.declared.Pending.{Pending}
 use Rattle.pending.specs.Pairs.{pairs, known, placeOf, withCut, withSay, isCut}
 
 module _ (p : Pending) (s r : ℕ) (hs : s < mostNodes) (hr : r < mostNodes) where
-  -- 01: "of two says for one pair the last stands"
+  -- of two says for one pair the last stands
   pub last-say-stands : (plan stamp plan′ stamp′ : ℕ)
       → withSay (withSay p s r plan stamp) s r plan′ stamp′ ≡ withSay p s r plan′ stamp′
   unfolding withSay
   last-say-stands plan stamp plan′ stamp′ = rw (lt-ltb s mostNodes hs, lt-ltb r mostNodes hr) (simp set-set)
 
-  -- 01: "s to r is lost"
+  -- what is cut is lost
   pub cut-stands : length (p .cut) ≡ pairs → isCut (withCut p s r) s r ≡ true
   unfolding isCut withCut
   cut-stands long =
@@ -29,7 +29,7 @@ unfolding isCut
 either-cut true q p s r e = rw e
 either-cut false q p s r e = refl
 
--- 01: "a cut wins over a say": no say takes a cut back
+-- no say takes a cut back
 pub say-keeps-cuts : (p : Pending) (s r plan stamp s′ r′ : ℕ)
     → isCut (withSay p s r plan stamp) s′ r′ ≡ isCut p s′ r′
 unfolding withSay

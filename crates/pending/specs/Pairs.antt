@@ -19,7 +19,7 @@ known sender receiver = ltb sender mostNodes && ltb receiver mostNodes
 abbrev pub placeOf : ℕ → ℕ → ℕ
 placeOf sender receiver = mostNodes * sender + receiver
 
--- 01: "Cuts and says last until the next go": so a drill begins, and so it goes on after each go
+-- no cut and no say: so a drill begins, and so it goes on after each go
 unfoldable pub nothing : Pending
 nothing = record { cut = replicate pairs false; plan = replicate pairs 0; stamp = replicate pairs 0 }
 

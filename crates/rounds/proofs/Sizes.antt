@@ -1,5 +1,4 @@
 -- A sound record's crew, with an inbox of its own, can be counted with: a round then comes to the plan of the rules.
--- Assumes nothing.
 use mathlib.Core.Path.{_≡_, refl, sym, ap, _∙_}
 use mathlib.Core.Bool.{Bool, true, false, cond}
 use mathlib.Core.List.{List}
@@ -17,8 +16,8 @@ use Rattle.ballot.specs.Decision.{decision}
 use Rattle.node.specs.declared.Node.{Node}
 use Rattle.node.specs.Soundness.{sound}
 use Rattle.node.proofs.Facts.{sound-facts}
-use Rattle.inbox.specs.Inbox.{ballotAt, ballots}
-use Rattle.tally.specs.Rules.{countable, heard, selected, validIn, decidedIn}
+use Rattle.inbox.specs.Inbox.{ballotsFor, ballots}
+use Rattle.tally.specs.Rules.{countable, selected, validIn, decidedIn}
 use Rattle.tally.proofs.Countable.{facts-countable, selected-rule, valid-rule, decided-rule}
 use Rattle.rounds.specs.Taking.{afterSelection, afterValidation, afterDecision, afterRound}
 use Rattle.rounds.specs.Steps.{planOf, afterPlan}
@@ -36,8 +35,7 @@ sound-countable d size ok whole =
 
 -- what the node hears in its coming round are the ballots of its inbox
 pub heard-ballots : (d : Node) (bytes : List ℕ) (round : ℕ) → d .round ≡ round
-    → heard (d .crew) (d .run) (d .phase) round bytes ≡ ballots d bytes
-unfolding ballotAt
+    → ballotsFor (d .crew) (d .run) (d .phase) round bytes ≡ ballots d bytes
 heard-ballots d bytes round is = rw (sym is)
 
 -- The plan that the round comes to is that of its rule.

@@ -12,7 +12,7 @@ use Rattle.ballot.specs.Selection.{Choice, plan, any, nothing, selection}
 use Rattle.node.specs.declared.Node.{Node}
 use Rattle.node.specs.Soundness.{sound}
 use Rattle.inbox.specs.Inbox.{ballots}
-use Rattle.rounds.specs.Taking.{number}
+use Rattle.rounds.specs.Taking.{takeNumber}
 use Rattle.rounds.specs.declared.Asking.{Asking}
 use Rattle.rounds.specs.declared.Asking.the-variants.{Plan, Any, Nothing, Refused}
 
@@ -26,8 +26,8 @@ askOf d bytes =
     (accepted (selection (classOf (d .crew)) (d .crew) (ballots d bytes)))))
 
 -- what an answer of `ask` says in 01's terms
-abbrev pub answered : Asking → Outcome Choice
-answered (Plan v) = accepted (plan v)
-answered Any = accepted any
-answered Nothing = accepted nothing
-answered (Refused why) = refused (number why)
+abbrev pub askAnswer : Asking → Outcome Choice
+askAnswer (Plan v) = accepted (plan v)
+askAnswer Any = accepted any
+askAnswer Nothing = accepted nothing
+askAnswer (Refused why) = refused (takeNumber why)

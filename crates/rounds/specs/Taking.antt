@@ -1,5 +1,5 @@
 -- What taking a round answers, and the record that it gives: document 01, 'The three rounds'.
-use Prim.Native.Nat.{ℕ, _+_, _*_}
+use Prim.Native.Nat.{ℕ, _*_}
 use mathlib.Core.Bool.{cond}
 use mathlib.Core.List.{List}
 use lib.ListN.{length, set}
@@ -15,21 +15,21 @@ use Rattle.ballot.specs.Validation.{validated}
 use Rattle.ballot.specs.Decision.{decision}
 use Rattle.node.specs.declared.Node.{Node}
 use Rattle.node.specs.Soundness.{sound}
+use Rattle.node.specs.Place.{roundAfter, phaseAfter}
 use Rattle.inbox.specs.Inbox.{ballots}
-use Rattle.rounds.specs.declared.Refusal.{Refusal}
-use Rattle.rounds.specs.declared.Refusal.the-variants.{Unsound, Spent, Inbox}
+use Rattle.rounds.specs.declared.TakeRefusal.{TakeRefusal}
+use Rattle.rounds.specs.declared.TakeRefusal.the-variants.{Unsound, Spent, Inbox}
 use Rattle.rounds.specs.declared.Taking.{Taking}
 use Rattle.rounds.specs.declared.Taking.the-variants.{Accepted, Refused}
 
--- 01: "Select is the plan, or 0 for 'none'; a plan becomes the vote and the phase's history entry. Class 1 goes on to
--- round 3, the others to round 2 and then 3."
+-- 01: "Select is the plan, or 0 for 'none'; a plan becomes the vote and the phase's history entry."
 abbrev pub afterSelection : Node → ℕ → Node
 afterSelection d v = record {
   crew = d .crew;
   own = d .own;
   run = d .run;
   phase = d .phase;
-  round = cond (eqb (d .crew .class) 1) 3 2;
+  round = roundAfter (d .crew .class) 1;
   vote = ifPlan v v (d .vote);
   base = d .base;
   stamp = d .stamp;
@@ -45,7 +45,7 @@ afterValidation d v = record {
   own = d .own;
   run = d .run;
   phase = d .phase;
-  round = 3;
+  round = roundAfter (d .crew .class) 2;
   vote = ifPlan v v (d .base);
   base = ifPlan v v (d .base);
   stamp = ifPlan v (d .phase) (d .stamp);
@@ -54,15 +54,14 @@ afterValidation d v = record {
   history = d .history;
 }
 
--- 01: "If there are any and result is 0, result becomes the least. A result stands for good. Phase rises by 1, round
--- is 1."
+-- 01: "If there are any and result is 0, result becomes the least. A result stands for good."
 abbrev pub afterDecision : Node → ℕ → Node
 afterDecision d v = record {
   crew = d .crew;
   own = d .own;
   run = d .run;
-  phase = d .phase + 1;
-  round = 1;
+  phase = phaseAfter (d .phase) 3;
+  round = roundAfter (d .crew .class) 3;
   vote = d .vote;
   base = d .base;
   stamp = d .stamp;
@@ -87,12 +86,12 @@ takeOf d bytes =
     (accepted (afterRound d (ballots d bytes)))))
 
 -- 01's number of each refusal
-abbrev pub number : Refusal → ℕ
-number Unsound = 7
-number Spent = 8
-number Inbox = 14
+abbrev pub takeNumber : TakeRefusal → ℕ
+takeNumber Unsound = 7
+takeNumber Spent = 8
+takeNumber Inbox = 14
 
 -- what an answer of `take` says in 01's terms; the record stands beside it
-abbrev pub answered : Taking → Outcome (Unit {0})
-answered Accepted = accepted tt
-answered (Refused why) = refused (number why)
+abbrev pub takeAnswer : Taking → Outcome (Unit {0})
+takeAnswer Accepted = accepted tt
+takeAnswer (Refused why) = refused (takeNumber why)

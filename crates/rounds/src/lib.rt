@@ -6,24 +6,23 @@ use node::Node;
 use tally::Choice;
 use wire::Plan;
 ghost use mathlib.Core.Path.{_≡_};
-ghost use mathlib.Core.Bool.{cond};
-ghost use lib.Dec.{eqb};
 ghost use Prim.Native.Nat.{_<_};
 ghost use Rattle.wire.specs.Sizes.{spentPhase};
 ghost use Rattle.wire.specs.Outcome.{accepted, verdict, valueOr};
+ghost use Rattle.node.specs.Place.{roundAfter};
 ghost use Rattle.tally.specs.Rules.{choiceAs};
 ghost use Rattle.rounds.specs.Taking.{
   afterSelection,
   afterValidation,
   afterDecision,
   takeOf,
-  answered as takenAs,
+  takeAnswer,
 };
 ghost use Rattle.rounds.specs.Steps.{planOf, afterPlan};
-ghost use Rattle.rounds.specs.Asking.{askOf, answered as askedAs};
+ghost use Rattle.rounds.specs.Asking.{askOf, askAnswer};
 
-// Why a round is not taken, or a selection not told; `number` in specs/Taking.antt has 01's numbers.
-pub enum Refusal {
+// Why a round is not taken, or a selection not told; `takeNumber` in specs/Taking.antt has 01's numbers.
+pub enum TakeRefusal {
     Unsound,
     Spent,
     // The inbox has another length than the crew's.
@@ -32,7 +31,7 @@ pub enum Refusal {
 
 pub enum Taking {
     Accepted,
-    Refused(Refusal),
+    Refused(TakeRefusal),
 }
 
 // What taking a round answers. An enum holds no array, so the record stands beside the answer: the next one, or,
@@ -47,7 +46,7 @@ pub enum Asking {
     Plan(Plan),
     Any,
     Nothing,
-    Refused(Refusal),
+    Refused(TakeRefusal),
 }
 
 // The record comes back as it was handed in.
@@ -56,9 +55,9 @@ pub struct Asked {
     pub node: Node,
 }
 
-// 01: "Class 1 goes on to round 3, the others to round 2 and then 3."
+// Class 1 has no validation.
 fn round_after_selection(class: u8) -> u8
-    ensures { λ r. ⌜ r ≡ cond (eqb class 1) 3 2 ⌝ }
+    ensures { λ r. ⌜ r ≡ roundAfter class 1 ⌝ }
 {
     if class == Crew::CLASS_ONE {
         Node::DECISION
@@ -67,7 +66,7 @@ fn round_after_selection(class: u8) -> u8
     }
 }
 
-// 01: "Select is the plan, or 0 for 'none'; a plan becomes the vote and the phase's history entry."
+// A selection that comes to no plan leaves the vote and the history as they are.
 fn after_selection(node: Node, plan: Plan) -> Node
     requires { ⌜ node .phase < spentPhase ⌝ }
     ensures { λ r. ⌜ r ≡ afterSelection node plan ⌝ }
@@ -84,7 +83,7 @@ fn after_selection(node: Node, plan: Plan) -> Node
     next
 }
 
-// 01: "vote and base become it and stamp becomes the phase; otherwise vote becomes base"
+// A validation that comes to no plan takes the vote back to the base, not to what was selected.
 fn after_validation(node: Node, plan: Plan) -> Node
     ensures { λ r. ⌜ r ≡ afterValidation node plan ⌝ }
 {
@@ -100,8 +99,7 @@ fn after_validation(node: Node, plan: Plan) -> Node
     next
 }
 
-// 01: "If there are any and result is 0, result becomes the least. A result stands for good. Phase rises by 1, round
-// is 1."
+// A result stands for good: a later decision does not change it.
 fn after_decision(node: Node, plan: Plan) -> Node
     requires { ⌜ node .phase < spentPhase ⌝ }
     ensures { λ r. ⌜ r ≡ afterDecision node plan ⌝ }
@@ -144,7 +142,7 @@ fn after_plan(node: Node, plan: Plan) -> Node
     after_decision(node, plan)
 }
 
-fn refuse_take(node: Node, why: Refusal) -> Taken
+fn refuse_take(node: Node, why: TakeRefusal) -> Taken
     ensures { λ r. ⌜ (r .answer ≡ Taking.Refused why) × (r .node ≡ node) ⌝ }
 {
     Taken {
@@ -155,7 +153,7 @@ fn refuse_take(node: Node, why: Refusal) -> Taken
 
 // Takes the coming round with this inbox: the next record, or a refusal and the record as it was.
 pub fn take(node: Node, inbox: &[u8]) -> Taken
-    ensures { λ r. ⌜ (takenAs (r .answer) ≡ verdict (takeOf node (now (inbox .entry))))
+    ensures { λ r. ⌜ (takeAnswer (r .answer) ≡ verdict (takeOf node (now (inbox .entry))))
         × (r .node ≡ valueOr node (takeOf node (now (inbox .entry)))) ⌝ }
 {
     if node.is_sound() {
@@ -168,14 +166,14 @@ pub fn take(node: Node, inbox: &[u8]) -> Taken
                     node: after_plan(node, plan),
                 };
             }
-            return refuse_take(node, Refusal::Inbox);
+            return refuse_take(node, TakeRefusal::Inbox);
         }
-        return refuse_take(node, Refusal::Spent);
+        return refuse_take(node, TakeRefusal::Spent);
     }
-    refuse_take(node, Refusal::Unsound)
+    refuse_take(node, TakeRefusal::Unsound)
 }
 
-fn refuse_ask(node: Node, why: Refusal) -> Asked
+fn refuse_ask(node: Node, why: TakeRefusal) -> Asked
     ensures { λ r. ⌜ (r .answer ≡ Asking.Refused why) × (r .node ≡ node) ⌝ }
 {
     Asked {
@@ -185,7 +183,7 @@ fn refuse_ask(node: Node, why: Refusal) -> Asked
 }
 
 fn to_asking(choice: Choice) -> Asking
-    ensures { λ r. ⌜ askedAs r ≡ accepted (choiceAs choice) ⌝ }
+    ensures { λ r. ⌜ askAnswer r ≡ accepted (choiceAs choice) ⌝ }
 {
     match choice {
         Choice::Plan(plan) => Asking::Plan(plan),
@@ -196,7 +194,7 @@ fn to_asking(choice: Choice) -> Asking
 
 // Tells the coming selection with this inbox, and leaves the record as it was.
 pub fn ask(node: Node, inbox: &[u8]) -> Asked
-    ensures { λ r. ⌜ (askedAs (r .answer) ≡ askOf node (now (inbox .entry))) × (r .node ≡ node) ⌝ }
+    ensures { λ r. ⌜ (askAnswer (r .answer) ≡ askOf node (now (inbox .entry))) × (r .node ≡ node) ⌝ }
 {
     let selecting = node.is_sound() & (node.round == Node::SELECTION);
     if selecting {
@@ -209,9 +207,9 @@ pub fn ask(node: Node, inbox: &[u8]) -> Asked
                     node: node,
                 };
             }
-            return refuse_ask(node, Refusal::Inbox);
+            return refuse_ask(node, TakeRefusal::Inbox);
         }
-        return refuse_ask(node, Refusal::Spent);
+        return refuse_ask(node, TakeRefusal::Spent);
     }
-    refuse_ask(node, Refusal::Unsound)
+    refuse_ask(node, TakeRefusal::Unsound)
 }

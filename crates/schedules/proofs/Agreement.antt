@@ -1,6 +1,5 @@
 -- What demand 3 says of results, agreement and common start in a schedule's lock-step run, it says of the schedule.
 -- 02: "Agreement and common start follow for it without a fresh argument."
--- Assumes nothing.
 use mathlib.Core.Path.{_≡_, sym, ap, _∙_, subst}
 use mathlib.Core.Bool.{Bool}
 use mathlib.Core.List.{List}
@@ -21,7 +20,7 @@ use Rattle.ballot.proofs.Counting.{tally-le, tally-none, nobody-of}
 use Rattle.node.specs.declared.Node.{Node}
 use Rattle.inbox.specs.Inbox.{ballotAt}
 use Rattle.agreement.specs.Statement as lists
-use Rattle.agreement.specs.Statement.{Listing, answerTo, made, numbered, callsOf, recordAt, inboxAt, phaseAt, Every}
+use Rattle.agreement.specs.Statement.{Execution, answerTo, made, numbered, callsOf, recordAt, inboxAt, phaseAt, Every}
 use Rattle.agreement.specs.Statement.{isFor, Conclusions}
 use Rattle.agreement.proofs.Calls.{none-taken, taken-inside}
 use Rattle.agreement.proofs.Demand.{demand3}
@@ -66,14 +65,14 @@ stands-once (inr a) (inl b) = absurd (a .0 (b .round, _, b .wins))
 stands-once (inr a) (inr b) = a .1 ∙ sym (b .1)
 
 -- A list in which p has the schedule's records and inboxes as long as it took rounds, and then hears nothing.
-record Carries (s : Schedule) (n p : ℕ) (l : Listing) : Type 0 where
+record Carries (s : Schedule) (n p : ℕ) (l : Execution) : Type 0 where
   records : (j : ℕ) → j ≤ roundsTaken s p → recordAt l p j ≡ ownRecord s p j
   inboxes : (j : ℕ) → j < roundsTaken s p → inboxAt l p j ≡ ownInbox s p j
   losses : (j : ℕ) → roundsTaken s p ≤ j → (inbox : List ℕ) → inboxAt l p j ≡ some inbox → inbox ≡ emptyInbox n
 
 -- In such a list p wins with what it wins with in the schedule.
 
-module _ (s : Schedule) (crew : Crew) (ok : acceptOf crew ≡ accepted tt) (p : ℕ) (l : Listing)
+module _ (s : Schedule) (crew : Crew) (ok : acceptOf crew ≡ accepted tt) (p : ℕ) (l : Execution)
     (carries : Carries s (crew .n) p l) where
   abbrev Enough : ℕ → ℕ → List ℕ → Node → Type 0
   Enough j v inbox d =
@@ -137,7 +136,7 @@ module _ (s : Schedule) (crew : Crew) (ok : acceptOf crew ≡ accepted tt) (p : 
 
 -- From the run and demand 3 alone: all that is known of the list is that it is a lock-step run of the schedule.
 
-module _ (s : Schedule) (crew : Crew) (run : ℕ) (l : Listing) (inStep : InLockStep s crew run l) where
+module _ (s : Schedule) (crew : Crew) (run : ℕ) (l : Execution) (inStep : InLockStep s crew run l) where
   abbrev ok : acceptOf crew ≡ accepted tt
   ok = inStep .premises .crew-accepted
 
@@ -165,7 +164,7 @@ module _ (s : Schedule) (crew : Crew) (run : ℕ) (l : Listing) (inStep : InLock
       m : ℕ
       m = roundsTaken s p
 
-      short : Listing
+      short : Execution
       short = cut m l
 
       m-rounds : length (short .rounds) ≡ m

@@ -1,4 +1,4 @@
--- The premises on a schedule's takes as a test that computes, for examples. Assumes nothing.
+-- The premises on a schedule's takes as a test that computes, for examples.
 use mathlib.Core.Path.{_≡_, refl, sym, ap, ap₂, _∙_}
 use mathlib.Core.Bool.{Bool, true, false, cond, _&&_, _||_}
 use mathlib.Core.List.{List, [], _∷_, _++_, append-nil, append-assoc}
@@ -16,7 +16,7 @@ use Rattle.ballot.specs.Count.{holds}
 use Rattle.ballot.specs.Ballot.{Ballot}
 use Rattle.ballot.proofs.Tests.{and-T, T-and, or-T}
 use Rattle.node.specs.declared.Node.{Node}
-use Rattle.node.specs.Sending.{writeOf, bufferOf}
+use Rattle.node.specs.Sending.{writeComingOf, comingBufferOf}
 use Rattle.inbox.specs.Inbox.{slotAt, ballotAt}
 use Rattle.rounds.specs.Taking.{takeOf}
 use Rattle.agreement.specs.Statement.{Call, write, ask, take-round, Event, afterCall, Puts, Wrote}
@@ -65,7 +65,7 @@ writtenFront (accepted size) buffer slot =
 writtenFront (refused number) buffer slot = false
 
 abbrev pub putsFront : Node → Call → List ℕ → Bool
-putsFront d (write buffer) slot = writtenFront (writeOf d buffer) (bufferOf d buffer) slot
+putsFront d (write buffer) slot = writtenFront (writeComingOf d buffer) (comingBufferOf d buffer) slot
 putsFront d (ask inbox) slot = false
 putsFront d (take-round inbox) slot = false
 
@@ -77,13 +77,13 @@ puts-front : (d : Node) (c : Call) (slot : List ℕ) → T (putsFront d c slot)
     → (written : List ℕ) × (rest : List ℕ) × Puts d c written × (slot ≡ written ++ rest)
 puts-front d (ask inbox) slot t = absurd t
 puts-front d (take-round inbox) slot t = absurd t
-puts-front d (write buffer) slot t = go (writeOf d buffer) refl t
+puts-front d (write buffer) slot t = go (writeComingOf d buffer) refl t
   where
-    go : (o : Outcome ℕ) → writeOf d buffer ≡ o → T (writtenFront o (bufferOf d buffer) slot)
+    go : (o : Outcome ℕ) → writeComingOf d buffer ≡ o → T (writtenFront o (comingBufferOf d buffer) slot)
         → (written : List ℕ) × (rest : List ℕ) × Puts d (write buffer) written × (slot ≡ written ++ rest)
     go (refused number) e t = absurd t
     go (accepted size) e t =
-        let after = bufferOf d buffer in
+        let after = comingBufferOf d buffer in
         let both = and-T (ltb 0 size && eqb (length (take size after)) size)
         (sameBytes (take size slot) (take size after)) t in
         let sized = and-T (ltb 0 size) (eqb (length (take size after)) size) (both .0) in

@@ -1,4 +1,4 @@
--- The empty inbox: it is as long as an inbox has to be, it holds bytes, and nothing counts in it. Assumes nothing.
+-- The empty inbox: it is as long as an inbox has to be, it holds bytes, and nothing counts in it.
 use mathlib.Core.Path.{_≡_, refl, ap, _∙_}
 use mathlib.Core.Bool.{Bool, true, false, _&&_}
 use mathlib.Core.List.{List}
@@ -51,7 +51,6 @@ no-length s e = go (framed s) refl
     go false h = rw h
 
 pub nothing-counts : (d : Node) (n q : ℕ) → ballotAt d (emptyInbox n) q ≡ none
-unfolding ballotAt
 nothing-counts d n q =
     ap (counted (d .run) (d .phase) (d .round))
     (no-length (slotAt (emptyInbox n) q)

@@ -1,5 +1,5 @@
 -- The events of several nodes: the calls of each among them, and lists of events in which every honest node makes the
--- calls that are given. Assumes nothing.
+-- calls that are given.
 use mathlib.Core.Path.{_≡_, refl, sym, ap, ap₂, _∙_}
 use mathlib.Core.Bool.{Bool, true, false, cond}
 use mathlib.Core.List.{List, [], _∷_, _++_, map, flatten, append-nil, append-assoc}

@@ -1,6 +1,6 @@
 -- A schedule out of step that meets the premises, so that they can be met: node 0 is three rounds ahead of node 2 and
 -- has decided, node 1 is in between, node 2 still sits in round 1. Crew 3,4,1,0,3 and plans 5 5 5 0 as in the drill's
--- example; node 3 is not honest and repeats what it hears. Assumes nothing.
+-- example; node 3 is not honest and repeats what it hears.
 use mathlib.Core.Path.{_≡_, refl}
 use mathlib.Core.List.{List, [], _∷_, _++_}
 use Prim.Native.Nat.{ℕ, zero, suc, _≤_, _<_}
@@ -14,7 +14,7 @@ use Rattle.message.specs.Layout.{slotSize}
 use Rattle.message.specs.Bounds.{entriesOk}
 use Rattle.message.specs.Encoding.{entryBytes, encode}
 use Rattle.message.specs.Reading.{entriesIn, bodyAt, tested, readOf}
-use Rattle.writer.specs.Writing.{listed}
+use Rattle.wire.specs.Entry.{entriesFrom}
 use Rattle.ballot.specs.Count.{countIf, gather}
 use Rattle.ballot.specs.Ballot.{lists}
 use Rattle.ballot.specs.Least.{least, leastOf}
@@ -24,10 +24,9 @@ use Rattle.ballot.specs.Decision.{decides, decision}
 use Rattle.node.specs.Record.{begun}
 use Rattle.node.specs.Soundness.{emptyFrom, sound}
 use Rattle.node.specs.Starting.{startOf}
-use Rattle.node.specs.Sending.{comingOf, writeOf}
-use Rattle.inbox.specs.Inbox.{ballotAt}
+use Rattle.node.specs.Sending.{comingOf, writeComingOf}
 use Rattle.rounds.specs.Taking.{afterRound, takeOf}
-use Rattle.agreement.specs.Statement.{write, ask, take-round, Listing, made, recordOf, afterCalls, callsOf}
+use Rattle.agreement.specs.Statement.{write, ask, take-round, Execution, made, recordOf, afterCalls, callsOf}
 use Rattle.agreement.proofs.Simulation.{honest-below}
 use Rattle.agreement.proofs.Example.{drill, drill-premises, allBytes}
 use Rattle.schedules.specs.Schedule.{Schedule, on, isHonest, roundsIn, callsIn, callsBefore}
@@ -89,7 +88,7 @@ pub places : (roundsTaken outOfStep 0 ≡ 3) × (standing outOfStep 0 ≡ 5)
     × (roundsTaken outOfStep 2 ≡ 0) × (standing outOfStep 2 ≡ 0)
 unfolding
     acceptOf startOf begun made recordOf callsOf afterCalls roundsIn
-    takeOf sound emptyFrom afterRound ballotAt readOf tested bodyAt entriesIn entriesOk countIf gather
+    takeOf sound emptyFrom afterRound readOf tested bodyAt entriesIn entriesOk countIf gather
     lists least leastOf possible backed backing enough selection leading mostVoted anyPlan taken
     valid validated decides decision
 places = (refl, refl, refl, refl, refl, refl)
@@ -100,7 +99,7 @@ places = (refl, refl, refl, refl, refl, refl)
 nobody-faster : (p : ℕ) → p < 4 → roundsTaken outOfStep p ≤ 3
 unfolding
     acceptOf startOf begun made recordOf callsOf afterCalls roundsIn
-    takeOf sound emptyFrom afterRound ballotAt readOf tested bodyAt entriesIn entriesOk countIf gather
+    takeOf sound emptyFrom afterRound readOf tested bodyAt entriesIn entriesOk countIf gather
     lists least leastOf possible backed backing enough selection leading mostVoted anyPlan taken
     valid validated decides decision
 nobody-faster zero h = omega arith
@@ -113,22 +112,22 @@ node-0-honest : T (isHonest outOfStep 0)
 unfolding acceptOf startOf begun made countIf
 node-0-honest = tt
 
-pub four-rounds : (l : Listing) → InLockStep outOfStep crew 1 l → length (l .rounds) ≡ 4
+pub four-rounds : (l : Execution) → InLockStep outOfStep crew 1 l → length (l .rounds) ≡ 4
 four-rounds l inStep =
     let more = inStep .long 0 node-0-honest in
     let no-more = inStep .no-longer 3 (λ p h. nobody-faster p (honest-below drill crew 1 drill-premises p h)) in
     omega (arith, more, no-more, places .0)
 
-pub last-round : (l : Listing) → InLockStep outOfStep crew 1 l → TakesLast outOfStep l 3
+pub last-round : (l : Execution) → InLockStep outOfStep crew 1 l → TakesLast outOfStep l 3
 last-round l inStep = inStep .takes-last 3 (omega (arith, four-rounds l inStep))
 
 -- the test of the premises on its takes
 all-ok : T (eventsOk outOfStep 4 [] (outOfStep .events))
 unfolding
     acceptOf startOf begun made recordOf callsOf afterCalls roundsIn callsIn callsBefore
-    takeOf sound emptyFrom afterRound ballotAt readOf tested bodyAt entriesIn entriesOk countIf gather
+    takeOf sound emptyFrom afterRound readOf tested bodyAt entriesIn entriesOk countIf gather
     lists least leastOf possible backed backing enough selection leading mostVoted anyPlan taken
-    valid validated decides decision comingOf writeOf encode entryBytes listed
+    valid validated decides decision comingOf writeComingOf encode entryBytes entriesFrom
     allBytes sameBytes everyBelow wroteFront slotOk takeOk eventsOk
 all-ok = tt
 

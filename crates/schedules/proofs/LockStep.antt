@@ -2,7 +2,6 @@
 -- those that it did not take, meets the premises of demand 3 and has the schedule's records.
 -- 02: "For every such schedule, one lock-step run with the same starts and premises, and with losses, gives each node
 -- the same record after as many rounds as that node took."
--- Assumes nothing.
 use mathlib.Core.Path.{_≡_, refl, sym, ap, ap₂, _∙_, subst}
 use mathlib.Core.Bool.{Bool, true, false, cond}
 use mathlib.Core.List.{List, [], _∷_, _++_, flatten, append-nil, append-assoc}
@@ -24,7 +23,7 @@ use Rattle.ballot.proofs.Slots.{not-none}
 use Rattle.node.specs.declared.Node.{Node}
 use Rattle.inbox.specs.Inbox.{slotAt, ballotAt}
 use Rattle.rounds.specs.Taking.{takeOf}
-use Rattle.agreement.specs.Statement.{Call, write, ask, take-round, Event, Listing, afterCall, afterCalls, callsOf}
+use Rattle.agreement.specs.Statement.{Call, write, ask, take-round, Event, Execution, afterCall, afterCalls, callsOf}
 use Rattle.agreement.specs.Statement.{calls, recordAt, takenInbox, inboxAt, Wrote, Whole, Early, Hears}
 use Rattle.agreement.specs.Statement.{Premises, Unspent}
 use Rattle.agreement.proofs.Calls.{taken-inside, none-taken}
@@ -111,7 +110,7 @@ wrote-append d (c ∷ cs) more w (inl h) = inl h
 wrote-append d (c ∷ cs) more w (inr h) = inr (wrote-append (afterCall d c) cs more w h)
 
 -- the first m rounds of the run
-abbrev runOf : Schedule → ℕ → ℕ → Listing
+abbrev runOf : Schedule → ℕ → ℕ → Execution
 runOf s n m = record { starts = s .starts; rounds = firstRounds s n m }
 
 -- What p does in a round of the run, by whether it took that round.
@@ -271,7 +270,7 @@ module _ (s : Schedule) (crew : Crew) (run : ℕ) (pre : SchedulePremises s crew
   honest-in : (p : ℕ) → T (isHonest s p) → p < n
   honest-in p h = honest-below no-list crew run no-rounds p h
     where
-      no-list : Listing
+      no-list : Execution
       no-list = record { starts = s .starts; rounds = [] }
 
       nothing : (p j : ℕ) (inbox : List ℕ) → inboxAt no-list p j ≡ some inbox → ⊥

@@ -1,6 +1,6 @@
 -- A message of another round does not count. 02 asks that what counts was written before it is taken; the premises of
 -- a schedule say, in its sender's round of that number. Nothing is lost by it: the bytes of another round have another
--- phase or another kind, so the premises follow from 02's words alone. Assumes nothing.
+-- phase or another kind, so the premises follow from 02's words alone.
 use mathlib.Core.Path.{_≡_, refl, sym, ap, ap₂, _∙_, subst}
 use mathlib.Core.Bool.{Bool, true, false, _&&_}
 use mathlib.Core.List.{List, [], _∷_, _++_, append-nil, append-assoc}
@@ -26,7 +26,7 @@ use Rattle.node.proofs.Facts.{Typed}
 use Rattle.node.proofs.SendLaws.{write-accepted}
 use Rattle.inbox.specs.Inbox.{slotAt, isOf, ballotAt}
 use Rattle.rounds.specs.Taking.{takeOf}
-use Rattle.agreement.specs.Statement.{Call, Event, write, ask, take-round, Listing, afterCall, callsOf, Puts, Wrote}
+use Rattle.agreement.specs.Statement.{Call, Event, write, ask, take-round, Execution, afterCall, callsOf, Puts, Wrote}
 use Rattle.agreement.specs.Statement.{phaseIf, roundIf, phaseAt, roundAt, Conclusions}
 use Rattle.agreement.proofs.Demand.{demand3}
 use Rattle.agreement.proofs.Simulation.{follows}
@@ -82,7 +82,7 @@ one-place crew i j = go (eqb (crew .class) 1)
     go false p r = omega arith
 
 module _ (s : Schedule) (crew : Crew) (run : ℕ) (pre : SchedulePremises s crew run) where
-  abbrev list : Listing
+  abbrev list : Execution
   list = lockStep s (crew .n)
 
   in-step : InLockStep s crew run list

@@ -22,7 +22,7 @@ use Rattle.ballot.specs.Ballot.{Ballot}
 use Rattle.node.specs.declared.Node.{Node}
 use Rattle.inbox.specs.Inbox.{slotAt, ballotAt}
 use Rattle.rounds.specs.Taking.{takeOf}
-use Rattle.agreement.specs.Statement.{Start, Call, write, ask, take-round, Event, Listing, answerTo, made, numbered}
+use Rattle.agreement.specs.Statement.{Start, Call, write, ask, take-round, Event, Execution, answerTo, made, numbered}
 use Rattle.agreement.specs.Statement.{recordOf, afterCall, afterCalls, callsOf, recordAt, takenInbox, inboxAt}
 use Rattle.agreement.specs.Statement.{Puts, Wrote, phaseAt, roundAt, Every, Premises, isFor}
 
@@ -205,10 +205,9 @@ unfoldable pub byNode : Schedule → (ℕ → List Call) → ℕ → List Event
 byNode s given zero = []
 byNode s given (suc p) = byNode s given p ++ cond (isHonest s p) (map (on p) (given p)) []
 
--- 01: "In a whole round every honest node writes its coming message, then every honest node takes the round, with
--- inboxes that anybody may fill after all the writes." First, node after node, all calls but the last of each, refused
--- takes and asks among them; then the last of each, the take that ends its round. A node that wrote nothing in its own
--- round writes nothing here, as the Statement's Whole allows.
+-- A whole round, as the Statement's Whole has it: first, node after node, all calls but the last of each, refused takes
+-- and asks among them; then the last of each, the take that ends its round. A node that wrote nothing in its own round
+-- writes nothing here.
 abbrev pub roundInStep : Schedule → ℕ → ℕ → List Event
 roundInStep s n j =
     byNode s (λ p. allButLast (paddedCalls s n p j)) n ++ byNode s (λ p. lastOnly (paddedCalls s n p j)) n
@@ -228,18 +227,18 @@ abbrev pub roundsInStep : Schedule → ℕ → ℕ
 roundsInStep s n = suc (mostRounds s n)
 
 -- The lock-step run: the same starts, and these rounds.
-abbrev pub lockStep : Schedule → ℕ → Listing
+abbrev pub lockStep : Schedule → ℕ → Execution
 lockStep s n = record { starts = s .starts; rounds = firstRounds s n (roundsInStep s n) }
 
 -- All nodes take the round together: first come calls that take nothing, then each honest node makes one call, a take.
-pub record TakesLast (s : Schedule) (l : Listing) (j : ℕ) : Type 0 where
+pub record TakesLast (s : Schedule) (l : Execution) (j : ℕ) : Type 0 where
   pub others : List Event
   pub takes : List Event
   pub parts : getD (l .rounds) j [] ≡ others ++ takes
   pub takes-none : (p : ℕ) → T (isHonest s p) → takenInbox (recordAt l p j) (callsOf p others) ≡ none
   pub takes-one : (p : ℕ) → T (isHonest s p) → (inbox : List ℕ) × (callsOf p takes ≡ take-round inbox ∷ [])
 
-pub record InLockStep (s : Schedule) (crew : Crew) (run : ℕ) (l : Listing) : Type 0 where
+pub record InLockStep (s : Schedule) (crew : Crew) (run : ℕ) (l : Execution) : Type 0 where
   -- "with the same starts and premises": demand 3's, whole rounds among them, in each of which the takes come last
   pub starts : l .starts ≡ s .starts
   pub premises : Premises l crew run

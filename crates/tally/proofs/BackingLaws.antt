@@ -1,5 +1,4 @@
 -- Which votes the marked slots have, told by the least vote and by a count of those with another.
--- Assumes nothing.
 use mathlib.Core.Path.{_≡_, refl, ap, sym, _∙_}
 use mathlib.Core.Bool.{Bool, true, false, not, cond, _&&_}
 use mathlib.Core.Logic.{_≢_}

@@ -1,5 +1,4 @@
 -- Selection from marks: marks for the backed slots, and how many slots 'any' counts, make selection's answer.
--- Assumes nothing.
 use mathlib.Core.Path.{_≡_, refl, sym, ap, ap₂, _∙_}
 use mathlib.Core.Bool.{Bool, true, false}
 use mathlib.Core.List.{List}

@@ -1,5 +1,4 @@
 -- What is known of a crew and an inbox that can be counted with, and what the rules then answer.
--- Assumes nothing.
 use mathlib.Core.Path.{_≡_, ap}
 use mathlib.Core.Bool.{true, _&&_}
 use mathlib.Core.List.{List}
@@ -15,7 +14,8 @@ use Rattle.message.specs.Layout.{slotSize}
 use Rattle.ballot.specs.Selection.{selection, taken, takenOn}
 use Rattle.ballot.specs.Validation.{validated}
 use Rattle.ballot.specs.Decision.{decision}
-use Rattle.tally.specs.Rules.{countable, heard, choiceOf, selected, validIn, decidedIn}
+use Rattle.inbox.specs.Inbox.{ballotsFor}
+use Rattle.tally.specs.Rules.{countable, choiceOf, selected, validIn, decidedIn}
 
 pub record Countable (crew : Crew) (size : ℕ) : Type 0 where
   pub places : crew .n ≤ mostNodes
@@ -42,19 +42,19 @@ facts-countable crew size facts =
 
 -- the answers are then those of the rules
 module _ (crew : Crew) (run phase : ℕ) (bytes : List ℕ) (ok : countable crew (length bytes) ≡ true) where
-  pub choice-rule : choiceOf crew run phase bytes ≡ selection (classOf crew) crew (heard crew run phase 1 bytes)
+  pub choice-rule : choiceOf crew run phase bytes ≡ selection (classOf crew) crew (ballotsFor crew run phase 1 bytes)
   unfolding choiceOf
   choice-rule = rw ok
 
-  pub selected-rule : selected crew run phase bytes ≡ taken (classOf crew) crew (heard crew run phase 1 bytes)
+  pub selected-rule : selected crew run phase bytes ≡ taken (classOf crew) crew (ballotsFor crew run phase 1 bytes)
   unfolding taken
-  selected-rule = ap (takenOn crew (heard crew run phase 1 bytes)) choice-rule
+  selected-rule = ap (takenOn crew (ballotsFor crew run phase 1 bytes)) choice-rule
 
-  pub valid-rule : validIn crew run phase bytes ≡ validated crew (heard crew run phase 2 bytes)
+  pub valid-rule : validIn crew run phase bytes ≡ validated crew (ballotsFor crew run phase 2 bytes)
   unfolding validIn
   valid-rule = rw ok
 
   pub decided-rule :
-      decidedIn crew run phase bytes ≡ decision (classOf crew) crew phase (heard crew run phase 3 bytes)
+      decidedIn crew run phase bytes ≡ decision (classOf crew) crew phase (ballotsFor crew run phase 3 bytes)
   unfolding decidedIn
   decided-rule = rw ok

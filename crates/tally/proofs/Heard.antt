@@ -1,5 +1,4 @@
 -- The columns that an inbox was read into, for the rules: their ballots are those that the node hears.
--- Assumes nothing.
 use mathlib.Core.Path.{_≡_, sym, ap, _∙_}
 use mathlib.Core.List.{List}
 use mathlib.Core.Option.{Option}
@@ -9,31 +8,30 @@ use lib.ListN.{length}
 use Rattle.crew.specs.declared.Crew.{Crew}
 use Rattle.crew.specs.Parts.{mostNodes}
 use Rattle.crew.specs.Thresholds.{classOf}
-use Rattle.message.specs.Reading.{readOf}
 use Rattle.ballot.specs.Ballot.{Ballot}
 use Rattle.ballot.specs.Selection.{Choice, selection}
-use Rattle.inbox.specs.Inbox.{slotAt, counted}
+use Rattle.inbox.specs.Inbox.{ballotIn, ballotsFor}
 use Rattle.inbox.specs.Columns.{Columns, empty, slotsIn, filled, entriesOf, historiesIn, polled}
 use Rattle.inbox.proofs.Inboxes.{polled-slots, own-histories, selections-list, selections-listable}
 use Rattle.tally.specs.Marks.{AllListable}
-use Rattle.tally.specs.Rules.{heard, choiceOf}
+use Rattle.tally.specs.Rules.{choiceOf}
 use Rattle.tally.proofs.Countable.{Countable, facts-countable, choice-rule}
 
 module _ (crew : Crew) (run phase : ℕ) (bytes : List ℕ) (read : Columns) (facts : Countable crew (length bytes)) where
   abbrev slots : ℕ → ℕ → Option Ballot
-  slots round q = counted run phase round (readOf (slotAt bytes q))
+  slots round q = ballotIn run phase round bytes q
 
   abbrev ReadTo : ℕ → Type 0
   ReadTo round = read ≡ filled empty (slots round) (slotsIn (length bytes))
 
   -- with what each slot that counts lists
   pub polled-heard : (round : ℕ) → ReadTo round
-      → polled read (λ q. entriesOf (slots round q)) (crew .n) ≡ heard crew run phase round bytes
+      → polled read (λ q. entriesOf (slots round q)) (crew .n) ≡ ballotsFor crew run phase round bytes
   polled-heard round is =
       polled-slots (slots round) bytes (crew .n) read (facts .places) (facts .whole) is _ (own-histories (slots round))
 
   -- in a selection with the entries where they stand
-  pub polled-selections : ReadTo 1 → polled read (historiesIn bytes) (crew .n) ≡ heard crew run phase 1 bytes
+  pub polled-selections : ReadTo 1 → polled read (historiesIn bytes) (crew .n) ≡ ballotsFor crew run phase 1 bytes
   polled-selections is =
       polled-slots (slots 1) bytes (crew .n) read (facts .places) (facts .whole) is _ (selections-list run phase bytes)
 

@@ -1,5 +1,4 @@
 -- What the loops that mark slots, and those that look for the least vote and the highest count, go by.
--- Assumes nothing.
 use mathlib.Core.Path.{_≡_, refl, sym, ap, ap₂, _∙_}
 use mathlib.Core.Bool.{Bool, true, false, not, cond, _&&_}
 use mathlib.Core.List.{List}

@@ -1,6 +1,5 @@
 -- The ballots of the columns, counted: a count of ballots is a tally of marked slots, and so is every rule made of
 -- counts.
--- Assumes nothing.
 use mathlib.Core.Path.{_≡_, refl, sym, ap, ap₂, _∙_}
 use mathlib.Core.Bool.{Bool, true, false, not, cond, _&&_, _||_, and-assoc}
 use mathlib.Core.List.{List}

@@ -1,6 +1,5 @@
 -- The three rules on the columns: which slots are possible and backed, which plans are valid and which decide, as
 -- marks.
--- Assumes nothing.
 use mathlib.Core.Path.{_≡_, refl, sym, ap, ap₂, _∙_, subst}
 use mathlib.Core.Bool.{Bool, true, false, cond, _&&_, and-assoc}
 use mathlib.Core.List.{List}
@@ -39,8 +38,8 @@ use Rattle.tally.specs.Marks.{
   supporting,
   above,
   stampedWith,
-  listing,
-  listedAbove,
+  isLister,
+  hasListersAbove,
   leastMarked,
   highest,
 }
@@ -231,15 +230,15 @@ module _ (read : Columns) (h : ℕ → List Entry) (n : ℕ) where
           (marked-polled read h n (voteAt read h q) (possible crew ballots) marks are)
 
       pub backed-three-slot : (bytes : List ℕ)
-          → ((v t k : ℕ) → k < n → here k (lists v t (rowOf read h k)) ≡ listing (read .present) bytes v t k)
+          → ((v t k : ℕ) → k < n → here k (lists v t (rowOf read h k)) ≡ isLister (read .present) bytes v t k)
           → (q : ℕ) → q < n
           → onSlot read h (backed three crew ballots) q
-          ≡ listedAbove marks (read .present) (read .votes) (read .stamps) bytes n (crew .b) q
+          ≡ hasListersAbove marks (read .present) (read .votes) (read .stamps) bytes n (crew .b) q
       unfolding backed
       backed-three-slot bytes listed q less =
           let v = voteAt read h q in
           let t = getD (read .stamps) q 0 in
-          let listers = count-polled read h n (lists v t) (listing (read .present) bytes v t) (listed v t) in
+          let listers = count-polled read h n (lists v t) (isLister (read .present) bytes v t) (listed v t) in
           on-slot read h (backed three crew ballots) q
           ∙ sym (and-assoc (marked (read .present) q) (possible crew ballots (rowOf read h q)) _)
           ∙ ap₂ (λ a k. a && ltb (crew .b) k) (sym (are q less ∙ on-slot read h (possible crew ballots) q)) listers

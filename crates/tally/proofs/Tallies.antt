@@ -1,5 +1,4 @@
 -- What the loops that count slots go by.
--- Assumes nothing.
 use mathlib.Core.Path.{_≡_, ap₂, refl}
 use mathlib.Core.Bool.{Bool}
 use Prim.Native.Nat.{ℕ, zero, suc, _+_, _<_}

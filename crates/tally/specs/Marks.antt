@@ -12,7 +12,7 @@ use Rattle.ballot.specs.Count.{tally}
 use Rattle.ballot.specs.Least.{lower}
 use Rattle.ballot.specs.Selection.{Backing, nobody, sole, several}
 use Rattle.inbox.specs.Inbox.{slotAt}
-use Rattle.inbox.specs.Columns.{Listable, listsAt}
+use Rattle.inbox.specs.Columns.{Listable, slotHasEntry}
 use Rattle.tally.specs.declared.Backing.{Backing as DeclaredBacking}
 use Rattle.tally.specs.declared.Backing.the-variants.{Nobody, Sole, Several}
 use Rattle.tally.specs.declared.First.{First}
@@ -56,17 +56,17 @@ abbrev pub stampedWith : List Bool → List ℕ → ℕ → ℕ → Bool
 stampedWith present stamps stamp q = marked present q && eqb (getD stamps q 0) stamp
 
 -- a slot that is present lists the plan at a phase
-abbrev pub listing : List Bool → List ℕ → ℕ → ℕ → ℕ → Bool
-listing present bytes v phase q = marked present q && listsAt bytes q v phase
+abbrev pub isLister : List Bool → List ℕ → ℕ → ℕ → ℕ → Bool
+isLister present bytes v phase q = marked present q && slotHasEntry bytes q v phase
 
 -- histories can be looked up in the slots that are present
 abbrev pub AllListable : List Bool → List ℕ → ℕ → Type 0
 AllListable present bytes n = (q : ℕ) → q < n → marked present q ≡ true → Listable (slotAt bytes q)
 
 -- a marked slot whose vote more than `threshold` slots list at its stamp
-abbrev pub listedAbove : List Bool → List Bool → List ℕ → List ℕ → List ℕ → ℕ → ℕ → ℕ → Bool
-listedAbove marks present votes stamps bytes n threshold q =
-    marked marks q && ltb threshold (tally (listing present bytes (getD votes q 0) (getD stamps q 0)) n)
+abbrev pub hasListersAbove : List Bool → List Bool → List ℕ → List ℕ → List ℕ → ℕ → ℕ → ℕ → Bool
+hasListersAbove marks present votes stamps bytes n threshold q =
+    marked marks q && ltb threshold (tally (isLister present bytes (getD votes q 0) (getD stamps q 0)) n)
 
 -- the least of the votes of the marked slots below n
 unfoldable pub leastMarked : (ℕ → Bool) → (ℕ → ℕ) → ℕ → Option ℕ

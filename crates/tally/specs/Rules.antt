@@ -10,12 +10,10 @@ use Rattle.crew.specs.declared.Crew.{Crew}
 use Rattle.crew.specs.Parts.{mostNodes}
 use Rattle.crew.specs.Thresholds.{classOf}
 use Rattle.message.specs.Layout.{slotSize}
-use Rattle.message.specs.Reading.{readOf}
-use Rattle.ballot.specs.Ballot.{Ballot, inbox}
 use Rattle.ballot.specs.Selection.{Choice, plan, any, nothing, selection, takenOn}
 use Rattle.ballot.specs.Validation.{validated}
 use Rattle.ballot.specs.Decision.{decision}
-use Rattle.inbox.specs.Inbox.{slotAt, counted}
+use Rattle.inbox.specs.Inbox.{ballotsFor}
 use Rattle.tally.specs.declared.Choice.{Choice as DeclaredChoice}
 use Rattle.tally.specs.declared.Choice.the-variants.{Plan, Any, Nothing}
 
@@ -25,27 +23,23 @@ abbrev pub countable : Crew → ℕ → Bool
 countable crew size =
     leb (crew .n) mostNodes && leb 1 (crew .d) && leb (crew .d) (crew .n) && eqb size (slotSize * crew .n)
 
--- the ballots that a node in this run, phase and round hears from its crew
-abbrev pub heard : Crew → ℕ → ℕ → ℕ → List ℕ → List Ballot
-heard crew run phase round bytes = inbox crew (λ q. counted run phase round (readOf (slotAt bytes q)))
-
 -- selection's answer; 'none' where it cannot be counted
 unfoldable pub choiceOf : Crew → ℕ → ℕ → List ℕ → Choice
 choiceOf crew run phase bytes =
-    cond (countable crew (length bytes)) (selection (classOf crew) crew (heard crew run phase 1 bytes)) nothing
+    cond (countable crew (length bytes)) (selection (classOf crew) crew (ballotsFor crew run phase 1 bytes)) nothing
 
 -- the plan that a node takes on that answer, 0 where it takes none
 abbrev pub selected : Crew → ℕ → ℕ → List ℕ → ℕ
-selected crew run phase bytes = takenOn crew (heard crew run phase 1 bytes) (choiceOf crew run phase bytes)
+selected crew run phase bytes = takenOn crew (ballotsFor crew run phase 1 bytes) (choiceOf crew run phase bytes)
 
 -- the plan that is valid, and the one that is decided; 0 where there is none
 unfoldable pub validIn : Crew → ℕ → ℕ → List ℕ → ℕ
 validIn crew run phase bytes =
-    cond (countable crew (length bytes)) (validated crew (heard crew run phase 2 bytes)) 0
+    cond (countable crew (length bytes)) (validated crew (ballotsFor crew run phase 2 bytes)) 0
 
 unfoldable pub decidedIn : Crew → ℕ → ℕ → List ℕ → ℕ
 decidedIn crew run phase bytes =
-    cond (countable crew (length bytes)) (decision (classOf crew) crew phase (heard crew run phase 3 bytes)) 0
+    cond (countable crew (length bytes)) (decision (classOf crew) crew phase (ballotsFor crew run phase 3 bytes)) 0
 
 -- what the code's answer stands for in crate ballot
 abbrev pub choiceAs : DeclaredChoice → Choice

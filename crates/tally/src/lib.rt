@@ -22,7 +22,7 @@ ghost use Rattle.ballot.specs.Validation.{validated};
 ghost use Rattle.ballot.specs.Decision.{decision};
 ghost use Rattle.crew.specs.Parts.{mostNodes};
 ghost use Rattle.crew.specs.Thresholds.{one, two, three, classOf, E};
-ghost use Rattle.inbox.specs.Columns.{columns, slotsIn, historiesIn, polled, listsAt};
+ghost use Rattle.inbox.specs.Columns.{columns, slotsIn, historiesIn, polled, slotHasEntry};
 ghost use Rattle.tally.specs.Marks.{
   Marks,
   Counts,
@@ -33,9 +33,9 @@ ghost use Rattle.tally.specs.Marks.{
   over,
   above,
   stampedWith,
-  listing,
+  isLister,
   AllListable,
-  listedAbove,
+  hasListersAbove,
   leastMarked,
   foundAs,
   FirstOf,
@@ -95,10 +95,10 @@ fn count_marks(marks: &[bool; MOST_NODES], n: usize) -> u16
 // Whether a slot is present and lists the plan at a phase. One that is absent is not looked at: its bytes may be
 // anything.
 fn is_listing(present: bool, inbox: &[u8], q: usize, plan: Plan, phase: u8) -> bool
-    ensures { λ r. ⌜ r ≡ (present && listsAt (now (inbox .entry)) q plan phase) ⌝ }
+    ensures { λ r. ⌜ r ≡ (present && slotHasEntry (now (inbox .entry)) q plan phase) ⌝ }
 {
     if present {
-        return inbox::lists(inbox, q, plan, phase);
+        return inbox::slot_has_entry(inbox, q, plan, phase);
     }
     false
 }
@@ -106,7 +106,7 @@ fn is_listing(present: bool, inbox: &[u8], q: usize, plan: Plan, phase: u8) -> b
 // How many slots list the plan at a phase.
 fn count_listing(present: &[bool; MOST_NODES], inbox: &[u8], n: usize, plan: Plan, phase: u8) -> u16
     requires { ⌜ n ≤ mostNodes ⌝ }
-    ensures { λ r. ⌜ (r ≡ tally (listing (now (present .entry)) (now (inbox .entry)) plan phase) n) × (r ≤ n) ⌝ }
+    ensures { λ r. ⌜ (r ≡ tally (isLister (now (present .entry)) (now (inbox .entry)) plan phase) n) × (r ≤ n) ⌝ }
 {
     let mut count: u16 = 0;
     let mut q = 0;
@@ -282,7 +282,7 @@ fn is_listed(
 ) -> bool
     requires { ⌜ n ≤ mostNodes ⌝ }
     ensures { λ r. ⌜ r ≡ (mark && ltb threshold
-        (tally (listing (now (present .entry)) (now (inbox .entry)) vote stamp) n)) ⌝ }
+        (tally (isLister (now (present .entry)) (now (inbox .entry)) vote stamp) n)) ⌝ }
 {
     if mark {
         return threshold < count_listing(present, inbox, n, vote, stamp);
@@ -474,7 +474,7 @@ fn with_listed(
 ) -> Backing
     requires { ⌜ n ≤ mostNodes ⌝ }
     ensures { λ r. ⌜ backingAs r ≡ cond (mark && ltb threshold
-        (tally (listing (now (present .entry)) (now (inbox .entry)) vote stamp) n))
+        (tally (isLister (now (present .entry)) (now (inbox .entry)) vote stamp) n))
         (joined (backingAs backing) vote) (backingAs backing) ⌝ }
 {
     if is_settled(backing, vote) {
@@ -498,7 +498,7 @@ fn backing_listed(
 ) -> Backing
     requires { ⌜ n ≤ mostNodes ⌝ }
     ensures { λ r. ⌜ backingAs r ≡ backingMarked
-        (listedAbove (now (marks .entry)) (now (present .entry)) (now (votes .entry)) (now (stamps .entry))
+        (hasListersAbove (now (marks .entry)) (now (present .entry)) (now (votes .entry)) (now (stamps .entry))
         (now (inbox .entry)) n threshold)
         (λ q. getD (now (votes .entry)) q 0) n ⌝ }
 {
@@ -664,7 +664,7 @@ fn choose_by_class(
     choose_three(crew, inbox, present, votes, stamps)
 }
 
-// 01: "answers a plan, 'any' or 'none'"
+// What selection answers on this inbox.
 pub fn choose(crew: Crew, run: u32, phase: u8, inbox: &[u8]) -> Choice
     ensures { λ r. ⌜ choiceAs r ≡ choiceOf crew run phase (now (inbox .entry)) ⌝ }
 {
@@ -708,7 +708,7 @@ fn most_voted(
     least_marked(&leaders, votes, n)
 }
 
-// 01: "For 'any' the node takes the vote of most slots, the least plan on a tie"
+// What a node of this crew takes for 'any'.
 fn any_plan(
     crew: Crew,
     present: &[bool; MOST_NODES],
@@ -744,7 +744,7 @@ fn take_on(
     }
 }
 
-// 01: "Select is the plan, or 0 for 'none'"
+// The plan that a node selects on this inbox, 0 where it takes none.
 pub fn select(crew: Crew, run: u32, phase: u8, inbox: &[u8]) -> Plan
     ensures { λ r. ⌜ r ≡ selected crew run phase (now (inbox .entry)) ⌝ }
 {
@@ -849,7 +849,7 @@ fn least_valid(
     least_above(present, votes, stamps, n, half)
 }
 
-// 01: "If a plan stands in c slots with 2c > n + b": that plan, 0 where there is none.
+// The plan that more than half of n + b slots hold, 0 where there is none.
 pub fn validate(crew: Crew, run: u32, phase: u8, inbox: &[u8]) -> Plan
     ensures { λ r. ⌜ r ≡ validIn crew run phase (now (inbox .entry)) ⌝ }
 {
@@ -890,13 +890,13 @@ fn least_deciding(
     if crew.class == Crew::CLASS_ONE {
         return least_above(present, votes, stamps, n, fewer);
     }
-    // 01: "in classes 2 and 3 only slots whose stamp is the phase"
+    // Classes 2 and 3 count what was validated in this phase alone.
     let mut fresh = [false; MOST_NODES];
     mark_stamped(&mut fresh, present, stamps, n, phase);
     least_above(&fresh, votes, stamps, n, fewer)
 }
 
-// 01: "plans in at least D slots": the least, 0 where there is none.
+// The least plan that at least D slots hold, 0 where there is none.
 pub fn decide(crew: Crew, run: u32, phase: u8, inbox: &[u8]) -> Plan
     ensures { λ r. ⌜ r ≡ decidedIn crew run phase (now (inbox .entry)) ⌝ }
 {

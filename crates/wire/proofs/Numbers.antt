@@ -1,6 +1,5 @@
 -- A number's bytes are read to the number, and the bytes that a number was read from are its bytes: once over the
 -- width.
--- Assumes nothing.
 use mathlib.Core.Path.{_≡_, refl, ap}
 use mathlib.Core.List.{List, _∷_, _++_}
 use Prim.Native.Nat.{ℕ, zero, suc, _+_, _*_, _/_, _%_, _^_, _<_, _≤_}

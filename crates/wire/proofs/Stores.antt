@@ -1,5 +1,4 @@
 -- Stores of bytes one after the other: what the writers of messages, texts and images go by.
--- Assumes nothing.
 use mathlib.Core.Path.{_≡_, refl, ap, sym, _∙_}
 use mathlib.Core.Bool.{Bool, true, false}
 use mathlib.Core.List.{List, [], _∷_, _++_, append-nil}

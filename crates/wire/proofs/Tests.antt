@@ -1,6 +1,5 @@
 -- Tests as facts: under `omega tests` a test such as `T (ltb a b)` or `T (not (eqb a b))` is read, and proved, as
 -- the fact it stands for.
--- Assumes nothing.
 use mathlib.Core.Path.{_≡_, refl}
 use mathlib.Core.Bool.{Bool, true, false, not, _&&_}
 use mathlib.Core.Logic.{_≢_}

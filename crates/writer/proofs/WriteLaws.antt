@@ -1,5 +1,4 @@
 -- What the writers' tests and stores amount to: the whole buffer is the message and the bytes after it, or untouched.
--- Assumes nothing.
 use mathlib.Core.Path.{_≡_, refl}
 use mathlib.Core.Bool.{Bool, true, false, _&&_}
 use mathlib.Core.List.{List}
@@ -16,33 +15,28 @@ use Rattle.wire.specs.Sizes.{lastPhase}
 use Rattle.message.specs.Fields.{Message}
 use Rattle.message.specs.Bounds.{phaseOk, planOk, within}
 use Rattle.message.specs.Encoding.{sizeOf, encode}
-use Rattle.writer.specs.Writing.{
-  listed,
-  selectionOf,
-  writeOf,
-  writeSelectionOf,
-  bufferOf,
-  selectionBufferOf,
-}
+use Rattle.writer.specs.Writing.{selectionOf, writeMessageOf, writeSelectionOf}
+use Rattle.writer.specs.Writing.{messageBufferOf, selectionBufferOf}
+use Rattle.wire.specs.Entry.{entriesFrom}
 use Rattle.message.proofs.EncodeLaws.{encode-length}
 use Rattle.writer.proofs.HistoryLaws.{listed-count, listed-ok}
 
 module _ (m : Message) (buffer : List ℕ) where
   pub written : within m ≡ true → sizeOf (m .body) ≤ length buffer
-      → (accepted (sizeOf (m .body)) ≡ writeOf m buffer) × (sets buffer 0 (encode m) ≡ bufferOf m buffer)
-  unfolding writeOf
+      → (accepted (sizeOf (m .body)) ≡ writeMessageOf m buffer) × (sets buffer 0 (encode m) ≡ messageBufferOf m buffer)
+  unfolding writeMessageOf
   written ok room =
       let long = encode-length m in
       let fits : length (encode m) ≤ length buffer = omega arith in
       (rw (ok, le-leb _ _ room), rw (ok, le-leb _ _ room, ← long) (sets-front (encode m) buffer fits))
 
   pub too-short : within m ≡ true → length buffer < sizeOf (m .body)
-      → (refused 9 ≡ writeOf m buffer) × (buffer ≡ bufferOf m buffer)
-  unfolding writeOf
+      → (refused 9 ≡ writeMessageOf m buffer) × (buffer ≡ messageBufferOf m buffer)
+  unfolding writeMessageOf
   too-short ok short = (rw (ok, lt-leb _ _ short), rw (ok, lt-leb _ _ short))
 
-  pub out-of-bounds : within m ≡ false → (refused 13 ≡ writeOf m buffer) × (buffer ≡ bufferOf m buffer)
-  unfolding writeOf
+  pub out-of-bounds : within m ≡ false → (refused 13 ≡ writeMessageOf m buffer) × (buffer ≡ messageBufferOf m buffer)
+  unfolding writeMessageOf
   out-of-bounds broken = (rw broken, rw broken)
 
 -- Of a selection's bounds only those that its scalar fields can break are left to test, where the phases looked at
@@ -63,7 +57,7 @@ module _ (run phase vote stamp : ℕ) (history : List ℕ) (phases : ℕ) where
       let scalars = both-true (phaseOk phase) (planOk vote && ltb stamp phase) (parts .1) in
       let below : phases ≤ phase = leb-true _ _ (parts .0) in
       let last : phase ≤ lastPhase = leb-true _ _ (both-true (leb 1 phase) (leb phase lastPhase) (scalars .0) .1) in
-      let few : length (listed history 0 phases) ≤ lastPhase = omega (arith, listed-count history 0 phases) in
+      let few : length (entriesFrom history 0 phases) ≤ lastPhase = omega (arith, listed-count history 0 phases) in
       let rising = listed-ok history 0 phases 0 phase (omega arith) (omega arith) in
       (parts .0, all-true _ _ _ _ (scalars .0) (scalars .1) (le-leb _ _ few) rising, omega arith)
 

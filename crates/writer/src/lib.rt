@@ -26,18 +26,17 @@ ghost use Rattle.wire.specs.Sizes.{lastPhase};
 ghost use Rattle.message.specs.Encoding.{header, entryBytes};
 ghost use Rattle.message.specs.Layout.{headerSize, entriesPlace};
 ghost use Rattle.writer.specs.Writing.{
-  entryOf,
-  listed,
   validationOf,
   decisionOf,
-  writeOf,
+  writeMessageOf,
   writeSelectionOf,
-  bufferOf,
+  messageBufferOf,
   selectionBufferOf,
-  answered as writtenAs,
+  writeAnswer,
 };
+ghost use Rattle.wire.specs.Entry.{entryOf, entriesFrom};
 
-// Why writing refuses; `number` in specs/Writing.antt has 01's numbers.
+// Why writing refuses; `writeNumber` in specs/Writing.antt has 01's numbers.
 pub enum WriteRefusal {
     // The fields break a bound of the message.
     OutOfBounds,
@@ -63,8 +62,8 @@ fn put_header(buf: &mut [u8], size: u16, kind: u16, run: u32, phase: u8)
 
 // Writes a validation. Fields that break a bound are refused, then a buffer that is too short.
 pub fn write_validation(buf: &mut [u8], run: u32, phase: u8, plan: Plan) -> Writing
-    ensures { λ r. ⌜ (writtenAs r ≡ writeOf (validationOf run phase plan) (now (buf .entry)))
-        × (now (buf .exit) ≡ bufferOf (validationOf run phase plan) (now (buf .entry))) ⌝ }
+    ensures { λ r. ⌜ (writeAnswer r ≡ writeMessageOf (validationOf run phase plan) (now (buf .entry)))
+        × (now (buf .exit) ≡ messageBufferOf (validationOf run phase plan) (now (buf .entry))) ⌝ }
 {
     let allowed = message::is_phase(phase) & message::is_plan(plan);
     if allowed {
@@ -80,8 +79,8 @@ pub fn write_validation(buf: &mut [u8], run: u32, phase: u8, plan: Plan) -> Writ
 
 // Writes a decision. Fields that break a bound are refused, then a buffer that is too short.
 pub fn write_decision(buf: &mut [u8], run: u32, phase: u8, vote: Plan, stamp: u8) -> Writing
-    ensures { λ r. ⌜ (writtenAs r ≡ writeOf (decisionOf run phase vote stamp) (now (buf .entry)))
-        × (now (buf .exit) ≡ bufferOf (decisionOf run phase vote stamp) (now (buf .entry))) ⌝ }
+    ensures { λ r. ⌜ (writeAnswer r ≡ writeMessageOf (decisionOf run phase vote stamp) (now (buf .entry)))
+        × (now (buf .exit) ≡ messageBufferOf (decisionOf run phase vote stamp) (now (buf .entry))) ⌝ }
 {
     let allowed = message::is_phase(phase) & (message::is_plan(vote) & (stamp <= phase));
     if allowed {
@@ -106,7 +105,7 @@ fn one_if_plan(phase: u8, plan: Plan) -> usize
 // How many of the first phases have a plan.
 fn count_entries(history: [Plan; PHASES], phases: u8) -> usize
     requires { ⌜ phases ≤ lastPhase ⌝ }
-    ensures { λ r. ⌜ (r ≡ length (listed history 0 phases)) × (r ≤ phases) ⌝ }
+    ensures { λ r. ⌜ (r ≡ length (entriesFrom history 0 phases)) × (r ≤ phases) ⌝ }
 {
     let mut count: usize = 0;
     let mut phase: u8 = 0;
@@ -135,8 +134,9 @@ fn put_entry(buf: &mut [u8], place: usize, phase: u8, plan: Plan) -> usize
 // Writes the entries of the first phases.
 fn put_entries(buf: &mut [u8], history: [Plan; PHASES], phases: u8)
     requires { ⌜ (phases ≤ lastPhase)
-        × (entriesPlace + length (entryBytes (listed history 0 phases)) ≤ length (now buf)) ⌝ }
-    ensures { λ _. ⌜ now (buf .exit) ≡ sets (now (buf .entry)) entriesPlace (entryBytes (listed history 0 phases)) ⌝ }
+        × (entriesPlace + length (entryBytes (entriesFrom history 0 phases)) ≤ length (now buf)) ⌝ }
+    ensures { λ _. ⌜ now (buf .exit)
+        ≡ sets (now (buf .entry)) entriesPlace (entryBytes (entriesFrom history 0 phases)) ⌝ }
 {
     let mut place: usize = ENTRIES_AT;
     let mut phase: u8 = 0;
@@ -157,7 +157,7 @@ pub fn write_selection(
     history: [Plan; PHASES],
     phases: u8,
 ) -> Writing
-    ensures { λ r. ⌜ (writtenAs r ≡ writeSelectionOf run phase vote stamp history phases (now (buf .entry)))
+    ensures { λ r. ⌜ (writeAnswer r ≡ writeSelectionOf run phase vote stamp history phases (now (buf .entry)))
         × (now (buf .exit) ≡ selectionBufferOf run phase vote stamp history phases (now (buf .entry))) ⌝ }
 {
     let allowed = (phases <= phase)

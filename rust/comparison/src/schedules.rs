@@ -112,7 +112,7 @@ impl<'a> Step<'a> {
 #[derive(Clone, Debug)]
 pub struct Replay<'a> {
     pub steps: Vec<Step<'a>>,
-    /// By own number, the record after each number of accepted takes, from the start's on; of a liar none.
+    /// By own number, the record after each number of accepted takes, from the start's on; of a Byzantine node none.
     pub records: Vec<Vec<Node>>,
     /// The plans that the honest nodes start with.
     initial: Vec<Plan>,

@@ -49,7 +49,7 @@ pub fn accepted_of_class(random: &mut Random, class: u8) -> Crew {
 }
 
 /// An accepted crew with b > 0 and f > 0.
-pub fn accepted_with_liars(random: &mut Random, class: u8) -> Crew {
+pub fn accepted_with_byzantine(random: &mut Random, class: u8) -> Crew {
     loop {
         let crew = accepted_of_class(random, class);
         if crew.b > 0 && crew.f > 0 {

@@ -80,13 +80,13 @@ impl Script {
 
     /// A cut, or a say of a node that is not honest: often the same to many, and with the highest stamp.
     fn cut_or_say(&mut self, random: &mut Random, initial: &[Plan], pool: &[Plan]) {
-        let liars: Vec<usize> = (0..initial.len()).filter(|&own| initial[own] == 0).collect();
-        if liars.is_empty() || random.chance(1, 4) {
+        let byzantine: Vec<usize> = (0..initial.len()).filter(|&own| initial[own] == 0).collect();
+        if byzantine.is_empty() || random.chance(1, 4) {
             return self.cut(random);
         }
         let highest = [self.phase - 1, 0, self.phase][self.round - 1];
         let any_stamp = random.between(0, highest);
-        let (s, v, t) = (random.pick(&liars), random.pick(pool), random.pick(&[0, highest, highest, any_stamp]));
+        let (s, v, t) = (random.pick(&byzantine), random.pick(pool), random.pick(&[0, highest, highest, any_stamp]));
         let (first, last) = if random.chance(1, 2) {
             (0, initial.len())
         } else {

@@ -1,4 +1,5 @@
-//! Whole runs for demand 3: starts, losses, good phases, and liars that choose their bytes after the honest writes.
+//! Whole runs for demand 3: starts, losses, good phases, and Byzantine nodes that choose their bytes after the honest
+//! writes.
 //! A run keeps the premise on slots: an honest node's slot counts only where it begins with what that node wrote.
 
 use crate::inboxes;
@@ -28,8 +29,8 @@ pub struct Setup {
 impl Setup {
     pub fn new(random: &mut Random, crew: Crew) -> Setup {
         let (n, b) = (usize::from(crew.n), usize::from(crew.b));
-        let any_liars = random.between(0, b);
-        let liars = random.pick(&[b, b, b, any_liars]);
+        let any_byzantine = random.between(0, b);
+        let byzantine = random.pick(&[b, b, b, any_byzantine]);
         let run = random.number() as u32;
         let pool = loop {
             let pool = plans::pool(random);
@@ -39,7 +40,7 @@ impl Setup {
         };
         let is_common = random.chance(1, 4);
         let mut is_honest = vec![true; n];
-        for own in random.order(n).into_iter().take(liars) {
+        for own in random.order(n).into_iter().take(byzantine) {
             is_honest[own] = false;
         }
         let mut starts = Vec::new();
@@ -117,15 +118,15 @@ pub struct Weather {
     loss: [usize; 3],
     /// A plan whose selections are lost, to all nodes or to one camp.
     censored: Option<(Plan, bool)>,
-    /// The camp of each node; messages between camps are lost more often, and liars please each camp.
+    /// The camp of each node; messages between camps are lost more often, and Byzantine nodes please each camp.
     camp: Vec<bool>,
     favourite: [Plan; 2],
-    liar: Liar,
+    behaviour: Behaviour,
 }
 
-/// What liars do in a phase.
+/// What Byzantine nodes do in a phase.
 #[derive(Clone, Copy, Debug, PartialEq, Eq)]
-enum Liar {
+enum Behaviour {
     Silent,
     Random,
     /// The favourite plan of the receiver's camp with the newest stamp and a history that lists it.
@@ -153,8 +154,15 @@ impl Weather {
         let rivals: Vec<Plan> = votes.iter().chain(&setup.pool).copied().filter(|&plan| plan != leading).collect();
         let rival = random.pick(&rivals);
         let (both, one) = ([leading, rival], [rival, rival]);
-        const LIARS: [Liar; 7] =
-            [Liar::Silent, Liar::Random, Liar::Please, Liar::Please, Liar::Push, Liar::Echo, Liar::Rubbish];
+        const BEHAVIOURS: [Behaviour; 7] = [
+            Behaviour::Silent,
+            Behaviour::Random,
+            Behaviour::Please,
+            Behaviour::Please,
+            Behaviour::Push,
+            Behaviour::Echo,
+            Behaviour::Rubbish,
+        ];
         let weather = Weather {
             circle,
             is_good: random.chance(setup.good, 8),
@@ -162,7 +170,7 @@ impl Weather {
             censored: random.chance(1, 3).then(|| (leading, random.chance(1, 2))),
             camp: (0..n).map(|_| random.chance(1, 2)).collect(),
             favourite: random.pick(&[both, one]),
-            liar: random.pick(&LIARS),
+            behaviour: random.pick(&BEHAVIOURS),
         };
         // A plain attack: nobody hears the leading plan, everybody hears the rival, and nothing else is lost. It is
         // best made where some have decided and others can still be led astray.
@@ -172,7 +180,7 @@ impl Weather {
                 loss: [0; 3],
                 censored: Some((leading, true)),
                 favourite: one,
-                liar: Liar::Push,
+                behaviour: Behaviour::Push,
                 ..weather
             };
         }
@@ -201,14 +209,14 @@ pub struct Scene<'a> {
     pub weather: &'a Weather,
     pub phase: u8,
     pub round: u8,
-    /// What each number wrote in this round, none for silence, refused writes and liars.
+    /// What each number wrote in this round, none for silence, refused writes and Byzantine nodes.
     pub written: &'a [Option<Vec<u8>>],
     /// What numbers wrote in earlier rounds.
     pub old: &'a [Vec<u8>],
 }
 
 impl Scene<'_> {
-    /// One inbox for each number below n; those of liars stay empty.
+    /// One inbox for each number below n; those of Byzantine nodes stay empty.
     pub fn inboxes(&self, random: &mut Random) -> Vec<Vec<u8>> {
         let common = self.common_slots(random);
         let mut inboxes = Vec::new();
@@ -219,7 +227,8 @@ impl Scene<'_> {
         inboxes
     }
 
-    /// The inbox of one node alone, which takes its round when others are elsewhere. Liars have no words in common.
+    /// The inbox of one node alone, which takes its round when others are elsewhere. Byzantine nodes have no words in
+    /// common.
     pub fn inbox(&self, random: &mut Random, to: usize) -> Vec<u8> {
         let common = self.common_slots(random);
         self.filled(random, to, &common)
@@ -237,7 +246,7 @@ impl Scene<'_> {
             }
         }
         if in_circle && self.round == 1 {
-            self.permute_liars(random, &mut inbox);
+            self.permute_byzantine(random, &mut inbox);
         }
         inbox
     }
@@ -260,7 +269,7 @@ impl Scene<'_> {
         Some(bytes.clone())
     }
 
-    /// Losses may depend on what was written: the liars may rule the network too.
+    /// Losses may depend on what was written: the Byzantine nodes may rule the network too.
     fn is_censored(&self, bytes: &[u8], to: usize) -> bool {
         let plan = message::read(bytes).map_or(0, |read| read.plan());
         self.round == 1 && self.weather.is_censored(plan, to)
@@ -268,19 +277,19 @@ impl Scene<'_> {
 
     fn lie(&self, random: &mut Random, to: usize) -> Option<Vec<u8>> {
         let plan = self.weather.favourite[usize::from(self.weather.camp[to])];
-        match self.weather.liar {
-            Liar::Silent => None,
-            Liar::Random => Some(self.fields(random).layout()),
-            Liar::Please => Some(self.push(random, plan)),
-            Liar::Push => Some(self.push(random, self.weather.favourite[0])),
-            Liar::Echo => {
+        match self.weather.behaviour {
+            Behaviour::Silent => None,
+            Behaviour::Random => Some(self.fields(random).layout()),
+            Behaviour::Please => Some(self.push(random, plan)),
+            Behaviour::Push => Some(self.push(random, self.weather.favourite[0])),
+            Behaviour::Echo => {
                 let written: Vec<&Vec<u8>> = self.written.iter().flatten().collect();
                 if written.is_empty() {
                     return None;
                 }
                 Some(random.pick(&written).clone())
             }
-            Liar::Rubbish => Some(messages::any(random)),
+            Behaviour::Rubbish => Some(messages::any(random)),
         }
     }
 
@@ -331,13 +340,14 @@ impl Scene<'_> {
             .is_ok_and(|read| (read.run, read.kind(), read.phase) == (self.setup.run, self.round, self.phase))
     }
 
-    /// In a good phase the counting messages are the same, in whatever slots: liars' messages change places.
-    fn permute_liars(&self, random: &mut Random, inbox: &mut [u8]) {
-        let liars: Vec<usize> = (0..usize::from(self.setup.crew.n)).filter(|&own| !self.setup.is_honest[own]).collect();
-        if liars.len() < 2 || random.chance(1, 2) {
+    /// In a good phase the counting messages are the same, in whatever slots: Byzantine nodes' messages change places.
+    fn permute_byzantine(&self, random: &mut Random, inbox: &mut [u8]) {
+        let byzantine: Vec<usize> =
+            (0..usize::from(self.setup.crew.n)).filter(|&own| !self.setup.is_honest[own]).collect();
+        if byzantine.len() < 2 || random.chance(1, 2) {
             return;
         }
-        let (one, other) = (random.pick(&liars), random.pick(&liars));
+        let (one, other) = (random.pick(&byzantine), random.pick(&byzantine));
         let kept = inbox[SLOT * one..SLOT * (one + 1)].to_vec();
         inbox.copy_within(SLOT * other..SLOT * (other + 1), SLOT * one);
         inbox[SLOT * other..SLOT * (other + 1)].copy_from_slice(&kept);
@@ -347,7 +357,7 @@ impl Scene<'_> {
 /// A crew for a run: any of the class, those with b > 0 and f > 0 most often.
 pub fn crew(random: &mut Random, class: u8) -> Crew {
     if random.chance(3, 4) {
-        crews::accepted_with_liars(random, class)
+        crews::accepted_with_byzantine(random, class)
     } else {
         crews::accepted_of_class(random, class)
     }

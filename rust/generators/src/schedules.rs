@@ -33,7 +33,7 @@ pub struct Schedule {
     pub events: Vec<Event>,
 }
 
-/// A crew for a schedule: mostly of up to 7 nodes, and then mostly with liars.
+/// A crew for a schedule: mostly of up to 7 nodes, and then mostly with Byzantine nodes.
 pub fn crew(random: &mut Random, class: u8) -> Crew {
     if random.chance(1, 12) {
         return runs::crew(random, class);
@@ -50,7 +50,7 @@ pub fn crew(random: &mut Random, class: u8) -> Crew {
 #[derive(Clone, Debug)]
 pub struct Maker {
     pub setup: Setup,
-    /// By own number; those of liars stay as they are.
+    /// By own number; those of Byzantine nodes stay as they are.
     cursors: Vec<Cursor>,
     /// What each number wrote, by its own rounds, as soon as it has.
     written: Vec<Vec<Option<Vec<u8>>>>,
@@ -186,7 +186,7 @@ impl Maker {
     }
 
     /// Gives a node that comes to a phase its weather. That is mostly the phase's, so that nodes hear the same; but
-    /// liars that have heard the nodes ahead may have something else in mind for one that comes late.
+    /// Byzantine nodes that have heard the nodes ahead may have something else in mind for one that comes late.
     fn look_out(&mut self, random: &mut Random, own: usize, records: &[Option<Node>]) {
         let Some((phase, _)) = self.place(own) else { return };
         if self.cursors[own].weather.is_some() {

@@ -12,7 +12,7 @@ pub enum Mutation {
     MajorityOfArrivalsValidates,
     /// and in the decision.
     MajorityOfArrivalsDecides,
-    /// 01: "The newest stamp wins.", in class 1 too, where only liars show a stamp
+    /// 01: "The newest stamp wins.", in class 1 too, where only Byzantine nodes show a stamp
     NewestStampWins,
     /// 01: "After a failed validation, going back to the plan this node selected.", read as its select,
     BackToOwnSelection,

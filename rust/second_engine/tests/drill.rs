@@ -139,10 +139,10 @@ fn stamps_of_says_are_bounded_by_the_round() {
 
 #[test]
 fn says_and_cuts() {
-    // Two plans, no majority but by the liar's say: nodes 0 and 1 say 5, node 2 says 6.
+    // Two plans, no majority but by the Byzantine node's say: nodes 0 and 1 say 5, node 2 says 6.
     let start = "3 4 1 0 3\n5 5 6 0\n";
     let to_all = |v, t| (0..4).map(|r| format!("say 3 {r} {v} {t}\n")).collect::<String>();
-    // A say to the liar itself is allowed and without effect; of two says for one pair the last stands.
+    // A say to the Byzantine node itself is allowed and without effect; of two says for one pair the last stands.
     let won = run(&format!("{start}{}{}go\ngo\n{}go\n", to_all(6, 0), to_all(5, 0), to_all(9, 1)));
     assert_eq!(won, "1 1 0 0 0 -\n1 2 0 0 0 -\n1 3 5 5 5 -\nend\n");
     // A cut wins over a say, whichever comes first, and lasts until the next go: node 0 lacks the fourth slot.

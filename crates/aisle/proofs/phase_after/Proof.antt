@@ -1,5 +1,5 @@
 -- `phase_after` meets its contract.
-use borrow.Author.Tests.{le-leb, lt-leb}
+use borrow.Author.Tests.{eq-eqb, ne-eqb}
 use borrow.Author.Needs.{needs}
 use Rattle.aisle.proofs.phase_after.Statement.{statement}
 use Rattle.aisle.proofs.phase_after.Tie as tie
@@ -8,10 +8,10 @@ add-result : tie.Need-add-result
 add-result c = search needs
 
 returns : tie.Need-returns
-returns c = simp (le-leb _ _ (c .if1 .taken))
+returns c = simp (eq-eqb _ _ (c .if1 .taken))
 
 returns-2 : tie.Need-returns-2
-returns-2 c = simp (lt-leb _ _ (c .if1 .left))
+returns-2 c = simp (ne-eqb _ _ (c .if1 .left))
 
 pub phase-after-spec : {M : Type 1} → statement M
 phase-after-spec = tie.close (tie.spec add-result returns returns-2)

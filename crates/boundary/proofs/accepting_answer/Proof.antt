@@ -3,7 +3,7 @@ use mathlib.Core.Path.{sym, ap, _∙_, subst}
 use native.Mathlib.Omega.{arith}
 use borrow.Author.Needs.{needs}
 use Rattle.boundary.specs.Answers.{answerOf, Apart, done}
-use Rattle.crew.specs.Acceptance.{answered}
+use Rattle.crew.specs.Acceptance.{acceptAnswer}
 use Rattle.boundary.proofs.accepting_answer.Statement.{statement}
 use Rattle.boundary.proofs.accepting_answer.Tie as tie
 
@@ -20,11 +20,11 @@ refusal-requires : tie.Need-refusal-requires
 refusal-requires c κs = search needs
 
 returns : tie.Need-returns
-returns c = let told = ap answered (c .enum-told .given .1) in
+returns c = let told = ap acceptAnswer (c .enum-told .given .1) in
     (sym (ap (answerOf done) told), subst (Apart done) (sym told) (omega arith))
 
 returns-2 : tie.Need-returns-2
-returns-2 c = let told = ap answered (c .before .before .before .answer .given .1) in
+returns-2 c = let told = ap acceptAnswer (c .before .before .before .answer .given .1) in
     let number = c .before .crew-number .ensures in (
       c .refusal .ensures ∙ rw (number .0) (sym (ap (answerOf done) told)),
       subst (Apart done) (sym told) (omega (arith, number .0, number .1), omega (arith, number .0, number .2)),

@@ -3,7 +3,7 @@ use mathlib.Core.Path.{sym, ap, _∙_, subst}
 use native.Mathlib.Omega.{arith}
 use borrow.Author.Needs.{needs}
 use Rattle.boundary.specs.Answers.{answerOf, Apart, choiceNumber}
-use Rattle.rounds.specs.Asking.{answered}
+use Rattle.rounds.specs.Asking.{askAnswer}
 use Rattle.boundary.proofs.asking_answer.Statement.{statement}
 use Rattle.boundary.proofs.asking_answer.Tie as tie
 
@@ -29,19 +29,19 @@ refusal-requires : tie.Need-refusal-requires
 refusal-requires c κs = search needs
 
 returns : tie.Need-returns
-returns c = let told = ap answered (c .before .answer .given .1) in
+returns c = let told = ap askAnswer (c .before .answer .given .1) in
     (sym (ap (answerOf choiceNumber) told), subst (Apart choiceNumber) (sym told) (omega arith))
 
 returns-2 : tie.Need-returns-2
-returns-2 c = let told = ap answered (c .enum-told .given .1) in
+returns-2 c = let told = ap askAnswer (c .enum-told .given .1) in
     (sym (ap (answerOf choiceNumber) told), subst (Apart choiceNumber) (sym told) (omega arith))
 
 returns-3 : tie.Need-returns-3
-returns-3 c = let told = ap answered (c .enum-told2 .given .1) in
+returns-3 c = let told = ap askAnswer (c .enum-told2 .given .1) in
     (sym (ap (answerOf choiceNumber) told), subst (Apart choiceNumber) (sym told) (omega arith))
 
 returns-4 : tie.Need-returns-4
-returns-4 c = let told = ap answered (c .before .before .before .answer2 .given .1) in
+returns-4 c = let told = ap askAnswer (c .before .before .before .answer2 .given .1) in
     let number = c .before .round-number .ensures in (
       c .refusal .ensures ∙ rw (number .0) (sym (ap (answerOf choiceNumber) told)),
       subst (Apart choiceNumber) (sym told) (

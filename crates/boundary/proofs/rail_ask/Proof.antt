@@ -4,7 +4,7 @@ use native.Mathlib.Omega.{arith}
 use borrow.Author.Needs.{needs}
 use denote.Ref.{now}
 use Rattle.boundary.specs.Answers.{answerOf, Apart, choiceNumber, askFrom}
-use Rattle.rounds.specs.Asking.{answered}
+use Rattle.rounds.specs.Asking.{askAnswer}
 use Rattle.boundary.proofs.rail_ask.Statement.{statement}
 use Rattle.boundary.proofs.rail_ask.Tie as tie
 
@@ -21,7 +21,7 @@ returns : tie.Need-returns
 returns c =
     let b4 = c .before .before .before .before in
     let fits = sym (c .before .before .before .load .ensures .0) ∙ c .before .before .if1 .taken in
-    let same : answered (c .before .ask .result .answer) ≡ askFrom (now (b4 .before .before .args .image)) (now
+    let same : askAnswer (c .before .ask .result .answer) ≡ askFrom (now (b4 .before .before .args .image)) (now
     (b4 .before .before .args .inbox)) =
     rw (c .before .ask .ensures .0, c .before .before .before .load .ensures .1, fits) in (
       c .asking-answer .ensures .0 ∙ ap (answerOf choiceNumber) same,

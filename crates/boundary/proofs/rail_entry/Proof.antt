@@ -2,7 +2,7 @@
 use mathlib.Core.Path.{sym, _∙_, ap}
 use native.Mathlib.Omega.{arith}
 use denote.Ref.{now}
-use Rattle.message.specs.Reading.{answered}
+use Rattle.message.specs.Reading.{readAnswer}
 use borrow.Author.Needs.{needs}
 use Rattle.boundary.proofs.rail_entry.Statement.{statement}
 use Rattle.boundary.proofs.rail_entry.Tie as tie
@@ -31,7 +31,7 @@ refusal-requires c κs = search needs
 returns : tie.Need-returns
 returns c =
     let b4 = c .before .before .before .before in
-    let as-read = sym (b4 .read .ensures) ∙ ap (λ r. answered r (now (b4 .before .before .args .bytes)))
+    let as-read = sym (b4 .read .ensures) ∙ ap (λ r. readAnswer r (now (b4 .before .before .args .bytes)))
     (c .before .before .enum-told .given .1) in (
       rw (c .entry-in .ensures .0, c .before .entries .ensures, as-read),
       rw as-read (rw (c .before .entries .ensures, as-read) at (c .entry-in .ensures .1)),
@@ -40,7 +40,7 @@ returns c =
 returns-2 : tie.Need-returns-2
 returns-2 c =
     let b4 = c .before .before .before .before in
-    let as-read = sym (b4 .before .read .ensures) ∙ ap (λ r. answered r (now
+    let as-read = sym (b4 .before .read .ensures) ∙ ap (λ r. readAnswer r (now
     (b4 .before .before .before .args .bytes))) (c .before .before .before .reading .given .1) in
     let number = c .before .read-number .ensures in (
       rw (c .refusal .ensures, number .0, as-read),

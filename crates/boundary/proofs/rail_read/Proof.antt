@@ -3,7 +3,7 @@ use mathlib.Core.Path.{sym, _∙_, ap}
 use native.Mathlib.Omega.{arith}
 use borrow.Author.Tests.{eq-eqb, ne-eqb}
 use denote.Ref.{now}
-use Rattle.message.specs.Reading.{answered}
+use Rattle.message.specs.Reading.{readAnswer}
 use borrow.Author.Needs.{needs}
 use Rattle.boundary.proofs.rail_read.Statement.{statement}
 use Rattle.boundary.proofs.rail_read.Tie as tie
@@ -25,7 +25,7 @@ returns c =
     let b4 = c .before .before .before .before in
     let b8 = b4 .before .before .before .before in
     let s = now (b8 .before .before .before .args .bytes) in
-    let as-read = sym (b4 .before .before .before .read .ensures) ∙ ap (λ r. answered r s)
+    let as-read = sym (b4 .before .before .before .read .ensures) ∙ ap (λ r. readAnswer r s)
     (b4 .before .reading .given .1) in
     let fits = eq-eqb _ _ (b8 .if1 .taken) in (
       rw (fits, as-read),
@@ -47,7 +47,7 @@ returns-2 c =
     let b4 = c .before .before .before .before in
     let b8 = b4 .before .before .before .before in
     let s = now (b8 .before .args .bytes) in
-    let as-read = sym (b4 .before .read .ensures) ∙ ap (λ r. answered r s)
+    let as-read = sym (b4 .before .read .ensures) ∙ ap (λ r. readAnswer r s)
     (c .before .before .before .reading2 .given .1) in
     let fits = eq-eqb _ _ (b4 .before .before .if1 .taken) in
     let number = c .before .read-number .ensures in (

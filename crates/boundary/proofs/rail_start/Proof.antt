@@ -6,7 +6,7 @@ use denote.Ref.{now}
 use Rattle.boundary.proofs.Verdicts.{when-accepted, when-refused}
 use Rattle.crew.specs.Parts.{crewOf}
 use Rattle.node.specs.Record.{blank}
-use Rattle.node.specs.Starting.{startOf, answered}
+use Rattle.node.specs.Starting.{startOf, startAnswer}
 use Rattle.boundary.proofs.rail_start.Statement.{statement}
 use Rattle.boundary.proofs.rail_start.Tie as tie
 
@@ -34,7 +34,7 @@ returns c =
     let b8 = b4 .before .before .before .before in
     let a = b8 .before .before .before .before .args in
     let fits = sym (b8 .before .fits2 .ensures) ∙ b8 .if1 .taken in
-    let told = sym (ap answered (b4 .enum-told .given .1)) ∙ b4 .before .before .start .ensures .0 in
+    let told = sym (ap startAnswer (b4 .enum-told .given .1)) ∙ b4 .before .before .start .ensures .0 in
     let crew = b4 .before .before .before .crew-of .result in
     let is : crew ≡ crewOf (a .class) (a .n) (a .b) (a .f) (a .d) = b4 .before .before .before .crew-of .ensures in
     let w = when-accepted (now (a .image)) blank (startOf crew (a .own) (a .run) (a .plan)) told in (
@@ -62,7 +62,7 @@ returns-2 c =
     let a = b8 .before .before .before .args in
     let fits = sym (b8 .fits2 .ensures) ∙ b4 .before .before .before .if1 .taken in
     let number = c .before .start-number .ensures in
-    let told = sym (ap answered (c .before .before .before .answer .given .1)) ∙ b4 .before .start .ensures .0 in
+    let told = sym (ap startAnswer (c .before .before .before .answer .given .1)) ∙ b4 .before .start .ensures .0 in
     let crew = b4 .before .before .crew-of .result in
     let is : crew ≡ crewOf (a .class) (a .n) (a .b) (a .f) (a .d) = b4 .before .before .crew-of .ensures in
     let w = when-refused (now (a .image)) blank (startOf crew (a .own) (a .run) (a .plan)) _ told

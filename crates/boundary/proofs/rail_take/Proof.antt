@@ -4,7 +4,7 @@ use native.Mathlib.Omega.{arith}
 use borrow.Author.Needs.{needs}
 use denote.Ref.{now}
 use Rattle.boundary.proofs.Verdicts.{when-accepted, when-refused}
-use Rattle.rounds.specs.Taking.{takeOf, answered}
+use Rattle.rounds.specs.Taking.{takeOf, takeAnswer}
 use Rattle.boundary.proofs.rail_take.Statement.{statement}
 use Rattle.boundary.proofs.rail_take.Tie as tie
 
@@ -31,7 +31,7 @@ returns c =
     let d = b8 .load .result .node in
     let fits = sym (b8 .load .ensures .0) ∙ b4 .before .before .before .if1 .taken in
     let is = rw fits at (b8 .load .ensures .1) in
-    let told = sym (ap answered (b4 .enum-told .given .1)) ∙ b4 .before .before .take .ensures .0 in
+    let told = sym (ap takeAnswer (b4 .enum-told .given .1)) ∙ b4 .before .before .take .ensures .0 in
     let w = when-accepted (now (b12 .args .image)) d (takeOf d (now (b12 .args .inbox))) told in (
       rw (fits, ← is) (w .0),
       rw (fits, ← is) (w .1),
@@ -58,7 +58,7 @@ returns-2 c =
     let fits = sym (b4 .before .before .before .load .ensures .0) ∙ b4 .before .before .if1 .taken in
     let is = rw fits at (b4 .before .before .before .load .ensures .1) in
     let number = c .before .round-number .ensures in
-    let told = sym (ap answered (c .before .before .before .answer .given .1)) ∙ b4 .before .take .ensures .0 in
+    let told = sym (ap takeAnswer (c .before .before .before .answer .given .1)) ∙ b4 .before .take .ensures .0 in
     let w = when-refused (now (b8 .before .before .before .args .image)) d (takeOf d (now
     (b8 .before .before .before .args .inbox))) _ told
     (omega (arith, number .0, number .1), omega (arith, number .0, number .2)) in (

@@ -5,7 +5,7 @@ use borrow.Author.Needs.{needs}
 use denote.Ref.{now}
 use Rattle.boundary.specs.Answers.{answerOf, Apart, itself, writeFrom}
 use Rattle.node.proofs.Lengths.{write-length}
-use Rattle.node.specs.Sending.{answered}
+use Rattle.node.specs.Sending.{sendAnswer}
 use Rattle.boundary.proofs.rail_write.Statement.{statement}
 use Rattle.boundary.proofs.rail_write.Tie as tie
 
@@ -33,7 +33,7 @@ returns c =
     let b4 = c .before .before .before .before in
     let b8 = b4 .before .before .before .before in
     let fits = sym (b4 .before .before .load .ensures .0) ∙ b4 .before .if1 .taken in
-    let same : answered (c .before .before .before .write .result .answer) ≡ writeFrom (now
+    let same : sendAnswer (c .before .before .before .write .result .answer) ≡ writeFrom (now
     (b8 .before .args .image)) (now (b8 .before .args .buffer)) =
     rw (c .before .before .before .write .ensures .0, b4 .before .before .load .ensures .1, fits) in (
       c .sending-answer .ensures .0 ∙ ap (answerOf itself) same,

@@ -3,7 +3,7 @@ use mathlib.Core.Path.{sym, ap, _∙_, subst}
 use native.Mathlib.Omega.{arith}
 use borrow.Author.Needs.{needs}
 use Rattle.boundary.specs.Answers.{answerOf, Apart, itself}
-use Rattle.node.specs.Sending.{answered}
+use Rattle.node.specs.Sending.{sendAnswer}
 use Rattle.wire.specs.Outcome.{valueOr}
 use Rattle.boundary.proofs.sending_answer.Statement.{statement}
 use Rattle.boundary.proofs.sending_answer.Tie as tie
@@ -21,7 +21,7 @@ refusal-requires : tie.Need-refusal-requires
 refusal-requires c κs = search needs
 
 returns : tie.Need-returns
-returns c = let told = ap answered (c .before .answer .given .1) in
+returns c = let told = ap sendAnswer (c .before .answer .given .1) in
     let small = ap (valueOr 0) told in (
       sym (ap (answerOf itself) told),
       subst (Apart itself) (sym told) (omega (
@@ -32,7 +32,7 @@ returns c = let told = ap answered (c .before .answer .given .1) in
     )
 
 returns-2 : tie.Need-returns-2
-returns-2 c = let told = ap answered (c .before .before .before .answer2 .given .1) in
+returns-2 c = let told = ap sendAnswer (c .before .before .before .answer2 .given .1) in
     let number = c .before .send-number .ensures in (
       c .refusal .ensures ∙ rw (number .0) (sym (ap (answerOf itself) told)),
       subst (Apart itself) (sym told) (omega (arith, number .0, number .1), omega (arith, number .0, number .2)),

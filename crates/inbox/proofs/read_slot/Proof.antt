@@ -1,7 +1,7 @@
 -- `read_slot` meets its contract.
 use mathlib.Core.Path.{sym, _∙_, ap}
 use denote.Ref.{now}
-use Rattle.message.specs.Reading.{answered}
+use Rattle.message.specs.Reading.{readAnswer}
 use borrow.Author.Needs.{needs}
 use Rattle.inbox.proofs.read_slot.Statement.{statement}
 use Rattle.inbox.proofs.read_slot.Tie as tie
@@ -18,7 +18,7 @@ enum-told c = search needs
 returns : tie.Need-returns
 returns c =
     let s = now (c .before .before .before .before .args .slot) in
-    let as-read = sym (c .before .before .read .ensures) ∙ ap (λ r. answered r s) (c .enum-told .given .1) in
+    let as-read = sym (c .before .before .read .ensures) ∙ ap (λ r. readAnswer r s) (c .enum-told .given .1) in
     simp as-read
 
 kind-of-requires : tie.Need-kind-of-requires
@@ -33,14 +33,14 @@ returns-2 c =
     let kind = counting .before .before .kind-of in
     let told = counting .before .before .before .before .before in
     let s = now (told .before .before .before .before .args .slot) in
-    let as-read = sym (told .before .before .read .ensures) ∙ ap (λ r. answered r s) (told .reading .given .1) in
+    let as-read = sym (told .before .before .read .ensures) ∙ ap (λ r. readAnswer r s) (told .reading .given .1) in
     simp (as-read, ← kind .ensures s, counting .if1 .taken) (c .put-body .ensures s)
 
 returns-3 : tie.Need-returns-3
 returns-3 c =
     let told = c .before .before .before .before .before in
     let s = now (told .before .before .before .before .args .slot) in
-    let as-read = sym (told .before .before .read .ensures) ∙ ap (λ r. answered r s) (told .reading .given .1) in
+    let as-read = sym (told .before .before .read .ensures) ∙ ap (λ r. readAnswer r s) (told .reading .given .1) in
     simp (as-read, ← c .before .before .kind-of .ensures s, c .if1 .left)
 
 pub read-slot-spec : {M : Type 1} → statement M

@@ -1,7 +1,7 @@
 -- `entries` meets its contract.
 use mathlib.Core.Path.{sym, _∙_, ap}
 use denote.Ref.{now}
-use Rattle.message.specs.Reading.{answered}
+use Rattle.message.specs.Reading.{readAnswer}
 use Rattle.message.proofs.ReadLaws.{part-shown}
 use borrow.Author.Needs.{needs}
 use Rattle.message.proofs.entries.Statement.{statement}
@@ -29,14 +29,14 @@ returns : tie.Need-returns
 returns c =
     let told = c .before .before .before in
     let s = now (told .before .before .before .before .args .s) in
-    let as-read = sym (told .before .before .read .ensures) ∙ ap (λ r. answered r s) (told .reading .given .1) in
+    let as-read = sym (told .before .before .read .ensures) ∙ ap (λ r. readAnswer r s) (told .reading .given .1) in
     let body = told .reading .given .0 .0 .body in
     simp (c .entries-counted .ensures, c .before .count-of .ensures) (part-shown s _ _ body as-read)
 
 returns-2 : tie.Need-returns-2
 returns-2 c =
     let s = now (c .before .before .before .before .before .args .s) in
-    simp (sym (c .before .before .before .read .ensures) ∙ ap (λ r. answered r s) (c .before .enum-told .given .1))
+    simp (sym (c .before .before .before .read .ensures) ∙ ap (λ r. readAnswer r s) (c .before .enum-told .given .1))
 
 pub entries-spec : {M : Type 1} → statement M
 entries-spec =

@@ -1,5 +1,4 @@
 -- The record that a node begins with is the one that `begun` defines.
--- Assumes nothing.
 use mathlib.Core.Path.{refl}
 use borrow.Author.Needs.{needs}
 use Rattle.node.specs.Record.{begun}

@@ -1,5 +1,4 @@
 -- The record of a refused start is all 0.
--- Assumes nothing.
 use borrow.Author.Needs.{needs}
 use Rattle.node.specs.Record.{blank}
 use Rattle.node.proofs.blank_node.Statement.{statement}

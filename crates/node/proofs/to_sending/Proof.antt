@@ -1,8 +1,7 @@
 -- A writer's answer and the node's say the same, where the writer has not found a bound broken.
--- Assumes nothing.
 use mathlib.Core.Path.{sym, ap, _∙_}
 use borrow.Author.Needs.{needs}
-use Rattle.writer.specs.Writing.{answered}
+use Rattle.writer.specs.Writing.{writeAnswer}
 use Rattle.node.proofs.SendLaws.{only-short}
 use Rattle.node.proofs.to_sending.Statement.{statement}
 use Rattle.node.proofs.to_sending.Tie as tie
@@ -14,11 +13,11 @@ enum-told : tie.Need-enum-told
 enum-told c = search needs
 
 returns : tie.Need-returns
-returns c = sym (ap answered (c .before .writing .given .1))
+returns c = sym (ap writeAnswer (c .before .writing .given .1))
 
 returns-2 : tie.Need-returns-2
 returns-2 c =
-    let told = ap answered (c .enum-told .given .1) in
+    let told = ap writeAnswer (c .enum-told .given .1) in
     only-short (c .enum-told .given .0 .0) (λ e. c .before .before .pre (told ∙ e)) ∙ sym told
 
 pub to-sending-spec : {M : Type 1} → statement M

@@ -6,7 +6,7 @@ use lib.ListN.{getD}
 use borrow.Author.Needs.{needs}
 use denote.Ref.{now}
 use Rattle.tally.proofs.BackingLaws.{backing-next}
-use Rattle.tally.specs.Marks.{listedAbove, leastMarked, backingMarked, backingAs}
+use Rattle.tally.specs.Marks.{hasListersAbove, leastMarked, backingMarked, backingAs}
 use Rattle.tally.proofs.backing_listed.Statement.{statement}
 use Rattle.tally.proofs.backing_listed.Tie as tie
 
@@ -14,7 +14,7 @@ abbrev Inv-loop : tie.InvT-loop
 Inv-loop marks present votes stamps inbox n threshold backing₀ q₀ backing q =
     (q ≤ n)
     × (backingAs backing
-    ≡ backingMarked (listedAbove marks present votes stamps inbox n threshold) (λ k. getD votes k 0) q)
+    ≡ backingMarked (hasListersAbove marks present votes stamps inbox n threshold) (λ k. getD votes k 0) q)
 
 abbrev μ-loop : tie.MeasureT-loop
 μ-loop marks present votes stamps inbox n threshold backing₀ q₀ backing q = n - q
@@ -50,7 +50,7 @@ loop-again c =
     let a = b4 .before .before .before .args in
     let l = b4 .before .loop in
     let test =
-    listedAbove (now (a .marks)) (now (a .present)) (now (a .votes)) (now (a .stamps)) (now (a .inbox)) (a .n)
+    hasListersAbove (now (a .marks)) (now (a .present)) (now (a .votes)) (now (a .stamps)) (now (a .inbox)) (a .n)
     (a .threshold) in
     let vote : ℕ → ℕ = λ k. getD (now (a .votes)) k 0 in
     (omega arith, (rw (l .inv .1) at (c .with-listed .ensures)) ∙ sym (backing-next test vote (l .q)))
@@ -61,7 +61,7 @@ returns c =
     let a = c .before .before .before .args in
     let done : l .q ≡ a .n = omega (arith, l .inv .0, c .loop-test .left) in
     let test =
-    listedAbove (now (a .marks)) (now (a .present)) (now (a .votes)) (now (a .stamps)) (now (a .inbox)) (a .n)
+    hasListersAbove (now (a .marks)) (now (a .present)) (now (a .votes)) (now (a .stamps)) (now (a .inbox)) (a .n)
     (a .threshold) in
     l .inv .1 ∙ ap (backingMarked test (λ k. getD (now (a .votes)) k 0)) done
 

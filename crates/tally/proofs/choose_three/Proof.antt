@@ -7,7 +7,7 @@ use Rattle.inbox.specs.Columns.{columns, historiesIn, polled}
 use Rattle.tally.proofs.Choosing.{selection-tested, enough-three, backed-anyway}
 use Rattle.tally.proofs.Listing.{listing-rows}
 use Rattle.tally.proofs.Ruling.{possible-slot, backed-three-slot}
-use Rattle.tally.specs.Marks.{listedAbove, backingAs}
+use Rattle.tally.specs.Marks.{hasListersAbove, backingAs}
 use borrow.Author.Needs.{needs}
 use Rattle.tally.proofs.choose_three.Statement.{statement}
 use Rattle.tally.proofs.choose_three.Tie as tie
@@ -48,7 +48,7 @@ returns c =
     let slots = enough three crew (polled read h (crew .n)) in
     let some = sym (c .before .before .is-backed .ensures) ∙ c .before .if1 .taken in
     selection-tested crew read h (crew .n) three
-    (listedAbove possible (read .present) (read .votes) (read .stamps) bytes (crew .n) (crew .b)) _ _ _
+    (hasListersAbove possible (read .present) (read .votes) (read .stamps) bytes (crew .n) (crew .b)) _ _ _
     (λ q less. sym (backed-three-slot read h (crew .n) crew possible
     (λ k inside. above k inside ∙ sym (possible-slot read h (crew .n) crew k)) bytes
     (listing-rows read bytes (crew .n) (start .pre .2) (start .pre .3)) q less))
@@ -82,7 +82,7 @@ returns-2 c =
     (enough-three crew read h (crew .n) (c .before .count-marks .result) (marks .last .0)
     (c .before .count-marks .ensures .0) (marks .ensures)) in
     selection-tested crew read h (crew .n) three
-    (listedAbove possible (read .present) (read .votes) (read .stamps) bytes (crew .n) (crew .b)) _ _ _
+    (hasListersAbove possible (read .present) (read .votes) (read .stamps) bytes (crew .n) (crew .b)) _ _ _
     (λ q less. sym (backed-three-slot read h (crew .n) crew possible
     (λ k inside. above k inside ∙ sym (possible-slot read h (crew .n) crew k)) bytes
     (listing-rows read bytes (crew .n) (start .pre .2) (start .pre .3)) q less))

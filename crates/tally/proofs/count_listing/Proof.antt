@@ -6,13 +6,13 @@ use borrow.Author.Needs.{needs}
 use denote.Ref.{now}
 use Rattle.ballot.specs.Count.{tally}
 use Rattle.tally.proofs.Tallies.{tally-next}
-use Rattle.tally.specs.Marks.{listing}
+use Rattle.tally.specs.Marks.{isLister}
 use Rattle.tally.proofs.count_listing.Statement.{statement}
 use Rattle.tally.proofs.count_listing.Tie as tie
 
 abbrev Inv-loop : tie.InvT-loop
 Inv-loop present inbox n plan phase count₀ q₀ count q = (q ≤ n)
-    × (count ≡ tally (listing present inbox plan phase) q) × (count ≤ q)
+    × (count ≡ tally (isLister present inbox plan phase) q) × (count ≤ q)
 
 abbrev μ-loop : tie.MeasureT-loop
 μ-loop present inbox n plan phase count₀ q₀ count q = n - q
@@ -41,7 +41,7 @@ loop-less c = search needs
 
 loop-again : tie.Need-loop-again Inv-loop μ-loop
 loop-again c = let a = c .before .before .before .before .before .before .args in
-    let test = listing (now (a .present)) (now (a .inbox)) (a .plan) (a .phase) in
+    let test = isLister (now (a .present)) (now (a .inbox)) (a .plan) (a .phase) in
     let counted = rw (c .before .is-listing .ensures) at (c .one-if .ensures .0) in
     omega (arith, tally-next test (c .before .before .before .before .loop .q), counted, c .one-if .ensures .1)
 

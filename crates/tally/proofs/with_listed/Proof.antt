@@ -6,7 +6,7 @@ use borrow.Author.Needs.{needs}
 use denote.Ref.{now}
 use Rattle.ballot.specs.Count.{tally}
 use Rattle.tally.proofs.BackingLaws.{settled-joined, either-way}
-use Rattle.tally.specs.Marks.{listing, backingAs}
+use Rattle.tally.specs.Marks.{isLister, backingAs}
 use Rattle.tally.proofs.with_listed.Statement.{statement}
 use Rattle.tally.proofs.with_listed.Tie as tie
 
@@ -17,7 +17,7 @@ returns : tie.Need-returns
 returns c =
     let a = c .before .before .before .args in
     let votes = backingAs (a .backing) in
-    let listers = tally (listing (now (a .present)) (now (a .inbox)) (a .vote) (a .stamp)) (a .n) in
+    let listers = tally (isLister (now (a .present)) (now (a .inbox)) (a .vote) (a .stamp)) (a .n) in
     rw (settled-joined votes (a .vote) (sym (c .before .is-settled .ensures) ∙ c .if1 .taken))
     (either-way (a .mark && ltb (a .threshold) listers) votes)
 

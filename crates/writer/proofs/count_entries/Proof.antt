@@ -7,13 +7,13 @@ use native.Mathlib.Omega.{arith}
 use lib.ListN.{length}
 use borrow.Author.Needs.{needs}
 use Rattle.writer.proofs.HistoryLaws.{count-turn, listed-end}
-use Rattle.writer.specs.Writing.{listed}
+use Rattle.wire.specs.Entry.{entriesFrom}
 use Rattle.writer.proofs.count_entries.Statement.{statement}
 use Rattle.writer.proofs.count_entries.Tie as tie
 
 abbrev Inv-loop : tie.InvT-loop
 Inv-loop phases history count₀ phase₀ count phase =
-    (count + length (listed history phase (phases - phase)) ≡ length (listed history 0 phases))
+    (count + length (entriesFrom history phase (phases - phase)) ≡ length (entriesFrom history 0 phases))
     × (count ≤ phase)
     × (phase ≤ phases)
 

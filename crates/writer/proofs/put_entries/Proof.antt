@@ -10,16 +10,16 @@ use borrow.Author.Needs.{needs}
 use Rattle.message.specs.Layout.{entriesPlace}
 use Rattle.writer.proofs.HistoryLaws.{room-turn, stores-turn, listed-end}
 use Rattle.message.specs.Encoding.{entryBytes}
-use Rattle.writer.specs.Writing.{listed}
+use Rattle.wire.specs.Entry.{entriesFrom}
 use Rattle.writer.proofs.put_entries.Statement.{statement}
 use Rattle.writer.proofs.put_entries.Tie as tie
 
 abbrev Inv-loop : tie.InvT-loop
 Inv-loop buf₀ phases history place₀ phase₀ buf place phase =
     (length buf ≡ length buf₀)
-    × (place + length (entryBytes (listed history phase (phases - phase))) ≤ length buf)
-    × (sets buf place (entryBytes (listed history phase (phases - phase)))
-    ≡ sets buf₀ entriesPlace (entryBytes (listed history 0 phases)))
+    × (place + length (entryBytes (entriesFrom history phase (phases - phase))) ≤ length buf)
+    × (sets buf place (entryBytes (entriesFrom history phase (phases - phase)))
+    ≡ sets buf₀ entriesPlace (entryBytes (entriesFrom history 0 phases)))
     × (phase ≤ phases)
 
 abbrev μ-loop : tie.MeasureT-loop

@@ -16,7 +16,7 @@ use Rattle.writer.proofs.WriteLaws.{
   selection-out-of-bounds,
 }
 use Rattle.message.specs.Encoding.{encode}
-use Rattle.writer.specs.Writing.{listed}
+use Rattle.wire.specs.Entry.{entriesFrom}
 use Rattle.writer.proofs.write_selection.Statement.{statement}
 use Rattle.writer.proofs.write_selection.Tie as tie
 
@@ -88,7 +88,7 @@ put-entries-requires c κs =
       b12 .is-plan .ensures,
     ) at (b8 .before .before .before .if1 .taken) in
     let few = allowed-within (a .run) (a .phase) (a .vote) (a .stamp) (a .history) (a .phases) allowed .2 in
-    let long = entry-bytes-length (listed (a .history) 0 (a .phases)) in
+    let long = entry-bytes-length (entriesFrom (a .history) 0 (a .phases)) in
     simp length-set
     (omega (
       arith,

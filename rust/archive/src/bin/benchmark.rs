@@ -12,7 +12,8 @@ use second_engine::{rounds, Crew, Node, Plan};
 use std::hint::black_box;
 use std::time::Instant;
 
-/// The crews, by class and n: the most liars that the class allows, for n = 4 in classes 1 and 2 one node out of reach.
+/// The crews, by class and n: the most Byzantine nodes that the class allows, for n = 4 in classes 1 and 2 one node out
+/// of reach.
 const CREWS: [[Crew; 3]; 3] = [
     [Crew::new(1, 4, 0, 1, 3), Crew::new(1, 16, 3, 0, 13), Crew::new(1, 32, 6, 0, 26)],
     [Crew::new(2, 4, 0, 1, 3), Crew::new(2, 16, 3, 1, 12), Crew::new(2, 32, 7, 0, 25)],

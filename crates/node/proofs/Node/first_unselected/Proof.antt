@@ -1,5 +1,4 @@
 -- The first phase without a selection is the record's own in round 1, and the next one after that.
--- Assumes nothing.
 use borrow.Author.Needs.{needs}
 use borrow.Author.Tests.{eq-eqb, ne-eqb}
 use Rattle.node.proofs.Node.first_unselected.Statement.{statement}

@@ -1,7 +1,6 @@
 -- The loop finds whether the history starts with a plan and all entries from the first unselected phase on are 0. Its
 -- invariant: what was found so far and the entries from `phase` on give the answer that the first entry and all of
 -- those give. The measure is what is left of the 64 entries.
--- Assumes nothing.
 use mathlib.Core.Path.{_≡_, refl, ap, _∙_}
 use mathlib.Core.Bool.{_&&_}
 use Prim.Native.Nat.{_-_}

@@ -1,5 +1,4 @@
 -- The test is 01's sentence on soundness, clause by clause.
--- Assumes nothing.
 use mathlib.Core.Path.{_≡_, refl}
 use mathlib.Core.Bool.{Bool, true, false, _&&_}
 use lib.Dec.{leb}

@@ -1,5 +1,4 @@
 -- The phases listed are those before the record's own in class 3, else none.
--- Assumes nothing.
 use borrow.Author.Tests.{eq-eqb, ne-eqb}
 use Rattle.node.proofs.Node.listed_phases.Statement.{statement}
 use Rattle.node.proofs.Node.listed_phases.Tie as tie

@@ -1,9 +1,8 @@
 -- A start gives the record that a node begins with, or the first refusal of 1 to 6 that applies and the blank record.
--- Assumes nothing.
 use mathlib.Core.Path.{sym, ap, _∙_}
 use native.Mathlib.Omega.{arith}
 use borrow.Author.Needs.{needs}
-use Rattle.crew.specs.Acceptance.{answered}
+use Rattle.crew.specs.Acceptance.{acceptAnswer}
 use Rattle.node.proofs.StartLaws.{start-begins, start-without-plan, start-beyond-crew, start-without-crew}
 use Rattle.node.proofs.Node.start.Statement.{statement}
 use Rattle.node.proofs.Node.start.Tie as tie
@@ -27,7 +26,7 @@ returns : tie.Need-returns
 returns c =
     let crew = c .before .before .before .before in
     let args = crew .before .before .before .args in
-    let ok = sym (crew .before .before .accept .ensures) ∙ ap answered (crew .enum-told .given .1) in
+    let ok = sym (crew .before .before .accept .ensures) ∙ ap acceptAnswer (crew .enum-told .given .1) in
     let own = c .before .before .if1 .taken in
     let e = start-begins (args .crew) (args .own) (args .run) (args .plan) ok own (c .before .if2 .taken) in
     (simp e, simp (e, c .begin .ensures))
@@ -39,7 +38,7 @@ returns-2 : tie.Need-returns-2
 returns-2 c =
     let crew = c .before .before .before .before in
     let args = crew .before .before .before .args in
-    let ok = sym (crew .before .before .accept .ensures) ∙ ap answered (crew .enum-told .given .1) in
+    let ok = sym (crew .before .before .accept .ensures) ∙ ap acceptAnswer (crew .enum-told .given .1) in
     let own = c .before .before .if1 .taken in
     let e = start-without-plan (args .crew) (args .own) (args .run) (args .plan) ok own (omega arith) in
     (simp (e, c .refuse-start2 .ensures .0), simp (e, c .refuse-start2 .ensures .1))
@@ -51,7 +50,7 @@ returns-3 : tie.Need-returns-3
 returns-3 c =
     let args = c .before .before .before .before .before .args in
     let crew = c .before .before in
-    let turned-down = sym (crew .before .before .accept .ensures) ∙ ap answered (crew .why .given .1) in
+    let turned-down = sym (crew .before .before .accept .ensures) ∙ ap acceptAnswer (crew .why .given .1) in
     let e = start-without-crew (args .crew) (args .own) (args .run) (args .plan) _ turned-down in
     (simp (e, c .refuse-start .ensures .0), simp (e, c .refuse-start .ensures .1))
 
@@ -59,7 +58,7 @@ returns-4 : tie.Need-returns-4
 returns-4 c =
     let crew = c .before .before .before in
     let args = crew .before .before .before .args in
-    let ok = sym (crew .before .before .accept .ensures) ∙ ap answered (crew .enum-told .given .1) in
+    let ok = sym (crew .before .before .accept .ensures) ∙ ap acceptAnswer (crew .enum-told .given .1) in
     let e = start-beyond-crew (args .crew) (args .own) (args .run) (args .plan) ok (c .before .if1 .left) in
     (simp (e, c .refuse-start3 .ensures .0), simp (e, c .refuse-start3 .ensures .1))
 

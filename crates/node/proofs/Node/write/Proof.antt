@@ -1,5 +1,4 @@
 -- The answer, the record and the whole buffer are as defined: refusals 7, 8 and 9 in order, the record as it came.
--- Assumes nothing.
 use mathlib.Core.Path.{refl, sym, _∙_}
 use native.Mathlib.Omega.{arith}
 use borrow.Author.Needs.{needs}

@@ -1,5 +1,4 @@
 -- For a sound, unspent record each round's writer leaves the answer and the buffer that the node is to leave.
--- Assumes nothing.
 use native.Mathlib.Omega.{arith}
 use borrow.Author.Needs.{needs}
 use denote.Ref.{now}

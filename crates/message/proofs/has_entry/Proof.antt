@@ -1,9 +1,9 @@
--- `lists` meets its contract.
+-- `has_entry` meets its contract.
 use borrow.Author.Needs.{needs}
 use denote.Ref.{now}
 use Rattle.message.proofs.LookupTurns.{short-lists}
-use Rattle.message.proofs.lists.Statement.{statement}
-use Rattle.message.proofs.lists.Tie as tie
+use Rattle.message.proofs.has_entry.Statement.{statement}
+use Rattle.message.proofs.has_entry.Tie as tie
 
 returns : tie.Need-returns
 returns c =
@@ -16,5 +16,5 @@ look-up-requires c κs = search needs
 returns-2 : tie.Need-returns-2
 returns-2 c = search needs
 
-pub lists-spec : {M : Type 1} → statement M
-lists-spec = tie.close (tie.spec returns look-up-requires returns-2)
+pub has-entry-spec : {M : Type 1} → statement M
+has-entry-spec = tie.close (tie.spec returns look-up-requires returns-2)

@@ -1,28 +1,27 @@
--- What a ballot of an honest node tells of the node, and what a history lists. Builds on specs/Node.antt.
--- Assumes nothing.
+-- What a ballot of an honest node tells of the node, and what a history lists. Builds on Voter.antt.
 use mathlib.Core.Path.{_≡_, refl, sym, ap, _∙_}
 use mathlib.Core.Bool.{Bool, true, false, cond}
 use mathlib.Core.List.{List, [], _∷_, _++_}
 use mathlib.Core.Logic.{_⊎_, inl, inr, _≢_}
 use mathlib.Core.Option.{Option, none, some}
-use Prim.Native.Nat.{ℕ, zero, suc, _+_, _<_}
+use Prim.Native.Nat.{ℕ, zero, suc, _+_, _≤_, _<_}
 use native.Mathlib.Omega.{arith}
 use native.Mathlib.Decide.{ℕ-discrete, decLt}
 use lib.ListN.{length, getD, set, replicate, length-set}
 use lib.Seq.{getD-set-same, getD-set-other, set-out}
-use lib.Dec.{T, eqb, eqb→eq, ltb→lt}
-use borrow.Author.Tests.{eqb-true, eqb-false}
+use lib.Dec.{T, leb, eqb, eqb→eq, ltb→lt}
+use borrow.Author.Tests.{leb-true, eqb-true, eqb-false, le-leb}
 use Rattle.wire.specs.Sizes.{lastPhase}
 use Rattle.wire.specs.Plan.{ifPlan}
 use Rattle.wire.proofs.Tests.{tests}
-use Rattle.wire.specs.Entry.{Entry}
+use Rattle.wire.specs.Entry.{Entry, entryOf, entriesFrom}
 use Rattle.crew.specs.Thresholds.{Class, one, two, three}
 use Rattle.ballot.specs.Count.{countIf}
 use Rattle.ballot.specs.Ballot.{Ballot, isEntry, lists}
 use Rattle.ballot.proofs.Tests.{and-T, T-and}
 use Rattle.ballot.proofs.Counting.{bit-T, bit-pos, count-append}
 use Rattle.ballot.proofs.Slots.{same-ballot, not-none}
-use Rattle.model.specs.Node.{entryOf, entriesBelow, entriesSaid}
+use Rattle.model.proofs.Voter.{entriesSaid}
 
 pub ifPlan-is : {A : Type 0} (v : ℕ) (new old : A)
     → ((v ≡ 0) × (ifPlan v new old ≡ old)) ⊎ ((v ≢ 0) × (ifPlan v new old ≡ new))
@@ -109,35 +108,42 @@ module _ (history : List ℕ) (phase v : ℕ) where
 
 -- A ballot lists what its node's history holds, and nothing else.
 
+-- the entry of phase j, where it has a plan, is the one that is looked for
 entry-lists : (j v phase w : ℕ) → 0 < countIf (isEntry phase w) (entryOf j v) → (j ≡ phase) × (v ≡ w) × (v ≢ 0)
 unfolding countIf
-entry-lists j v phase w h = elim (ifPlan-is v (it ∷ []) []) [
-  | inl z ↦ absurd (omega (arith, ap (countIf (isEntry phase w)) (z .1)))
-  | inr z ↦
-      let one = ap (countIf (isEntry phase w)) (z .1) in
-      let d = and-T (eqb j phase) (eqb v w) (bit-pos (isEntry phase w it) (omega arith)) in
-      (eqb→eq j phase (d .0), eqb→eq v w (d .1), z .0)
-]
+entry-lists j v phase w h = go (leb 1 v) refl h
   where
     it : Entry
     it = record { phase = j; plan = v }
 
-below-lists : (history : List ℕ) (j phase w : ℕ) → 0 < countIf (isEntry phase w) (entriesBelow history j)
-    → (getD history phase 0 ≡ w) × (w ≢ 0)
-unfolding entriesBelow countIf
-below-lists history zero phase w h = absurd (omega arith)
-below-lists history (suc j) phase w h = go (decLt 0 (countIf (isEntry phase w) last)) (below-lists history j phase w)
-  where
-    last : List Entry
-    last = entryOf j (getD history j 0)
+    go : (full : Bool) → leb 1 v ≡ full → 0 < countIf (isEntry phase w) (cond full (it ∷ []) [])
+        → (j ≡ phase) × (v ≡ w) × (v ≢ 0)
+    go false e h = absurd (omega arith)
+    go true e h =
+        let same = and-T (eqb j phase) (eqb v w) (bit-pos (isEntry phase w it) (omega arith)) in
+        (eqb→eq j phase (same .0), eqb→eq v w (same .1), λ z. omega (arith, leb-true 1 v e))
 
-    go : Dec (0 < countIf (isEntry phase w) last)
-        → (0 < countIf (isEntry phase w) (entriesBelow history j) → (getD history phase 0 ≡ w) × (w ≢ 0))
+from-lists : (history : List ℕ) (from count phase w : ℕ)
+    → 0 < countIf (isEntry phase w) (entriesFrom history from count)
+    → (getD history phase 0 ≡ w) × (w ≢ 0)
+unfolding entriesFrom countIf
+from-lists history from zero phase w h = absurd (omega arith)
+from-lists history from (suc count) phase w h =
+    go (decLt 0 (countIf (isEntry phase w) first)) (from-lists history (from + 1) count phase w)
+  where
+    first : List Entry
+    first = entryOf from (getD history from 0)
+
+    later : List Entry
+    later = entriesFrom history (from + 1) count
+
+    go : Dec (0 < countIf (isEntry phase w) first)
+        → (0 < countIf (isEntry phase w) later → (getD history phase 0 ≡ w) × (w ≢ 0))
         → (getD history phase 0 ≡ w) × (w ≢ 0)
-    go (yes y) rec =
-        let e = entry-lists j (getD history j 0) phase w y in
+    go (yes here) rec =
+        let e = entry-lists from (getD history from 0) phase w here in
         (ap (λ x. getD history x 0) (sym (e .0)) ∙ e .1, λ z. e .2 (e .1 ∙ z))
-    go (no y) rec = rec (omega (arith, count-append (isEntry phase w) (entriesBelow history j) last))
+    go (no here) rec = rec (omega (arith, count-append (isEntry phase w) first later))
 
 pub said-lists : (class : Class) (history : List ℕ) (phase w x v t : ℕ)
     → T (lists w x (record { vote = v; stamp = t; entries = entriesSaid class history phase }))
@@ -145,36 +151,40 @@ pub said-lists : (class : Class) (history : List ℕ) (phase w x v t : ℕ)
 unfolding lists countIf
 said-lists one history phase w x v t h = absurd h
 said-lists two history phase w x v t h = absurd h
-said-lists three history phase w x v t h = below-lists history phase x w (ltb→lt 0 _ h)
+said-lists three history phase w x v t h = from-lists history 0 phase x w (ltb→lt 0 _ h)
 
-pub lists-below : (history : List ℕ) (j phase v : ℕ) → phase < j → getD history phase 0 ≡ v → v ≢ 0
-    → 0 < countIf (isEntry phase v) (entriesBelow history j)
-unfolding entriesBelow countIf
-lists-below history zero phase v l e d = absurd (omega arith)
-lists-below history (suc j) phase v l e d = go (ℕ-discrete phase j) (λ h. lists-below history j phase v h e d)
+-- a plan of the history is listed at its phase
+pub lists-from : (history : List ℕ) (from count phase v : ℕ) → from ≤ phase → phase < from + count
+    → getD history phase 0 ≡ v → v ≢ 0 → 0 < countIf (isEntry phase v) (entriesFrom history from count)
+unfolding entriesFrom countIf
+lists-from history from zero phase v l h e d = absurd (omega arith)
+lists-from history from (suc count) phase v l h e d =
+    go (ℕ-discrete phase from) (λ late. lists-from history (from + 1) count phase v late (omega arith) e d)
   where
-    it : ℕ → Entry
-    it x = record { phase = j; plan = x }
+    first : List Entry
+    first = entryOf from (getD history from 0)
 
-    sum : countIf (isEntry phase v) (entriesBelow history j ++ entryOf j (getD history j 0))
-        ≡ countIf (isEntry phase v) (entriesBelow history j) + countIf (isEntry phase v) (entryOf j (getD history j 0))
-    sum = count-append (isEntry phase v) (entriesBelow history j) (entryOf j (getD history j 0))
+    later : List Entry
+    later = entriesFrom history (from + 1) count
 
-    go : Dec (phase ≡ j) → (phase < j → 0 < countIf (isEntry phase v) (entriesBelow history j))
-        → 0 < countIf (isEntry phase v) (entriesBelow history j ++ entryOf j (getD history j 0))
-    go (no y) rec = omega (arith, sum, rec (omega arith))
+    it : Entry
+    it = record { phase = from; plan = getD history from 0 }
+
+    full : 1 ≤ getD history from 0 → first ≡ it ∷ []
+    full e = rw (le-leb 1 _ e)
+
+    go : Dec (phase ≡ from) → (from + 1 ≤ phase → 0 < countIf (isEntry phase v) later)
+        → 0 < countIf (isEntry phase v) (first ++ later)
+    go (no y) rec = omega (arith, count-append (isEntry phase v) first later, rec (omega arith))
     go (yes y) rec =
-        let same : getD history j 0 ≡ v = ap (λ x. getD history x 0) (sym y) ∙ e in
-        elim (ifPlan-is (getD history j 0) (it (getD history j 0) ∷ []) []) [
-          | inl z ↦ absurd (d (omega arith))
-          | inr z ↦ omega (
-            arith,
-            sum,
-            ap (countIf (isEntry phase v)) (z .1),
-            bit-T (isEntry phase v (it (getD history j 0)))
-                (T-and (eqb j phase) (eqb (getD history j 0) v) (omega tests) (omega tests)),
-          )
-        ]
+        let same : getD history from 0 ≡ v = ap (λ x. getD history x 0) (sym y) ∙ e in
+        let there : 1 ≤ getD history from 0 = omega (arith, d) in
+        omega (
+          arith,
+          count-append (isEntry phase v) first later,
+          ap (countIf (isEntry phase v)) (full there),
+          bit-T (isEntry phase v it) (T-and (eqb from phase) (eqb (getD history from 0) v) (omega tests) (omega tests)),
+        )
 
 -- A node that begins has an empty history after phase 0.
 

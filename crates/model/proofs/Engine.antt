@@ -1,5 +1,6 @@
--- Runs of the abstract engine: honest nodes by number, whole rounds, inboxes that anybody may fill, decisions and good
--- phases. Document 01, 'The list in demand 3' and 'Good phase'.
+-- Runs of the abstract engine: voters by number, rounds that all of them take, inboxes that anybody may fill, decisions
+-- and good phases. A list of calls on bytes is proved to be such a run in crate agreement (proofs/Simulation), whose
+-- Statement has 01's words for all of this. Nothing here has to be believed.
 use mathlib.Core.Path.{_≡_}
 use mathlib.Core.Bool.{Bool, cond, not}
 use mathlib.Core.Logic.{_≢_}
@@ -15,7 +16,7 @@ use Rattle.ballot.specs.Count.{tally, countIf}
 use Rattle.ballot.specs.Ballot.{Ballot, inbox, sameBallot}
 use Rattle.ballot.specs.Validation.{validated}
 use Rattle.ballot.specs.Decision.{decides}
-use Rattle.model.specs.Node.{Node, Round, selecting, validating, deciding, begin, say, turn}
+use Rattle.model.proofs.Voter.{Voter, Round, selecting, validating, deciding, opened, say, turn}
 
 -- every one of these nodes
 abbrev pub Each : Crew → (ℕ → Bool) → (ℕ → Type 0) → Type 0
@@ -25,33 +26,33 @@ Each crew nodes P = (q : ℕ) → q < crew .n → T (nodes q) → P q
 pub record State : Type 0 where
   pub phase : ℕ
   pub round : Round
-  pub node : ℕ → Node
+  pub node : ℕ → Voter
 
 -- what stands in the slot of sender q in the inbox of receiver p, for each p and q
 abbrev pub Inboxes : Type 0
 Inboxes = ℕ → ℕ → Option Ballot
 
--- 01: "Class 1 goes on to round 3, the others to round 2 and then 3." "Phase rises by 1, round is 1."
-abbrev pub roundAfter : Class → Round → Round
-roundAfter one selecting = deciding
-roundAfter two selecting = validating
-roundAfter three selecting = validating
-roundAfter class validating = deciding
-roundAfter class deciding = selecting
+-- where a round leads
+abbrev pub nextRound : Class → Round → Round
+nextRound one selecting = deciding
+nextRound two selecting = validating
+nextRound three selecting = validating
+nextRound class validating = deciding
+nextRound class deciding = selecting
 
-abbrev pub phaseAfter : Round → ℕ → ℕ
-phaseAfter selecting phase = phase
-phaseAfter validating phase = phase
-phaseAfter deciding phase = suc phase
+abbrev pub nextPhase : Round → ℕ → ℕ
+nextPhase selecting phase = phase
+nextPhase validating phase = phase
+nextPhase deciding phase = suc phase
 
 -- every node takes the round
-abbrev pub turned : Class → Crew → Inboxes → ℕ → Round → (ℕ → Node) → ℕ → Node
+abbrev pub turned : Class → Crew → Inboxes → ℕ → Round → (ℕ → Voter) → ℕ → Voter
 turned class crew inboxes phase round nodes q = turn class crew phase round (inbox crew (inboxes q)) (nodes q)
 
 abbrev pub step : Class → Crew → Inboxes → State → State
 step class crew inboxes s = record {
-  phase = phaseAfter (s .round) (s .phase);
-  round = roundAfter class (s .round);
+  phase = nextPhase (s .round) (s .phase);
+  round = nextRound class (s .round);
   node = turned class crew inboxes (s .phase) (s .round) (s .node);
 }
 
@@ -84,14 +85,12 @@ pub record Run : Type 0 where
 abbrev pub class : Run → Class
 class run = classOf (run .crew)
 
--- 01: "phase 1, round 1"
-abbrev pub start : (ℕ → ℕ) → State
-start plans = record { phase = 1; round = selecting; node = λ q. begin (plans q) }
+abbrev pub opening : (ℕ → ℕ) → State
+opening plans = record { phase = 1; round = selecting; node = λ q. opened (plans q) }
 
--- The state when round j begins.
--- 01: "When the records are spent, every call is refused with 8 and the round leaves all as it was."
+-- the state when round j begins; in the last phase no round changes it
 unfoldable pub state : Run → ℕ → State
-state run zero = start (run .plans)
+state run zero = opening (run .plans)
 state run (suc j) =
     cond (ltb (state run j .phase) spentPhase)
     (step (class run) (run .crew) (run .rounds j) (state run j))
@@ -109,49 +108,43 @@ validatedAt run j p = validated (run .crew) (inbox (run .crew) (run .rounds j p)
 abbrev pub DecidesAt : Run → ℕ → ℕ → ℕ → Type 0
 DecidesAt run j p v = Held run j × Decides (class run) (run .crew) (run .rounds j) (state run j) p v
 
--- 01: "A node has decided when, in some round 3 that it took, at least D counting slots held one plan"
-abbrev pub Decided : Run → ℕ → Type 0
-Decided run p = (j : ℕ) × (v : ℕ) × DecidesAt run j p v
+abbrev pub HasDecided : Run → ℕ → Type 0
+HasDecided run p = (j : ℕ) × (v : ℕ) × DecidesAt run j p v
 
-abbrev pub Undecided : Run → ℕ → ℕ → Type 0
-Undecided run p j = (i v : ℕ) → i < j → DecidesAt run i p v → ⊥
+abbrev pub NotYet : Run → ℕ → ℕ → Type 0
+NotYet run p j = (i v : ℕ) → i < j → DecidesAt run i p v → ⊥
 
--- 01: "The plan it decided is the least such plan of the first such round": v, in the first j rounds
-pub record PlanDecided (run : Run) (p j v : ℕ) : Type 0 where
+-- the first decision in the first j rounds is v, and no lower plan is decided in its round
+pub record FirstDecision (run : Run) (p j v : ℕ) : Type 0 where
   pub round : ℕ
   pub before : round < j
   pub decides : DecidesAt run round p v
   pub least : (w : ℕ) → DecidesAt run round p w → v ≤ w
-  pub first : Undecided run p round
+  pub first : NotYet run p round
 
--- 01: "Its standing result is its record's result after the list."
-abbrev pub standing : Run → ℕ → ℕ
-standing run p = state run (run .total) .node p .result
+abbrev pub lastResult : Run → ℕ → ℕ
+lastResult run p = state run (run .total) .node p .result
 
--- What demand 3 supposes of a list of rounds.
+-- What the theorems suppose of a run.
 pub record Admissible (run : Run) : Type 0 where
   pub crew-accepted : acceptOf (run .crew) ≡ accepted tt
   -- at most b nodes are not honest
   pub few : tally (λ q. not (run .honest q)) (run .crew .n) ≤ run .crew .b
   pub faithful : (j : ℕ) → Held run j
       → Faithful (class run) (run .crew) (run .honest) (run .rounds j) (state run j)
-  -- 01, bounds of a message: "plans not 0"
+  -- no message has plan 0
   pub plans : (j : ℕ) → Held run j → Each (run .crew) (run .honest) λ p.
       (q : ℕ) → q < run .crew .n → (m : Ballot) → run .rounds j p q ≡ some m → m .vote ≢ 0
 
--- The phase is good for this circle.
-pub record Good (run : Run) (phase : ℕ) (circle : ℕ → Bool) : Type 0 where
-  -- 01: "there is a circle of at least n − b − f honest nodes"
+-- The phase is good for this circle of voters: it has enough of them, all of its rounds are in the run, in the first
+-- they hear the same, and in each they hear one another.
+pub record GoodFor (run : Run) (phase : ℕ) (circle : ℕ → Bool) : Type 0 where
   pub inside : Each (run .crew) circle (λ q. T (run .honest q))
   pub wide : run .crew .n ≤ tally circle (run .crew .n) + run .crew .b + run .crew .f
-  -- 01: "A good phase has all its rounds in the list."
-  pub listed : (j : ℕ) → state run j .phase ≡ phase → j < run .total
-  -- 01: "In round 1 all of them have the same counting messages, each in as many slots of one inbox as of another"
+  pub complete : (j : ℕ) → state run j .phase ≡ phase → j < run .total
   pub equal : (j : ℕ) → state run j .phase ≡ phase → state run j .round ≡ selecting
       → Each (run .crew) circle λ p. Each (run .crew) circle λ q. (m : Ballot)
       → countIf (sameBallot m) (inbox (run .crew) (run .rounds j p))
       ≡ countIf (sameBallot m) (inbox (run .crew) (run .rounds j q))
-  -- 01: "every circle node's slot counts in each. In rounds 2 and 3 the slot of every circle node that is not silent
-  -- counts in every circle node's inbox." In round 1 nobody is silent
   pub counts : (j : ℕ) → state run j .phase ≡ phase → Each (run .crew) circle λ p. Each (run .crew) circle λ q.
       saying (class run) (run .crew) (state run j) q ≢ none → run .rounds j p q ≢ none
