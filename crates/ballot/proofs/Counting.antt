@@ -8,9 +8,10 @@ use Prim.Native.Nat.{ℕ, zero, suc, _+_, _≤_, _<_}
 use native.Mathlib.Omega.{arith}
 use native.Mathlib.Decide.{ℕ-discrete, decLe, decLt}
 use lib.ListN.{length}
-use lib.Dec.{T, ltb}
+use lib.Dec.{T, ltb, leb}
 use Rattle.wire.proofs.Tests.{tests}
 use Rattle.ballot.specs.Count.{bit, tally, countIf, holds, push, gather}
+use Rattle.ballot.proofs.Tests.{and-T, T-and, T-dec}
 
 -- One test.
 
@@ -241,6 +242,34 @@ module _ {A : Type 0} where
       go a top (no h) =
           let lower = count-le (λ k. ltb (g x) (g k)) (λ k. ltb (g a) (g k)) (y ∷ l) (λ k t. omega tests) in
           (x, (omega (arith, not-above g x x (omega arith), top .0), λ p t. omega (arith, bit-T (p x) t)))
+
+  -- a passes p, and g is at no element of the list that passes lower than at a
+  abbrev pub Lowest : (A → Bool) → (A → ℕ) → List A → A → Type 0
+  Lowest p g l a = T (p a) × (countIf p l ≤ countIf (λ k. p k && leb (g a) (g k)) l)
+
+  -- a list with an element that passes has such a lowest one
+  pub count-lowest : (p : A → Bool) (g : A → ℕ) (l : List A) → 0 < countIf p l → (a : A) × Lowest p g l a
+  unfolding countIf
+  count-lowest p g [] h = absurd (omega arith)
+  count-lowest p g (x ∷ l) h = go (T-dec (p x)) (decLt 0 (countIf p l)) (count-lowest p g l)
+    where
+      own : (n : ℕ) → T (p x) → n ≤ g x → bit (p x && leb n (g x)) ≡ 1
+      own n t h = bit-T (p x && leb n (g x)) (T-and (p x) (leb n (g x)) t (omega tests))
+
+      beside : T (p x) → (a : A) → Lowest p g l a → Dec (g a ≤ g x) → (a : A) × Lowest p g (x ∷ l) a
+      beside t a low (yes i) = (a, (low .0, omega (arith, bit-T (p x) t, own (g a) t i, low .1)))
+      beside t a low (no i) =
+          let above = count-le (λ k. p k && leb (g a) (g k)) (λ k. p k && leb (g x) (g k)) l λ k u.
+          let d = and-T (p k) (leb (g a) (g k)) u in T-and (p k) (leb (g x) (g k)) (d .0) (omega tests) in
+          (x, (t, omega (arith, bit-T (p x) t, own (g x) t (omega arith), low .1)))
+
+      go : T (p x) ⊎ (T (p x) → ⊥) → Dec (0 < countIf p l) → (0 < countIf p l → (a : A) × Lowest p g l a)
+          → (a : A) × Lowest p g (x ∷ l) a
+      go (inl t) (yes i) rec = let r = rec i in beside t (r .0) (r .1) (decLe (g (r .0)) (g x))
+      go (inl t) (no i) rec = (x, (t, omega (arith, bit-T (p x) t, own (g x) t (omega arith))))
+      go (inr t) i rec =
+          let r = rec (omega (arith, bit-F (p x) t)) in
+          (r .0, (r .1 .0, omega (arith, bit-F (p x) t, r .1 .1)))
 
   -- The same elements, each as often, in whatever order: every count is the same.
   abbrev pub Same : List A → List A → Type 0

@@ -3,6 +3,7 @@ pub mod Counting
 pub mod Least
 pub mod AnyPlan
 pub mod Selection
+pub mod Rivals
 pub mod Slots
 pub mod Validation
 pub mod Decision
