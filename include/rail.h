@@ -42,14 +42,18 @@ extern "C" {
 #define RAIL_WRONG_FIELDS 26   /* fields not RAIL_FIELDS bytes long */
 #define RAIL_NO_ENTRY 27       /* the message has no entry i */
 
-/* A record: its length, and where its fields stand. Numbers of two and four bytes are little-endian. */
+/*
+ * A record: its length, and where its fields stand, as crates/image/specs/Layout.antt has them. A field whose length is
+ * not said has one byte. Numbers of two and four bytes are little-endian, here and in messages. Any bytes of this
+ * length are the image of one record, and a record has one image: they may be stored, copied and compared as they are.
+ */
 #define RAIL_RECORD 149
 #define RAIL_RECORD_CLASS 0
 #define RAIL_RECORD_N 1
 #define RAIL_RECORD_B 2
 #define RAIL_RECORD_F 3
 #define RAIL_RECORD_D 4
-#define RAIL_RECORD_OWN 5
+#define RAIL_RECORD_OWN 5      /* own number */
 #define RAIL_RECORD_RUN 6      /* 4 bytes */
 #define RAIL_RECORD_PHASE 10   /* 1 to 63; 64 means spent */
 #define RAIL_RECORD_ROUND 11   /* the coming round: 1 selection, 2 validation, 3 decision */
@@ -63,7 +67,17 @@ extern "C" {
 /* An inbox has n slots of so many bytes; slot q belongs to port q. A buffer of a slot's length fits every message. */
 #define RAIL_SLOT 202
 
-/* The fields of a read message: their length, and where they stand. */
+/*
+ * A message has a header of 9 bytes: length (2, counting every byte of the message), kind (2), run (4) and phase (1).
+ * Then, from byte 9 on, by kind, as crates/message/specs/Layout.antt has it:
+ *   1 selection    vote (2), stamp (1), k (1), k entries of phase (1) and plan (2)    13 + 3k bytes, k at most 63
+ *   2 validation   plan (2)                                                           11 bytes
+ *   3 decision     vote (2), stamp (1)                                                12 bytes
+ * Bounds: phase 1 to 63; plans not 0; stamp below the phase in kind 1, at most the phase in kind 3; entries whose
+ * phases rise strictly and are below the message's phase. Bytes after the length are ignored.
+ */
+
+/* The fields of a read message: their length, and where they stand. rail_entry tells the entries. */
 #define RAIL_FIELDS 10
 #define RAIL_FIELDS_KIND 0  /* 1 selection, 2 validation, 3 decision */
 #define RAIL_FIELDS_RUN 1   /* 4 bytes */

@@ -1,4 +1,4 @@
-//! Records as images and messages as fields, both bytes, written from the layout in docs/LINKING.md and not by the
+//! Records as images and messages as fields, both bytes, written from the layout in include/rail.h and not by the
 //! archive.
 
 use rail::{FIELDS, RECORD};
