@@ -1,5 +1,6 @@
 //! Times the proved engine's archive against the second engine, both in this one run, on the same inboxes, in turn.
-//! docs/BENCHMARK.md says what is measured. Usage: benchmark [REPETITIONS]; it prints the tables of that page.
+//! docs/BENCHMARK.md says what is measured. Usage: benchmark [REPETITIONS]; it prints the summary that the page holds,
+//! then the whole tables.
 
 use archive::engine::numbers;
 use archive::{image, Archive};
@@ -77,7 +78,8 @@ fn main() {
             }
         }
     }
-    print_rows(&rows, repetitions);
+    print_summary(&rows, repetitions);
+    print_rows(&rows);
     print_growth(&rows);
     print_image(repetitions);
 }
@@ -206,14 +208,45 @@ fn median(mut numbers: Vec<f64>) -> f64 {
     numbers[numbers.len() / 2]
 }
 
-fn print_rows(rows: &[Row], repetitions: usize) {
-    let ratios: Vec<f64> = rows.iter().flat_map(|row| row.times).map(|times| times.ratio).collect();
-    let above = ratios.iter().filter(|&&ratio| ratio > 1.0).count();
-    let highest = ratios.iter().copied().fold(0.0, f64::max);
+/// The ratios of both phases and all inboxes, by operation, class and round: the table of docs/BENCHMARK.md.
+fn print_summary(rows: &[Row], repetitions: usize) {
+    let all = ratios(rows);
+    let above = all.iter().filter(|&&ratio| ratio > 1.0).count();
+    println!("## Summary");
+    println!();
+    println!("A ratio is the median of {repetitions} repetitions. Above 1.0: {above} of {}.", all.len());
+    println!();
+    println!("| | class | round | n = 4 | n = 16 | n = 32 | median |");
+    println!("|---|---|---|---|---|---|---|");
+    for group in rows.chunks_exact(PHASES.len() * CREWS[0].len()) {
+        let Row { operation, crew, round, .. } = group[0];
+        print!("| {} | {} | {round} ", name(operation), crew.class);
+        print_ranges(group);
+    }
+    print!("| all | | ");
+    print_ranges(rows);
+    println!();
+}
+
+/// The rest of a row of the summary: the ratios' range for each n, and the median of all.
+fn print_ranges(rows: &[Row]) {
+    for n in CREWS[0].map(|crew| crew.n) {
+        let ratios = ratios(rows.iter().filter(|row| row.crew.n == n));
+        let least = ratios.iter().copied().fold(f64::INFINITY, f64::min);
+        let most = ratios.iter().copied().fold(0.0, f64::max);
+        print!("| {least:.2} to {most:.2} ");
+    }
+    println!("| {:.2} |", median(ratios(rows)));
+}
+
+fn ratios<'a>(rows: impl IntoIterator<Item = &'a Row>) -> Vec<f64> {
+    rows.into_iter().flat_map(|row| row.times).map(|times| times.ratio).collect()
+}
+
+fn print_rows(rows: &[Row]) {
     println!("## Times");
     println!();
-    println!("Nanoseconds, medians of {repetitions} repetitions.");
-    println!("Ratios above 1.0: {above} of {}. The highest is {highest:.2}.", ratios.len());
+    println!("Nanoseconds.");
     println!();
     print!("| | class | round | phase | n | agreed: engine | second | ratio | mixed: engine | second | ratio ");
     println!("| gaps: ratio | stamps: ratio | floor |");
