@@ -2,3 +2,4 @@ pub mod Tests
 pub mod Outcomes
 pub mod Numbers
 pub mod Stores
+pub mod Arrays
