@@ -3,7 +3,7 @@ use mathlib.Core.Path.{_≡_, refl, sym, ap, _∙_, subst}
 use mathlib.Core.Bool.{cond}
 use mathlib.Core.List.{List, [], _∷_}
 use mathlib.Core.Logic.{inl, inr, _≢_}
-use mathlib.Core.Option.{Option, none, some}
+use mathlib.Core.Option.{Option, none, some, Option·none-ne-some}
 use Prim.Native.Nat.{ℕ, _*_, _<_}
 use native.Mathlib.Omega.{arith}
 use native.Mathlib.Decide.{decLt}
@@ -87,14 +87,11 @@ refused-keeps d refuses (take-round inbox ∷ cs) =
 
 -- Inboxes are taken in rounds of the list only.
 
-pub none-taken : {bytes : List ℕ} → _≡_ {A = Option (List ℕ)} none (some bytes) → ⊥
-none-taken e = let z : _≡_ {A = ℕ} 0 1 = cc in omega arith
-
 pub taken-inside : (l : Execution) (p j : ℕ) (bytes : List ℕ) → inboxAt l p j ≡ some bytes → j < length (l .rounds)
 unfolding callsOf takenInbox
 taken-inside l p j bytes e = elim (decLt j (length (l .rounds))) [
   | yes inside ↦ inside
   | no end ↦
       let no-calls = List·getD-eq-default (l .rounds) [] {n = j} (omega arith) in
-      absurd (none-taken (sym (ap (λ es. takenInbox (recordAt l p j) (callsOf p es)) no-calls) ∙ e))
+      absurd (Option·none-ne-some _ (sym (ap (λ es. takenInbox (recordAt l p j) (callsOf p es)) no-calls) ∙ e))
 ]

@@ -3,7 +3,7 @@
 use mathlib.Core.Path.{_≡_, refl, sym, ap, _∙_, subst}
 use mathlib.Core.List.{List}
 use mathlib.Core.Logic.{_⊎_, inl, inr, _↔_}
-use mathlib.Core.Option.{none, some}
+use mathlib.Core.Option.{none, some, Option·none-ne-some}
 use Prim.Native.Nat.{ℕ}
 use native.Mathlib.Omega.{arith}
 use native.Mathlib.Decide.{decLt}
@@ -28,7 +28,7 @@ use Rattle.inbox.specs.Inbox.{ballotAt}
 use Rattle.agreement.specs.Statement.{Execution, answerTo, made, honest, recordOf, recordAt}
 use Rattle.agreement.specs.Statement.{inboxAt, phaseAt, Every, Premises, isFor, Wins, Decided, PlanDecided}
 use Rattle.agreement.specs.Statement.{standing}
-use Rattle.agreement.proofs.Calls.{none-taken, taken-inside}
+use Rattle.agreement.proofs.Calls.{taken-inside}
 use Rattle.agreement.proofs.Starts.{started}
 use Rattle.agreement.proofs.Places.{place-early}
 use Rattle.agreement.proofs.Simulation.{slotIn, said, runOf, follows, honest-below, took, took-none}
@@ -59,7 +59,9 @@ module _ (l : Execution) (crew : Crew) (run : ℕ) (pre : Premises l crew run) w
       let inside = taken-inside l p j bytes e in
       elim (decLt (state (runOf l crew) j .phase) spentPhase) [
         | yes left ↦ (inside, left)
-        | no spent ↦ absurd (none-taken (sym (took-none l crew run pre p j h (omega arith) (omega arith)) ∙ e))
+        | no spent ↦
+            let nothing = took-none l crew run pre p j h (omega arith) (omega arith) in
+            absurd (Option·none-ne-some _ (sym nothing ∙ e))
       ]
 
   -- the engine's rule decides v, by what p heard in round j

@@ -1,15 +1,14 @@
 -- The drill's example of document 01 as a list of calls on bytes: it meets the premises of demand 3, so that they
 -- can be met, and the three honest nodes end with 5. Crew 3,4,1,0,3 and plans 5 5 5 0; nobody sends for node 3.
 use mathlib.Core.Path.{_≡_, refl, sym, ap, _∙_, subst}
-use mathlib.Core.Bool.{Bool, true, not, _&&_}
+use mathlib.Core.Bool.{Bool, true, false, not, _&&_}
 use mathlib.Core.List.{List, [], _∷_, _++_}
-use mathlib.Core.Logic.{inl, inr}
-use mathlib.Core.Option.{Option, some}
+use mathlib.Core.Option.{Option, none, some, Option·some-injective}
 use Prim.Native.Nat.{ℕ, zero, suc, _+_, _≤_, _<_}
 use native.Mathlib.Omega.{arith}
 use native.Mathlib.Decide.{decLt}
 use lib.ListN.{length, drop, replicate}
-use lib.Dec.{T, ltb, ltb→lt}
+use lib.Dec.{T, ltb, eqb, ltb→lt, eqb→eq}
 use borrow.Author.Tests.{ne-eqb}
 use Rattle.wire.specs.Sizes.{planLimit, runLimit}
 use Rattle.wire.specs.Outcome.{accepted, refused}
@@ -22,13 +21,15 @@ use Rattle.message.specs.Bounds.{entriesOk}
 use Rattle.message.specs.Encoding.{entryBytes, encode}
 use Rattle.message.specs.Reading.{entriesIn, bodyAt, tested, readOf}
 use Rattle.wire.specs.Entry.{entriesFrom}
-use Rattle.ballot.specs.Count.{tally, countIf, gather}
+use Rattle.ballot.specs.Count.{tally, countIf, holds, gather}
 use Rattle.ballot.specs.Ballot.{Ballot, lists, sameBallot}
 use Rattle.ballot.specs.Least.{least, leastOf}
 use Rattle.ballot.specs.Selection.{possible, backed, backing, enough, selection, leading, mostVoted, anyPlan, taken}
 use Rattle.ballot.specs.Validation.{valid, validated}
 use Rattle.ballot.specs.Decision.{decides, decision}
-use Rattle.ballot.proofs.Tests.{and-T}
+use Rattle.wire.proofs.Tests.{and-T}
+use Rattle.ballot.proofs.Tests.{holds-T}
+use Rattle.wire.proofs.Numbers.{allBytes, are-bytes}
 use Rattle.node.specs.Record.{begun}
 use Rattle.node.specs.Soundness.{emptyFrom, sound}
 use Rattle.node.specs.Starting.{startOf}
@@ -40,14 +41,16 @@ use Rattle.agreement.specs.Statement.{made, honest, recordOf}
 use Rattle.agreement.specs.Statement.{afterCalls, callsOf, calls, recordAt, takenInbox, inboxAt, Wrote, Whole}
 use Rattle.agreement.specs.Statement.{answerTo, numbered, Every, Premises, standing, heard, Good, Conclusions}
 use Rattle.agreement.proofs.Calls.{taken-inside}
+use Rattle.agreement.proofs.Checking.{sameBytes, same-bytes, everyBelow, every-below, wroteFront, wrote-front}
+use Rattle.agreement.proofs.Checking.{onlyAsks, isWhole, whole-is}
 use Rattle.agreement.proofs.Demand.{demand3}
 
-abbrev crew : Crew
+abbrev pub crew : Crew
 crew = crewOf 3 4 1 0 3
 
 -- The messages of the three rounds of phase 1, byte by byte: all three nodes write the same.
 
-abbrev message : ℕ → List ℕ
+abbrev pub message : ℕ → List ℕ
 -- selection: vote 5, stamp 0, one entry, 5 at phase 0
 message zero = 16 ∷ 0 ∷ 1 ∷ 0 ∷ 1 ∷ 0 ∷ 0 ∷ 0 ∷ 1 ∷ 5 ∷ 0 ∷ 0 ∷ 1 ∷ 0 ∷ 5 ∷ 0 ∷ []
 -- validation: plan 5
@@ -55,11 +58,11 @@ message (suc zero) = 11 ∷ 0 ∷ 2 ∷ 0 ∷ 1 ∷ 0 ∷ 0 ∷ 0 ∷ 1 ∷ 5 �
 -- decision: vote 5, stamp 1
 message (suc (suc j)) = 12 ∷ 0 ∷ 3 ∷ 0 ∷ 1 ∷ 0 ∷ 0 ∷ 0 ∷ 1 ∷ 5 ∷ 0 ∷ 1 ∷ []
 
-abbrev buffer : List ℕ
+abbrev pub buffer : List ℕ
 buffer = replicate slotSize 0
 
 -- a slot holds the message at its front; the last slot is empty
-abbrev slot : ℕ → List ℕ
+abbrev pub slot : ℕ → List ℕ
 slot j = message j ++ drop (length (message j)) buffer
 
 abbrev box : ℕ → List ℕ
@@ -97,17 +100,59 @@ three P a b c (suc zero) h = b
 three P a b c (suc (suc zero)) h = c
 three P a b c (suc (suc (suc i))) h = absurd (omega arith)
 
--- 01's whole output: the results are 0 after rounds 1 and 2, and 5 after round 3
-pub drill-decides : (p : ℕ) → p < 3
-    → (recordAt drill p 1 .result ≡ 0) × (recordAt drill p 2 .result ≡ 0) × (standing drill p ≡ 5)
+-- One test that computes all that the premises ask of the rounds, and the results.
+
+abbrev isBox : Option (List ℕ) → List ℕ → Bool
+isBox none expected = false
+isBox (some inbox) expected = sameBytes inbox expected
+
+module _ (p j : ℕ) where
+  -- node p takes the inbox of round j
+  abbrev takesOk : Bool
+  takesOk = isBox (inboxAt drill p j) (box j)
+
+  -- its own slot there holds what it wrote
+  abbrev wroteOk : Bool
+  wroteOk = wroteFront (recordAt drill p j) (calls drill p j) (slotAt (box j) p)
+
+  -- it goes through the whole round
+  abbrev wholeOk : Bool
+  wholeOk = isWhole 4 (calls drill p j)
+
+  -- the slots of nodes 0, 1 and 2 count for it
+  abbrev countsOk : ℕ → Bool
+  countsOk q = holds (λ m. true) (ballotAt (recordAt drill p j) (box j) q)
+
+  unfoldable roundOk : Bool
+  roundOk = takesOk && wroteOk && wholeOk && everyBelow countsOk 3
+
+-- the results are 0 after rounds 1 and 2, and 5 after round 3
+abbrev earlyOk : ℕ → Bool
+earlyOk p = eqb (recordAt drill p 1 .result) 0 && eqb (recordAt drill p 2 .result) 0
+
+unfoldable resultsOk : ℕ → Bool
+resultsOk p = earlyOk p && eqb (standing drill p) 5
+
+all-ok : T (everyBelow (λ p. everyBelow (roundOk p) 3 && resultsOk p) 3)
 unfolding
-    acceptOf startOf begun made recordOf callsOf recordAt afterCalls
+    acceptOf startOf begun made recordOf callsOf recordAt afterCalls takenInbox
     takeOf sound emptyFrom afterRound readOf tested bodyAt entriesIn entriesOk countIf gather
     lists least leastOf possible backed backing enough selection leading mostVoted anyPlan taken
-    valid validated decides decision
-drill-decides =
-    three (λ p. (recordAt drill p 1 .result ≡ 0) × (recordAt drill p 2 .result ≡ 0) × (standing drill p ≡ 5))
-    (refl, refl, refl) (refl, refl, refl) (refl, refl, refl)
+    valid validated decides decision comingOf writeComingOf encode entryBytes entriesFrom
+    sameBytes everyBelow wroteFront onlyAsks isWhole roundOk resultsOk
+all-ok = tt
+
+node-ok : (p : ℕ) → p < 3 → T (everyBelow (roundOk p) 3) × T (resultsOk p)
+node-ok p h = and-T (everyBelow (roundOk p) 3) (resultsOk p) (every-below _ 3 all-ok p h)
+
+-- 01's whole output
+pub drill-decides : (p : ℕ) → p < 3
+    → (recordAt drill p 1 .result ≡ 0) × (recordAt drill p 2 .result ≡ 0) × (standing drill p ≡ 5)
+unfolding resultsOk
+drill-decides p h =
+    let all = and-T (earlyOk p) (eqb (standing drill p) 5) (node-ok p h .1) in
+    let early = and-T (eqb (recordAt drill p 1 .result) 0) (eqb (recordAt drill p 2 .result) 0) (all .0) in
+    (eqb→eq _ 0 (early .0), eqb→eq _ 0 (early .1), eqb→eq _ 5 (all .1))
 
 -- the refused start, write and take
 pub drill-refuses : (answerTo (begins 3 0) ≡ refused 6)
@@ -117,40 +162,36 @@ unfolding acceptOf startOf begun made recordOf recordAt sound emptyFrom writeCom
     entriesFrom
 drill-refuses = (refl, refl, refl)
 
--- The premises, computed.
+-- The premises.
 
--- a fact of each of three nodes in each of three rounds
-nine : (P : ℕ → ℕ → Type 0) → P 0 0 → P 0 1 → P 0 2 → P 1 0 → P 1 1 → P 1 2 → P 2 0 → P 2 1 → P 2 2
-    → (p : ℕ) → p < 3 → (j : ℕ) → j < 3 → P p j
-nine P a b c d e f g h i =
-    three (λ p. (j : ℕ) → j < 3 → P p j) (three (P 0) a b c) (three (P 1) d e f) (three (P 2) g h i)
+-- What the test says of node p in round j.
+record Goes (p j : ℕ) : Type 0 where
+  takes : inboxAt drill p j ≡ some (box j)
+  wrote : (written : List ℕ) × (rest : List ℕ) × Wrote (recordAt drill p j) (calls drill p j) written
+      × (slotAt (box j) p ≡ written ++ rest)
+  whole : Whole 4 (calls drill p j)
+  hears : (q : ℕ) → q < 3 → (m : Ballot) × (ballotAt (recordAt drill p j) (box j) q ≡ some m)
 
--- Node p in round j takes the inbox, has written the message, which stands at the front of its slot, and goes through
--- the whole round.
-abbrev Goes : ℕ → ℕ → Type 0
-Goes p j =
-    (inboxAt drill p j ≡ some (box j))
-    × Wrote (recordAt drill p j) (calls drill p j) (message j)
-    × (slotAt (box j) p ≡ slot j)
-    × Whole 4 (calls drill p j)
+box-is : (taken : Option (List ℕ)) (expected : List ℕ) → T (isBox taken expected) → taken ≡ some expected
+box-is none expected t = absurd t
+box-is (some inbox) expected t = ap some (same-bytes inbox expected t)
 
 goes : (p : ℕ) → p < 3 → (j : ℕ) → j < 3 → Goes p j
-unfolding
-    acceptOf startOf begun made recordOf callsOf recordAt afterCalls takenInbox
-    takeOf sound emptyFrom afterRound readOf tested bodyAt entriesIn entriesOk countIf gather
-    lists least leastOf possible backed backing enough selection leading mostVoted anyPlan taken
-    valid validated decides decision comingOf writeComingOf encode entryBytes entriesFrom
-goes =
-    nine Goes
-    (refl, inr (inl (refl, omega arith, refl)), refl, inr (λ e. omega arith, inl (refl, tt)))
-    (refl, inr (inl (refl, omega arith, refl)), refl, inr (λ e. omega arith, inl (refl, tt)))
-    (refl, inr (inl (refl, omega arith, refl)), refl, inr (λ e. omega arith, inl (refl, tt)))
-    (refl, inr (inl (refl, omega arith, refl)), refl, inr (λ e. omega arith, inl (refl, tt)))
-    (refl, inr (inl (refl, omega arith, refl)), refl, inr (λ e. omega arith, inl (refl, tt)))
-    (refl, inr (inl (refl, omega arith, refl)), refl, inr (λ e. omega arith, inl (refl, tt)))
-    (refl, inr (inl (refl, omega arith, refl)), refl, inr (λ e. omega arith, inl (refl, tt)))
-    (refl, inr (inl (refl, omega arith, refl)), refl, inr (λ e. omega arith, inl (refl, tt)))
-    (refl, inr (inl (refl, omega arith, refl)), refl, inr (λ e. omega arith, inl (refl, tt)))
+unfolding roundOk
+goes p h j i =
+    let all = every-below (roundOk p) 3 (node-ok p h .0) j i in
+    let counts = and-T (takesOk p j && wroteOk p j && wholeOk p j) (everyBelow (countsOk p j) 3) all in
+    let whole = and-T (takesOk p j && wroteOk p j) (wholeOk p j) (counts .0) in
+    let wrote = and-T (takesOk p j) (wroteOk p j) (whole .0) in
+    record {
+      takes = box-is (inboxAt drill p j) (box j) (wrote .0);
+      wrote = wrote-front (recordAt drill p j) (calls drill p j) (slotAt (box j) p) (wrote .1);
+      whole = whole-is 4 (calls drill p j) (whole .1);
+      hears = λ q l.
+          let at-q = every-below (countsOk p j) 3 (counts .1) q l in
+          let there = holds-T (λ m. true) (ballotAt (recordAt drill p j) (box j) q) at-q in
+          (there .0, there .1);
+    }
 
 -- the honest nodes are 0, 1 and 2
 nobody-else : (q : ℕ) → 3 ≤ q → numbered q (made (drill .starts)) ≡ 0
@@ -182,31 +223,17 @@ accepted-crew : acceptOf crew ≡ accepted tt
 unfolding acceptOf
 accepted-crew = refl
 
--- the inboxes hold bytes
-unfoldable pub allBytes : List ℕ → Bool
-allBytes [] = true
-allBytes (x ∷ s) = ltb x 256 && allBytes s
-
-pub are-bytes : (s : List ℕ) → T (allBytes s) → AreBytes s
-unfolding allBytes
-are-bytes [] t place = omega arith
-are-bytes (x ∷ s) t zero = ltb→lt x 256 (and-T (ltb x 256) (allBytes s) t .0)
-are-bytes (x ∷ s) t (suc place) = are-bytes s (and-T (ltb x 256) (allBytes s) t .1) place
-
 box-bytes : (j : ℕ) → AreBytes (box j)
 unfolding allBytes
 box-bytes zero = are-bytes (box 0) tt
 box-bytes (suc zero) = are-bytes (box 1) tt
 box-bytes (suc (suc j)) = are-bytes (box 2) tt
 
-same-box : (x y : List ℕ) → _≡_ {A = Option (List ℕ)} (some x) (some y) → x ≡ y
-same-box x y e = cc
-
 -- an inbox that was taken is that of one of the three rounds
 taken-box : (p j : ℕ) (inbox : List ℕ) → T (honest drill p) → inboxAt drill p j ≡ some inbox → (j < 3) × (box j ≡ inbox)
 taken-box p j inbox h e =
     let inside = taken-inside drill p j inbox e in
-    (inside, same-box (box j) inbox (sym (goes p (honest-three p h) j inside .0) ∙ e))
+    (inside, Option·some-injective (box j) inbox (sym (goes p (honest-three p h) j inside .takes) ∙ e))
 
 fits : (1 < runLimit) × (5 < planLimit)
 fits = (omega arith, omega arith)
@@ -218,12 +245,12 @@ drill-premises = record {
   one-crew = one-crew;
   distinct = one-each;
   few = one-byzantine;
-  whole = λ p j h inside early. goes p (honest-three p h) j inside .3;
+  whole = λ p j h inside early. goes p (honest-three p h) j inside .whole;
   bytes = λ p j h inbox e. subst AreBytes (taken-box p j inbox h e .1) (box-bytes j);
   slots = λ p q j hp hq inbox m hears.
       let t = taken-box p j inbox hp (hears .0) in
-      let g = goes q (honest-three q hq) j (t .0) in
-      (message j, drop (length (message j)) buffer, g .1, subst (λ x. slotAt x q ≡ slot j) (t .1) (g .2));
+      let own = goes q (honest-three q hq) j (t .0) .wrote in
+      (own .0, own .1, own .2, subst (λ x. slotAt x q ≡ own .0 ++ own .1) (t .1) (own .3));
 }
 
 -- Phase 1 is good, so that good phases can be had: the circle is 0, 1 and 2.
@@ -231,40 +258,16 @@ drill-premises = record {
 abbrev circle : ℕ → Bool
 circle p = ltb p 3
 
--- what a slot of round j says
-abbrev ballot : ℕ → Ballot
-ballot zero = record { vote = 5; stamp = 0; entries = record { phase = 0; plan = 5 } ∷ [] }
-ballot (suc zero) = record { vote = 5; stamp = 0; entries = [] }
-ballot (suc (suc j)) = record { vote = 5; stamp = 1; entries = [] }
-
--- the three slots count for node p in round j
-abbrev AllHeard : ℕ → ℕ → Type 0
-AllHeard p j = (q : ℕ) → q < 3 → ballotAt (recordAt drill p j) (box j) q ≡ some (ballot j)
-
-all-heard : (p : ℕ) → p < 3 → (j : ℕ) → j < 3 → AllHeard p j
-unfolding
-    acceptOf startOf begun made recordOf callsOf recordAt afterCalls
-    takeOf sound emptyFrom afterRound readOf tested bodyAt entriesIn entriesOk countIf gather
-    lists least leastOf possible backed backing enough selection leading mostVoted anyPlan taken
-    valid validated decides decision
-all-heard =
-    nine AllHeard
-    (three (λ q. ballotAt (recordAt drill 0 0) (box 0) q ≡ some (ballot 0)) refl refl refl)
-    (three (λ q. ballotAt (recordAt drill 0 1) (box 1) q ≡ some (ballot 1)) refl refl refl)
-    (three (λ q. ballotAt (recordAt drill 0 2) (box 2) q ≡ some (ballot 2)) refl refl refl)
-    (three (λ q. ballotAt (recordAt drill 1 0) (box 0) q ≡ some (ballot 0)) refl refl refl)
-    (three (λ q. ballotAt (recordAt drill 1 1) (box 1) q ≡ some (ballot 1)) refl refl refl)
-    (three (λ q. ballotAt (recordAt drill 1 2) (box 2) q ≡ some (ballot 2)) refl refl refl)
-    (three (λ q. ballotAt (recordAt drill 2 0) (box 0) q ≡ some (ballot 0)) refl refl refl)
-    (three (λ q. ballotAt (recordAt drill 2 1) (box 1) q ≡ some (ballot 1)) refl refl refl)
-    (three (λ q. ballotAt (recordAt drill 2 2) (box 2) q ≡ some (ballot 2)) refl refl refl)
+-- what a slot of round 1 says
+abbrev ballot : Ballot
+ballot = record { vote = 5; stamp = 0; entries = record { phase = 0; plan = 5 } ∷ [] }
 
 -- in round 1 the three hear the same
-same-heard : (p : ℕ) → p < 3 → heard drill p 0 ≡ ballot 0 ∷ ballot 0 ∷ ballot 0 ∷ []
+same-heard : (p : ℕ) → p < 3 → heard drill p 0 ≡ ballot ∷ ballot ∷ ballot ∷ []
 unfolding
     acceptOf startOf begun made recordOf callsOf recordAt takenInbox
     takeOf sound emptyFrom readOf tested bodyAt entriesIn entriesOk countIf gather
-same-heard = three (λ p. heard drill p 0 ≡ ballot 0 ∷ ballot 0 ∷ ballot 0 ∷ []) refl refl refl
+same-heard = three (λ p. heard drill p 0 ≡ ballot ∷ ballot ∷ ballot ∷ []) refl refl refl
 
 -- they are honest
 circle-honest : (p : ℕ) → p < 3 → T (honest drill p)
@@ -286,8 +289,9 @@ drill-good = record {
       (ap (countIf (sameBallot m)) (same-heard p (ltb→lt p 3 kp) ∙ sym (same-heard q (ltb→lt q 3 kq))));
   counts = λ j p q e kp kq loud.
       let inside : j < 3 = omega arith in
-      let hp = ltb→lt p 3 kp in
-      (box j, ballot j, (goes p hp j inside .0, all-heard p hp j inside q (ltb→lt q 3 kq)));
+      let node = goes p (ltb→lt p 3 kp) j inside in
+      let there = node .hears q (ltb→lt q 3 kq) in
+      (box j, there .0, (node .takes, there .1));
 }
 
 -- so demand 3 says something of it

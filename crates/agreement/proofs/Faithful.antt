@@ -3,14 +3,13 @@
 use mathlib.Core.Path.{_≡_, sym, ap, _∙_}
 use mathlib.Core.List.{List}
 use mathlib.Core.Logic.{_≢_}
-use mathlib.Core.Option.{Option, none, some}
+use mathlib.Core.Option.{Option, none, some, Option·none-ne-some}
 use Prim.Native.Nat.{ℕ}
 use native.Mathlib.Omega.{arith}
 use lib.Dec.{T}
 use Rattle.crew.specs.declared.Crew.{Crew}
 use Rattle.crew.specs.Thresholds.{classOf}
 use Rattle.ballot.specs.Ballot.{Ballot}
-use Rattle.ballot.proofs.Slots.{not-none}
 use Rattle.model.proofs.Engine.{State, saying, Faithful, state, Held, Admissible}
 use Rattle.node.specs.declared.Node.{Node}
 use Rattle.inbox.specs.Inbox.{ballotAt}
@@ -46,7 +45,7 @@ module _ (l : Execution) (crew : Crew) (run : ℕ) (pre : Premises l crew run) w
 
   -- no slot votes for 0
   slots-plan : (d : Node) (o : Option (List ℕ)) (q : ℕ) (m : Ballot) → slotIn d o q ≡ some m → m .vote ≢ 0
-  slots-plan d none q m e z = absurd (not-none e)
+  slots-plan d none q m e z = absurd (Option·none-ne-some _ e)
   slots-plan d (some bytes) q m e z = omega (arith, slot-plan d bytes q m e)
 
   pub admissible : Admissible (runOf l crew)

@@ -1,7 +1,7 @@
 -- A good phase of the list is one of the abstract engine, so its circle decides.
 use mathlib.Core.Path.{_≡_, sym, ap, _∙_}
 use mathlib.Core.Bool.{Bool}
-use mathlib.Core.Option.{none}
+use mathlib.Core.Option.{none, Option·none-ne-some}
 use Prim.Native.Nat.{ℕ, _≤_, _<_}
 use native.Mathlib.Omega.{arith}
 use lib.Dec.{T}
@@ -10,7 +10,6 @@ use Rattle.crew.specs.declared.Crew.{Crew}
 use Rattle.crew.specs.Thresholds.{classOf}
 use Rattle.ballot.specs.Count.{countIf}
 use Rattle.ballot.specs.Ballot.{Ballot, inbox, sameBallot}
-use Rattle.ballot.proofs.Slots.{not-none}
 use Rattle.model.proofs.Voter.{roundNumber}
 use Rattle.model.proofs.Engine as model
 use Rattle.model.proofs.Engine.{saying, state, Held}
@@ -50,7 +49,7 @@ module _ (l : Execution) (crew : Crew) (run : ℕ) (pre : Premises l crew run) (
   speaks j p q e kp kq loud absent =
       let same = coming-is l crew run pre q j (good .inside q kq) (omega (arith, held j e .0)) in
       let counts = good .counts j p q (place-is j e .0) kp kq (λ silent. loud (sym same ∙ ap forward silent)) in
-      not-none (sym absent ∙ ap (λ o. slotIn (recordAt l p j) o q) (counts .2 .0) ∙ counts .2 .1)
+      Option·none-ne-some _ (sym absent ∙ ap (λ o. slotIn (recordAt l p j) o q) (counts .2 .0) ∙ counts .2 .1)
 
   good-run : model.GoodFor (runOf l crew) phase circle
   good-run = record {

@@ -13,4 +13,5 @@ pub mod Decisions
 pub mod GoodPhase
 pub mod Demand
 pub mod Prefix
+pub mod Checking
 pub mod Example

@@ -9,9 +9,8 @@ use native.Mathlib.Omega.{arith}
 use native.Mathlib.Decide.{ℕ-discrete, decLe, decLt}
 use lib.ListN.{length}
 use lib.Dec.{T, ltb, leb}
-use Rattle.wire.proofs.Tests.{tests}
+use Rattle.wire.proofs.Tests.{tests, and-T, T-and, T-dec}
 use Rattle.ballot.specs.Count.{bit, tally, countIf, holds, push, gather}
-use Rattle.ballot.proofs.Tests.{and-T, T-and, T-dec}
 
 -- One test.
 

@@ -7,14 +7,13 @@ use mathlib.Core.Logic.{_≢_}
 use Prim.Native.Nat.{ℕ, _≤_, _<_}
 use native.Mathlib.Omega.{arith}
 use lib.Dec.{T, eqb→eq}
-use Rattle.wire.proofs.Tests.{tests}
+use Rattle.wire.proofs.Tests.{tests, and-T, T-and}
 use Rattle.crew.specs.declared.Crew.{Crew}
 use Rattle.crew.specs.Thresholds.{Class, one, two, three}
 use Rattle.ballot.specs.Count.{countIf}
 use Rattle.ballot.specs.Ballot.{Ballot, votes}
 use Rattle.ballot.specs.Decision.{fresh, decides, decision}
 use Rattle.ballot.specs.Least.{least, leastOf, orZero}
-use Rattle.ballot.proofs.Tests.{and-T, T-and}
 use Rattle.ballot.proofs.Counting.{count-le}
 use Rattle.ballot.proofs.Least.{withVote, passes, least-agree, leastOf-passes, leastOf-some, leastOf-least}
 

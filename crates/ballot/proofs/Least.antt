@@ -8,11 +8,10 @@ use Prim.Native.Nat.{ℕ, _≤_, _<_}
 use native.Mathlib.Omega.{arith}
 use native.Mathlib.Decide.{decLe, decLt}
 use lib.Dec.{T, ltb, eqb→eq, eqb-refl}
-use Rattle.wire.proofs.Tests.{tests}
+use Rattle.wire.proofs.Tests.{tests, and-T, T-and, T-dec}
 use Rattle.ballot.specs.Count.{bit, countIf}
 use Rattle.ballot.specs.Ballot.{Ballot, votes}
 use Rattle.ballot.specs.Least.{lower, least, orZero, leastOf}
-use Rattle.ballot.proofs.Tests.{and-T, T-and, T-dec}
 use Rattle.ballot.proofs.Counting.{bit-T, bit-F, count-le, count-none, Same}
 
 -- passes p and has the vote v; passes p and has a vote below v

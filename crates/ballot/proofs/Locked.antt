@@ -9,14 +9,13 @@ use native.Mathlib.Omega.{arith}
 use native.Mathlib.Decide.{ℕ-discrete, decLe}
 use lib.ListN.{length}
 use lib.Dec.{T, leb, eqb→eq, T-not}
-use Rattle.wire.proofs.Tests.{tests}
+use Rattle.wire.proofs.Tests.{tests, and-T, T-and}
 use Rattle.crew.specs.declared.Crew.{Crew}
 use Rattle.crew.specs.Thresholds.{Class, one, two, three, E}
 use Rattle.ballot.specs.Count.{tally, countIf}
 use Rattle.ballot.specs.Ballot.{Ballot, inbox, votes, stamped, lists}
 use Rattle.ballot.specs.Selection.{supports, possible, backed, enough, selection, anyPlan, takenOn, taken}
 use Rattle.ballot.specs.Selection.{nobody, plan, nothing, answer}
-use Rattle.ballot.proofs.Tests.{and-T, T-and}
 use Rattle.ballot.proofs.Counting.{count-le, count-none, count-not, length-count}
 use Rattle.ballot.proofs.AnyPlan.{any-leader}
 use Rattle.ballot.proofs.Selection.{otherVote, supports-is, supports-vote, supports-below}

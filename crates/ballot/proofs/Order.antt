@@ -17,7 +17,7 @@ use Rattle.ballot.specs.Selection.{possible, backed, besides, backing, e
 use Rattle.ballot.specs.Selection.{Choice, plan, any, nothing, takenOn, taken}
 use Rattle.ballot.specs.Validation.{valid, validated}
 use Rattle.ballot.specs.Decision.{decides, decision}
-use Rattle.ballot.proofs.Tests.{and-T, T-and}
+use Rattle.wire.proofs.Tests.{and-T, T-and}
 use Rattle.ballot.proofs.Counting.{bit-T, length-count, Same}
 use Rattle.ballot.proofs.Least.{least-same, leastOf-same}
 use Rattle.ballot.proofs.AnyPlan.{any-same}

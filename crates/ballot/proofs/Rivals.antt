@@ -9,14 +9,13 @@ use native.Mathlib.Omega.{arith}
 use native.Mathlib.Decide.{decLe, decLt}
 use lib.ListN.{length}
 use lib.Dec.{T, leb, eqb→eq, not-T}
-use Rattle.wire.proofs.Tests.{tests}
+use Rattle.wire.proofs.Tests.{tests, and-T}
 use Rattle.crew.specs.declared.Crew.{Crew}
 use Rattle.crew.specs.Thresholds.{two, E}
 use Rattle.ballot.specs.Count.{countIf}
 use Rattle.ballot.specs.Ballot.{Ballot, votes}
 use Rattle.ballot.specs.Selection.{supports, possible, backed, several, backing}
 use Rattle.ballot.specs.Selection.{any, anyIf, enough, answer, selection}
-use Rattle.ballot.proofs.Tests.{and-T}
 use Rattle.ballot.proofs.Counting.{count-le, count-none, count-not, Lowest, count-lowest}
 use Rattle.ballot.proofs.Least.{withVote}
 use Rattle.ballot.proofs.Selection.{otherVote, Backs, by-more, backing-is, supports-is}

@@ -11,7 +11,7 @@ use native.Mathlib.Decide.{ℕ-discrete}
 use lib.ListN.{length}
 use lib.Dec.{T, eqb}
 use borrow.Author.Tests.{eqb-true, eqb-false}
-use Rattle.wire.proofs.Tests.{tests}
+use Rattle.wire.proofs.Tests.{tests, and-T, T-and, or-T, T-or-l, T-or-r}
 use Rattle.crew.specs.declared.Crew.{Crew}
 use Rattle.crew.specs.Thresholds.{Class, one, two, three}
 use Rattle.ballot.specs.Count.{countIf}
@@ -20,7 +20,6 @@ use Rattle.ballot.specs.Least.{least}
 use Rattle.ballot.specs.Selection.{supports, possible, backed, Backing, nobody, sole, several, besides, backing}
 use Rattle.ballot.specs.Selection.{Choice, plan, any, nothing, anyIf, enough, answer, selection}
 use Rattle.ballot.specs.Selection.{takenOn, taken}
-use Rattle.ballot.proofs.Tests.{and-T, T-and, or-T, T-or-l, T-or-r}
 use Rattle.ballot.proofs.Counting.{count-le}
 use Rattle.ballot.proofs.Least.{withVote, withVote-votes, Least, nowhere, found, least-is, Voted}
 use Rattle.ballot.proofs.AnyPlan.{any-voted, any-plan}

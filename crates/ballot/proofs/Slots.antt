@@ -2,7 +2,6 @@
 -- counts.
 use mathlib.Core.Path.{_≡_, ap}
 use mathlib.Core.Bool.{Bool, not}
-use mathlib.Core.List.{[]}
 use mathlib.Core.Option.{Option, none, some}
 use Prim.Native.Nat.{ℕ, _+_, _≤_, _<_}
 use native.Mathlib.Omega.{arith}
@@ -21,21 +20,11 @@ Slots = ℕ → Option Ballot
 
 -- One slot.
 
-abbrev ballotOr : Option Ballot → Ballot
-ballotOr none = record { vote = 0; stamp = 0; entries = [] }
-ballotOr (some m) = m
-
-pub same-ballot : {a b : Ballot} → some a ≡ some b → a ≡ b
-same-ballot e = ap ballotOr e
-
 pub same-vote : {a b : Ballot} → a ≡ b → a .vote ≡ b .vote
 same-vote e = ap (λ (m : Ballot). m .vote) e
 
 pub same-stamp : {a b : Ballot} → a ≡ b → a .stamp ≡ b .stamp
 same-stamp e = ap (λ (m : Ballot). m .stamp) e
-
-pub not-none : {m : Ballot} → none ≡ some m → ⊥
-not-none e = let y : _≡_ {A = ℕ} 0 1 = cc in omega arith
 
 -- All slots.
 

@@ -4,6 +4,7 @@ use mathlib.Core.Path.{_≡_, sym, _∙_}
 use mathlib.Core.Bool.{Bool, not}
 use mathlib.Core.List.{List}
 use mathlib.Core.Logic.{_≢_}
+use mathlib.Core.Option.{Option·some-injective}
 use Prim.Native.Nat.{ℕ, _+_, _*_, _≤_, _<_}
 use native.Mathlib.Omega.{arith}
 use native.Mathlib.Decide.{ℕ-discrete}
@@ -17,7 +18,7 @@ use Rattle.ballot.specs.Validation.{validates, valid, validated}
 use Rattle.ballot.proofs.Tests.{holds-T}
 use Rattle.ballot.proofs.Counting.{all-of, tally-none, tally-all}
 use Rattle.ballot.proofs.Least.{Voted, leastOf-passes, leastOf-voted, leastOf-only}
-use Rattle.ballot.proofs.Slots.{Slots, same-ballot, same-vote, FewByzantine, overlap}
+use Rattle.ballot.proofs.Slots.{Slots, same-vote, FewByzantine, overlap}
 
 module _ (crew : Crew) where
   pub validated-voted : (ballots : List Ballot) → Voted (validated crew ballots) ballots
@@ -81,5 +82,5 @@ module _ (crew : Crew) where
       rival w d = valid-apart all-of nobody-lies phase slots slots v w λ q lq hq s t.
           let m = holds-T (votes v) (slots q) s in
           let o = holds-T (votes w) (slots q) t in
-          let same = same-vote (same-ballot (sym (m .1) ∙ o .1)) in
+          let same = same-vote (Option·some-injective _ _ (sym (m .1) ∙ o .1)) in
           d (omega tests)

@@ -2,13 +2,12 @@
 use mathlib.Core.Path.{_≡_, refl}
 use mathlib.Core.Bool.{Bool, true, false, cond}
 use mathlib.Core.List.{List}
-use mathlib.Core.Option.{none, some}
+use mathlib.Core.Option.{none, some, Option·none-ne-some, Option·some-injective}
 use Prim.Native.Nat.{ℕ}
 use Rattle.wire.specs.Outcome.{Outcome, accepted, refused}
 use Rattle.message.specs.Fields.{Message}
 use Rattle.message.specs.Reading.{readOf}
 use Rattle.ballot.specs.Ballot.{Ballot}
-use Rattle.ballot.proofs.Slots.{same-ballot, not-none}
 use Rattle.inbox.specs.Inbox.{isOf, ballotOf, counted}
 
 pub record Counted (run phase round : ℕ) (slot : List ℕ) (m : Ballot) : Type 0 where
@@ -23,10 +22,11 @@ counted-message run phase round slot m e = by-reading (readOf slot) refl e
   where
     by-coming : (k : Message) → readOf slot ≡ accepted k → (b : Bool) → isOf run phase round k ≡ b
         → cond b (some (ballotOf (k .body))) none ≡ some m → Counted run phase round slot m
-    by-coming k read true coming e = record { message = k; read = read; coming = coming; says = same-ballot e }
-    by-coming k read false coming e = absurd (not-none e)
+    by-coming k read true coming e =
+        record { message = k; read = read; coming = coming; says = Option·some-injective _ _ e }
+    by-coming k read false coming e = absurd (Option·none-ne-some _ e)
 
     by-reading : (o : Outcome Message) → readOf slot ≡ o → counted run phase round o ≡ some m
         → Counted run phase round slot m
     by-reading (accepted k) read e = by-coming k read (isOf run phase round k) refl e
-    by-reading (refused number) read e = absurd (not-none e)
+    by-reading (refused number) read e = absurd (Option·none-ne-some _ e)

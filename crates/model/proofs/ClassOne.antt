@@ -3,13 +3,13 @@ use mathlib.Core.Path.{_≡_, sym, _∙_}
 use mathlib.Core.Bool.{Bool, not, _&&_}
 use mathlib.Core.List.{List}
 use mathlib.Core.Logic.{inl, inr}
-use mathlib.Core.Option.{some}
+use mathlib.Core.Option.{some, Option·some-injective}
 use Prim.Native.Nat.{ℕ, _+_, _≤_}
 use native.Mathlib.Omega.{arith}
 use native.Mathlib.Decide.{ℕ-discrete}
 use lib.Dec.{T, eqb→eq}
 use Rattle.wire.specs.Plan.{ifPlan}
-use Rattle.wire.proofs.Tests.{tests}
+use Rattle.wire.proofs.Tests.{tests, and-T}
 use Rattle.crew.specs.declared.Crew.{Crew}
 use Rattle.crew.specs.Thresholds.{one}
 use Rattle.crew.proofs.Facts.{High}
@@ -17,9 +17,9 @@ use Rattle.ballot.specs.Count.{tally, holds}
 use Rattle.ballot.specs.Ballot.{Ballot, inbox, votes}
 use Rattle.ballot.specs.Selection.{taken}
 use Rattle.ballot.specs.Decision.{decides}
-use Rattle.ballot.proofs.Tests.{and-T, holds-T}
+use Rattle.ballot.proofs.Tests.{holds-T}
 use Rattle.ballot.proofs.Counting.{count-gather, tally-split, tally-not}
-use Rattle.ballot.proofs.Slots.{same-ballot, same-vote, FewByzantine}
+use Rattle.ballot.proofs.Slots.{same-vote, FewByzantine}
 use Rattle.ballot.proofs.Locked.{Core, Takes, outside-lock-at-most-E, lock-taken-one}
 use Rattle.model.proofs.Voter.{Voter, Round, selecting, validating, deciding, say, turn}
 use Rattle.model.proofs.Engine.{Each, State, Inboxes, nextRound, step, Faithful, Decides}
@@ -40,9 +40,9 @@ in-class-one-after deciding o = tt
 -- in both rounds a node says its vote
 says-vote : (crew : Crew) (r : Round) → InClassOne r → (phase q : ℕ) (d : Voter) (m : Ballot)
     → say one crew phase r q d ≡ some m → d .vote ≡ m .vote
-says-vote crew selecting o phase q d m e = same-vote (same-ballot e)
+says-vote crew selecting o phase q d m e = same-vote (Option·some-injective _ _ e)
 says-vote crew validating o phase q d m e = absurd o
-says-vote crew deciding o phase q d m e = same-vote (same-ballot e)
+says-vote crew deciding o phase q d m e = same-vote (Option·some-injective _ _ e)
 
 -- a node that takes v or nothing keeps the vote v
 keeps-vote : (crew : Crew) (r : Round) → InClassOne r → (phase : ℕ) (ballots : List Ballot) (d : Voter) (v : ℕ)

@@ -4,7 +4,7 @@ use mathlib.Core.Path.{_≡_, refl, _∙_}
 use mathlib.Core.Bool.{Bool, true, false, cond}
 use mathlib.Core.List.{List, [], _∷_, map}
 use mathlib.Core.Logic.{_≢_}
-use mathlib.Core.Option.{none, some}
+use mathlib.Core.Option.{none, some, Option·none-ne-some, Option·some-injective}
 use Prim.Native.Nat.{ℕ, zero, suc, _<_}
 use native.Mathlib.Omega.{arith}
 use lib.Dec.{ltb}
@@ -18,7 +18,7 @@ use Rattle.ballot.specs.Selection.{possible, backed, backing, enough, selection
 use Rattle.ballot.specs.Selection.{leading, mostVoted, anyPlan, taken}
 use Rattle.ballot.specs.Validation.{valid, validated}
 use Rattle.ballot.specs.Decision.{decides, decision}
-use Rattle.ballot.proofs.Slots.{same-ballot, same-vote, not-none}
+use Rattle.ballot.proofs.Slots.{same-vote}
 use Rattle.model.proofs.Engine.{Run, class, state, saying, DecidesAt, Admissible}
 
 -- what each honest node says in the three rounds of phase 1
@@ -55,13 +55,13 @@ says-speech (suc (suc (suc j))) q l = absurd (omega arith)
 
 heard-speech : (b : Bool) (k m : Ballot) → cond b (some k) none ≡ some m → some k ≡ some m
 heard-speech true k m e = e
-heard-speech false k m e = absurd (not-none e)
+heard-speech false k m e = absurd (Option·none-ne-some _ e)
 
 speech-plan : (b : Bool) (j : ℕ) (m : Ballot) → cond b (some (speech j)) none ≡ some m → m .vote ≢ 0
-speech-plan false j m e z = not-none e
-speech-plan true zero m e z = omega (arith, same-vote (same-ballot e))
-speech-plan true (suc zero) m e z = omega (arith, same-vote (same-ballot e))
-speech-plan true (suc (suc j)) m e z = omega (arith, same-vote (same-ballot e))
+speech-plan false j m e z = Option·none-ne-some _ e
+speech-plan true zero m e z = omega (arith, same-vote (Option·some-injective _ _ e))
+speech-plan true (suc zero) m e z = omega (arith, same-vote (Option·some-injective _ _ e))
+speech-plan true (suc (suc j)) m e z = omega (arith, same-vote (Option·some-injective _ _ e))
 
 drill-admissible : Admissible drill
 unfolding acceptOf tally

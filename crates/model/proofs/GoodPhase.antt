@@ -4,13 +4,13 @@ use mathlib.Core.Path.{_≡_, sym, ap, _∙_}
 use mathlib.Core.Bool.{Bool, not, _&&_}
 use mathlib.Core.List.{[]}
 use mathlib.Core.Logic.{inl, inr, _≢_}
-use mathlib.Core.Option.{Option, none, some}
+use mathlib.Core.Option.{Option, none, some, Option·some-injective}
 use Prim.Native.Nat.{ℕ, _+_, _-_, _*_, _≤_, _<_}
 use native.Mathlib.Omega.{arith}
 use lib.ListN.{getD}
 use lib.Dec.{T, eqb, lt→ltb}
 use Rattle.wire.specs.Plan.{ifPlan}
-use Rattle.wire.proofs.Tests.{tests}
+use Rattle.wire.proofs.Tests.{tests, and-T, T-and}
 use Rattle.wire.specs.Entry.{entriesFrom}
 use Rattle.crew.specs.declared.Crew.{Crew}
 use Rattle.crew.specs.Thresholds.{Class, one, two, three, anyAbove, validAbove}
@@ -19,10 +19,10 @@ use Rattle.ballot.specs.Ballot.{Ballot, inbox, votes, lists}
 use Rattle.ballot.specs.Selection.{selection, taken}
 use Rattle.ballot.specs.Validation.{validates, validated}
 use Rattle.ballot.specs.Decision.{fresh, decides}
-use Rattle.ballot.proofs.Tests.{and-T, T-and, T-holds}
+use Rattle.ballot.proofs.Tests.{T-holds}
 use Rattle.ballot.proofs.Counting.{count-gather, tally-le, tally-meet, tally-not, tally-some, Same}
 use Rattle.ballot.proofs.Selection.{Answers, taken-plan}
-use Rattle.ballot.proofs.Slots.{same-ballot, same-vote, same-stamp, slot-counts, circle-passes}
+use Rattle.ballot.proofs.Slots.{same-vote, same-stamp, slot-counts, circle-passes}
 use Rattle.ballot.proofs.Validation.{valid-validated}
 use Rattle.ballot.proofs.Decision.{Stamps, stamp-fresh}
 use Rattle.ballot.proofs.Order.{taken-same}
@@ -117,7 +117,7 @@ module _ (crew : Crew) (circle : ℕ → Bool) (wide : crew .n ≤ tally circle 
       let many = circle-passes crew (i p) test circle wide (λ q lq kq. (_, hears p lp kp q lq kq)) λ q lq kq m e.
       let y : Ballot = record { vote = nodes q .vote; stamp = nodes q .stamp; entries = [] } in
       let t = speak q lq kq in
-      let same : y ≡ m = same-ballot (sym (hears p lp kp q lq kq) ∙ e) in
+      let same : y ≡ m = Option·some-injective _ _ (sym (hears p lp kp q lq kq) ∙ e) in
       rw (← same) (T-and (fresh class phase y) (votes v y) (t .1) (omega tests)) in
       omega tests
 
@@ -217,15 +217,15 @@ module _ (crew : Crew) (circle : ℕ → Bool) (wide : crew .n ≤ tally circle 
     unfolding spoken
     highest-answers = answers-three crew (i p) circle wide (λ q lq kq. (spoken q, h p lp kp q lq kq)) above
         (λ x lx kx m e y ly ky o f same pos.
-        let u = same-ballot (sym (h p lp kp x lx kx) ∙ e) in
-        let w = same-ballot (sym (h p lp kp y ly ky) ∙ f) in
+        let u = Option·some-injective _ _ (sym (h p lp kp x lx kx) ∙ e) in
+        let w = Option·some-injective _ _ (sym (h p lp kp y ly ky) ∙ f) in
         let hx = inside x lx kx in
         let hy = inside y ly ky in
         let stamps : nodes x .stamp ≡ nodes y .stamp = omega (arith, same-stamp u, same-stamp w) in
         let one-base = j .unique x lx hx y ly hy stamps (omega (arith, same-stamp u)) in
         omega (arith, same-vote u, same-vote w, j .each x lx hx .voted, j .each y ly hy .voted))
         (λ x lx kx m e pos.
-        let u = same-ballot (sym (h p lp kp x lx kx) ∙ e) in
+        let u = Option·some-injective _ _ (sym (h p lp kp x lx kx) ∙ e) in
         rw (← (same-vote u), ← (same-stamp u)) (stamp-listed x lx kx (omega (arith, same-stamp u))))
 
   -- Classes 2 and 3: a good phase.

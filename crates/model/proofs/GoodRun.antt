@@ -2,7 +2,7 @@
 use mathlib.Core.Path.{_≡_, refl, sym, ap, _∙_, subst}
 use mathlib.Core.Bool.{Bool, _&&_}
 use mathlib.Core.Logic.{inl, inr}
-use mathlib.Core.Option.{Option, none, some}
+use mathlib.Core.Option.{Option, none, some, Option·none-ne-some}
 use Prim.Native.Nat.{ℕ, suc, _≤_, _<_}
 use native.Mathlib.Omega.{arith}
 use lib.Dec.{T}
@@ -13,10 +13,9 @@ use Rattle.crew.proofs.Facts.{circle-above-any, circle-validates}
 use Rattle.ballot.specs.Count.{tally}
 use Rattle.ballot.specs.Ballot.{Ballot, inbox}
 use Rattle.ballot.specs.Validation.{validates}
-use Rattle.ballot.proofs.Tests.{T-and}
+use Rattle.wire.proofs.Tests.{T-and}
 use Rattle.ballot.proofs.Counting.{tally-le}
 use Rattle.ballot.proofs.Decision.{Stamps}
-use Rattle.ballot.proofs.Slots.{not-none}
 use Rattle.ballot.proofs.Order.{same-inboxes}
 use Rattle.model.proofs.Voter.{selecting, deciding}
 use Rattle.model.proofs.Engine.{Each, step, saying, Run, class, state, Held, DecidesAt, Admissible, GoodFor}
@@ -43,7 +42,7 @@ module _ (run : Run) (ok : Admissible run) (phase : ℕ) (early : phase < spentP
           let held : Held run j = (good .complete j e, omega arith) in
           z ∙ sym (ok .faithful j held .said p lp (good .inside p lp kp) q lq (good .inside q lq kq) m z)
       go none none z s = z ∙ sym s
-      go none (some m) z s = absurd (good .counts j e p lp kp q lq kq (λ x. not-none (sym x ∙ s)) z)
+      go none (some m) z s = absurd (good .counts j e p lp kp q lq kq (λ x. Option·none-ne-some _ (sym x ∙ s)) z)
 
   alike : (j : ℕ) → Stands run j phase selecting → Alike (run .crew) circle (run .rounds j)
   alike j s = record {

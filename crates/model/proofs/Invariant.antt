@@ -10,7 +10,7 @@ use lib.ListN.{length, getD, length-replicate}
 use lib.Dec.{T, eqb}
 use Rattle.wire.specs.Sizes.{lastPhase, spentPhase, historySize}
 use Rattle.wire.specs.Plan.{ifPlan}
-use Rattle.wire.proofs.Tests.{tests}
+use Rattle.wire.proofs.Tests.{tests, and-T, T-and}
 use Rattle.crew.specs.declared.Crew.{Crew}
 use Rattle.crew.specs.Thresholds.{Class, one, two, three, validAbove}
 use Rattle.ballot.specs.Count.{tally, holds}
@@ -18,7 +18,7 @@ use Rattle.ballot.specs.Ballot.{Ballot, inbox, votes}
 use Rattle.ballot.specs.Selection.{taken}
 use Rattle.ballot.specs.Validation.{validates, validated}
 use Rattle.ballot.specs.Decision.{decision}
-use Rattle.ballot.proofs.Tests.{and-T, T-and, holds-T}
+use Rattle.ballot.proofs.Tests.{holds-T}
 use Rattle.ballot.proofs.Counting.{count-gather, tally-le, tally-split}
 use Rattle.ballot.proofs.Slots.{same-vote, FewByzantine}
 use Rattle.ballot.proofs.Validation.{validated-slots, validated-unique}

@@ -3,13 +3,13 @@
 use mathlib.Core.Path.{_≡_, ap}
 use mathlib.Core.Bool.{Bool, not, _&&_}
 use mathlib.Core.Logic.{_⊎_, inl, inr}
-use mathlib.Core.Option.{some}
+use mathlib.Core.Option.{some, Option·some-injective}
 use Prim.Native.Nat.{ℕ, suc, _+_, _≤_, _<_}
 use native.Mathlib.Omega.{arith}
 use native.Mathlib.Decide.{ℕ-discrete}
 use lib.ListN.{getD}
 use lib.Dec.{T}
-use Rattle.wire.proofs.Tests.{tests}
+use Rattle.wire.proofs.Tests.{tests, and-T}
 use Rattle.crew.specs.declared.Crew.{Crew}
 use Rattle.crew.specs.Thresholds.{Class, one, two, three}
 use Rattle.ballot.specs.Count.{tally, holds}
@@ -17,9 +17,9 @@ use Rattle.ballot.specs.Ballot.{Ballot, inbox, votes, lists}
 use Rattle.ballot.specs.Selection.{taken}
 use Rattle.ballot.specs.Validation.{validated}
 use Rattle.ballot.specs.Decision.{fresh, decides}
-use Rattle.ballot.proofs.Tests.{and-T, holds-T}
+use Rattle.ballot.proofs.Tests.{holds-T}
 use Rattle.ballot.proofs.Counting.{count-gather, tally-split, tally-not, tally-some}
-use Rattle.ballot.proofs.Slots.{same-ballot, same-vote, same-stamp, EachFrom, FewByzantine, byzantine-at-most-b}
+use Rattle.ballot.proofs.Slots.{same-vote, same-stamp, EachFrom, FewByzantine, byzantine-at-most-b}
 use Rattle.ballot.proofs.Validation.{validated-slots}
 use Rattle.ballot.proofs.Decision.{Stamps, fresh-stamp}
 use Rattle.ballot.proofs.Locked.{Core, Takes, lock-taken-two, lock-taken-three}
@@ -84,7 +84,7 @@ module _ (class : Class) (stamps : Stamps class) (crew : Crew) (honest : ℕ →
         }
 
         from : (a : ℕ) → a < crew .n → T (honest a) → (m : Ballot) → i q a ≡ some m → spoken a ≡ m
-        from a la ha m e = same-ballot (f .said q lq hq a la ha m e)
+        from a la ha m e = Option·some-injective _ _ (f .said q lq hq a la ha m e)
 
         shown : Core crew (i q) v (l .since)
         shown = record {
@@ -211,7 +211,7 @@ module _ (class : Class) (stamps : Stamps class) (crew : Crew) (honest : ℕ →
         let x = and-T (honest q) (holds voter (i p q)) t in
         let h = holds-T voter (i p q) (x .1) in
         let y = and-T (fresh class phase (h .0)) (votes v (h .0)) (h .2) in
-        let b = same-ballot (f .said p lp hp q lq (x .0) (h .0) (h .1)) in
+        let b = Option·some-injective _ _ (f .said p lp hp q lq (x .0) (h .0) (h .1)) in
         let stamp = fresh-stamp class stamps phase (h .0) (y .0) in
         let base = j .each q lq (x .0) .voted in
         (x .0, omega (tests, same-vote b), omega (arith, same-stamp b))

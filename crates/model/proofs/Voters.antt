@@ -3,7 +3,7 @@ use mathlib.Core.Path.{_≡_, refl, sym, ap, _∙_}
 use mathlib.Core.Bool.{Bool, true, false, cond}
 use mathlib.Core.List.{List, [], _∷_, _++_}
 use mathlib.Core.Logic.{_⊎_, inl, inr, _≢_}
-use mathlib.Core.Option.{Option, none, some}
+use mathlib.Core.Option.{Option, none, some, Option·none-ne-some, Option·some-injective}
 use Prim.Native.Nat.{ℕ, zero, suc, _+_, _≤_, _<_}
 use native.Mathlib.Omega.{arith}
 use native.Mathlib.Decide.{ℕ-discrete, decLt}
@@ -13,14 +13,13 @@ use lib.Dec.{T, leb, eqb, eqb→eq, ltb→lt}
 use borrow.Author.Tests.{leb-true, eqb-true, eqb-false, le-leb}
 use Rattle.wire.specs.Sizes.{lastPhase}
 use Rattle.wire.specs.Plan.{ifPlan}
-use Rattle.wire.proofs.Tests.{tests}
+use Rattle.wire.proofs.Arrays.{same-everywhere}
+use Rattle.wire.proofs.Tests.{tests, and-T, T-and}
 use Rattle.wire.specs.Entry.{Entry, entryOf, entriesFrom}
 use Rattle.crew.specs.Thresholds.{Class, one, two, three}
 use Rattle.ballot.specs.Count.{countIf}
 use Rattle.ballot.specs.Ballot.{Ballot, isEntry, lists}
-use Rattle.ballot.proofs.Tests.{and-T, T-and}
 use Rattle.ballot.proofs.Counting.{bit-T, bit-pos, count-append}
-use Rattle.ballot.proofs.Slots.{same-ballot, not-none}
 use Rattle.model.proofs.Voter.{entriesSaid}
 
 pub ifPlan-is : {A : Type 0} (v : ℕ) (new old : A)
@@ -34,14 +33,14 @@ ifPlan-is v new old = go (eqb v 0) refl
 -- a node that says something only where v is a plan
 pub said-plan : {a m : Ballot} (v : ℕ) → ifPlan v (some a) none ≡ some m → (v ≢ 0) × (a ≡ m)
 said-plan {a} v e = elim (ifPlan-is v (some a) none) [
-  | inl z ↦ absurd (not-none (sym (z .1) ∙ e))
-  | inr z ↦ (z .0, same-ballot (sym (z .1) ∙ e))
+  | inl z ↦ absurd (Option·none-ne-some _ (sym (z .1) ∙ e))
+  | inr z ↦ (z .0, Option·some-injective _ _ (sym (z .1) ∙ e))
 ]
 
 -- a node that says something only where it is its turn
 pub said-turn : {o : Option Ballot} {m : Ballot} (turn : Bool) → cond turn o none ≡ some m → T turn × (o ≡ some m)
 said-turn true e = (tt, e)
-said-turn false e = absurd (not-none e)
+said-turn false e = absurd (Option·none-ne-some _ e)
 
 pub turn-says : {o : Option Ballot} (turn : Bool) → T turn → cond turn o none ≡ o
 turn-says true t = refl
@@ -188,11 +187,6 @@ lists-from history from (suc count) phase v l h e d =
 
 -- A node that begins has an empty history after phase 0.
 
-zeros : (n x : ℕ) → _≡_ {A = ℕ} (getD (replicate n 0) x 0) 0
-zeros zero x = refl
-zeros (suc n) zero = refl
-zeros (suc n) (suc x) = zeros n x
-
 pub begins-blank : (v x : ℕ) → 0 < x → getD (v ∷ replicate lastPhase 0) x 0 ≡ 0
 begins-blank v zero h = absurd (omega arith)
-begins-blank v (suc x) h = zeros lastPhase x
+begins-blank v (suc x) h = same-everywhere lastPhase x 0

@@ -4,7 +4,7 @@ use mathlib.Core.Path.{_≡_, sym, ap, _∙_, subst}
 use mathlib.Core.Bool.{Bool}
 use mathlib.Core.List.{List}
 use mathlib.Core.Logic.{_⊎_, inl, inr, _↔_}
-use mathlib.Core.Option.{some}
+use mathlib.Core.Option.{some, Option·none-ne-some}
 use Prim.Native.Nat.{ℕ, _≤_, _<_}
 use native.Mathlib.Omega.{arith}
 use native.Mathlib.Decide.{decLt}
@@ -22,7 +22,7 @@ use Rattle.inbox.specs.Inbox.{ballotAt}
 use Rattle.agreement.specs.Statement as lists
 use Rattle.agreement.specs.Statement.{Execution, answerTo, made, numbered, callsOf, recordAt, inboxAt, phaseAt, Every}
 use Rattle.agreement.specs.Statement.{isFor, Conclusions}
-use Rattle.agreement.proofs.Calls.{none-taken, taken-inside}
+use Rattle.agreement.proofs.Calls.{taken-inside}
 use Rattle.agreement.proofs.Demand.{demand3}
 use Rattle.agreement.proofs.Prefix.{cut, record-same, inbox-same, after-every-round}
 use Rattle.schedules.specs.Schedule.{Schedule, isHonest, startRecord, recordAfter, roundsTaken, ownRecord}
@@ -36,7 +36,9 @@ use Rattle.schedules.proofs.LockStep.{lock-step}
 took-round : (s : Schedule) (p j : ℕ) (inbox : List ℕ) → ownInbox s p j ≡ some inbox → j < roundsTaken s p
 took-round s p j inbox e = elim (decLt j (roundsTaken s p)) [
   | yes took ↦ took
-  | no over ↦ absurd (none-taken (sym (not-taken (startRecord s p) (callsOf p (s .events)) j (omega arith)) ∙ e))
+  | no over ↦
+      let nothing = not-taken (startRecord s p) (callsOf p (s .events)) j (omega arith) in
+      absurd (Option·none-ne-some _ (sym nothing ∙ e))
 ]
 
 -- the plan that a node decided is one

@@ -5,13 +5,13 @@ use mathlib.Core.List.{List}
 use mathlib.Core.Option.{none}
 use Prim.Native.Nat.{ℕ, _+_, _*_, _<_}
 use native.Mathlib.Omega.{arith}
-use native.Mathlib.Decide.{decLt}
-use lib.ListN.{length, getD, drop, replicate, length-replicate, getD-replicate, List·getD-eq-default}
+use lib.ListN.{length, getD, drop, replicate, length-replicate}
 use lib.Seq.{getD-take, getD-drop}
 use lib.Dec.{leb}
 use borrow.Author.Tests.{leb-true}
 use Rattle.wire.specs.Outcome.{refused}
 use Rattle.wire.specs.Bytes.{AreBytes}
+use Rattle.wire.proofs.Arrays.{same-everywhere}
 use Rattle.wire.proofs.Tests.{both-true}
 use Rattle.message.specs.Layout.{headerSize, slotSize}
 use Rattle.message.specs.Reading.{lengthAt, framed, readOf}
@@ -23,10 +23,7 @@ pub empty-length : (n : ℕ) → length (emptyInbox n) ≡ slotSize * n
 empty-length n = length-replicate {A = ℕ} (slotSize * n) 0
 
 empty-at : (n i : ℕ) → _≡_ {A = ℕ} (getD (emptyInbox n) i 0) 0
-empty-at n i = elim (decLt i (slotSize * n)) [
-  | yes inside ↦ getD-replicate (slotSize * n) i 0 0 inside
-  | no outside ↦ List·getD-eq-default (emptyInbox n) 0 {n = i} (omega (arith, empty-length n))
-]
+empty-at n i = same-everywhere (slotSize * n) i 0
 
 pub empty-bytes : (n : ℕ) → AreBytes (emptyInbox n)
 empty-bytes n place = omega (arith, empty-at n place)

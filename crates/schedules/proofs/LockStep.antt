@@ -6,7 +6,7 @@ use mathlib.Core.Path.{_≡_, refl, sym, ap, ap₂, _∙_, subst}
 use mathlib.Core.Bool.{Bool, true, false, cond}
 use mathlib.Core.List.{List, [], _∷_, _++_, flatten, append-nil, append-assoc}
 use mathlib.Core.Logic.{_⊎_, inl, inr}
-use mathlib.Core.Option.{none, some}
+use mathlib.Core.Option.{none, some, Option·none-ne-some}
 use Prim.Native.Nat.{ℕ, zero, suc, _+_, _-_, _*_, _≤_, _<_}
 use native.Mathlib.Omega.{arith}
 use native.Mathlib.Decide.{ℕ-discrete, decLt, decLe}
@@ -19,14 +19,13 @@ use Rattle.wire.specs.Bytes.{AreBytes}
 use Rattle.crew.specs.declared.Crew.{Crew}
 use Rattle.message.specs.Layout.{slotSize}
 use Rattle.ballot.specs.Ballot.{Ballot}
-use Rattle.ballot.proofs.Slots.{not-none}
 use Rattle.node.specs.declared.Node.{Node}
 use Rattle.inbox.specs.Inbox.{slotAt, ballotAt}
 use Rattle.rounds.specs.Taking.{takeOf}
 use Rattle.agreement.specs.Statement.{Call, write, ask, take-round, Event, Execution, afterCall, afterCalls, callsOf}
 use Rattle.agreement.specs.Statement.{calls, recordAt, takenInbox, inboxAt, Wrote, Whole, Early, Hears}
 use Rattle.agreement.specs.Statement.{Premises, Unspent}
-use Rattle.agreement.proofs.Calls.{taken-inside, none-taken}
+use Rattle.agreement.proofs.Calls.{taken-inside}
 use Rattle.agreement.proofs.Simulation.{honest-below}
 use Rattle.agreement.proofs.Demand.{demand3}
 use Rattle.schedules.specs.Schedule.{Schedule, on, upTo, isHonest, startRecord, recordAfter, roundsIn, callsIn}
@@ -220,7 +219,7 @@ module _ (s : Schedule) (n p : ℕ) (honest : T (isHonest s p)) (below : p < n) 
       where
         go : (b : Bool) → cond b (some (emptyInbox n)) none ≡ some inbox → inbox ≡ emptyInbox n
         go true h = cc
-        go false h = absurd (none-taken h)
+        go false h = absurd (Option·none-ne-some _ h)
 
     -- what p wrote in its own round it writes in that round of the run
     wrote-in-run : (j : ℕ) → j < m → (w : List ℕ) → OwnWrote s p j w
@@ -321,7 +320,7 @@ module _ (s : Schedule) (crew : Crew) (run : ℕ) (pre : SchedulePremises s crew
           (h .0, h .1, wrote-in-run s n q hq (honest-in q hq) m j inside (h .0) wrote, h .3)
       | no over ↦
           let lost = nothing-heard s n p hp (honest-in p hp) m j (omega arith) inbox (hears .0) in
-          absurd (not-none (sym (nothing-counts (recordAt (runOf s n m) p j) n q)
+          absurd (Option·none-ne-some _ (sym (nothing-counts (recordAt (runOf s n m) p j) n q)
           ∙ ap (λ x. ballotAt (recordAt (runOf s n m) p j) x q) (sym lost) ∙ hears .1))
     ]
 

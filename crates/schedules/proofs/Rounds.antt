@@ -1,10 +1,10 @@
 -- One node's calls, cut into its own rounds: what the first call more changes, and what stands in a round. Assumes
 -- nothing.
 use mathlib.Core.Path.{_≡_, refl, sym, ap, _∙_}
-use mathlib.Core.Bool.{Bool, true, false, cond}
+use mathlib.Core.Bool.{Bool, true, false, cond, true≢false}
 use mathlib.Core.List.{List, [], _∷_, _++_, append-nil}
 use mathlib.Core.Logic.{_⊎_, inl, inr}
-use mathlib.Core.Option.{none, some}
+use mathlib.Core.Option.{none, some, Option·none-ne-some}
 use Prim.Native.Nat.{ℕ, zero, suc, _+_, _≤_, _<_}
 use native.Mathlib.Omega.{arith}
 use borrow.Author.Tests.{lt-ltb, le-ltb}
@@ -14,7 +14,6 @@ use Rattle.ballot.specs.Count.{bit}
 use Rattle.node.specs.declared.Node.{Node}
 use Rattle.rounds.specs.Taking.{takeOf}
 use Rattle.agreement.specs.Statement.{Call, write, ask, take-round, afterCall, afterCalls, takenInbox, Puts, Wrote}
-use Rattle.agreement.proofs.Calls.{none-taken}
 use Rattle.schedules.specs.Schedule.{endsRound, roundsIn, callsIn, callsBefore, recordIn}
 
 -- A test passes or fails, and not both.
@@ -24,7 +23,7 @@ either true = inl refl
 either false = inr refl
 
 pub not-both : {A : Type 0} → _≡_ {A = Bool} false true → A
-not-both e = absurd (let z : _≡_ {A = ℕ} 0 1 = cc in omega arith)
+not-both e = absurd (true≢false (sym e))
 
 -- a count with one call more, by whether it ends a round
 
@@ -197,7 +196,7 @@ one-earlier d c cs i j inbox e same t = record {
 pub taken-at : (d : Node) (cs : List Call) (j : ℕ) (inbox : List ℕ)
     → takenInbox (recordIn d cs j) (callsIn d cs j) ≡ some inbox → TakenAt d cs j inbox
 unfolding callsIn callsBefore afterCalls takenInbox roundsIn
-taken-at d [] j inbox h = absurd (none-taken h)
+taken-at d [] j inbox h = absurd (Option·none-ne-some _ h)
 taken-at d (write buffer ∷ cs) zero inbox h =
     one-earlier d (write buffer) cs 0 0 inbox refl refl (taken-at d cs 0 inbox h)
 taken-at d (ask bytes ∷ cs) zero inbox h =

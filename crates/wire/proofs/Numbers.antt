@@ -1,14 +1,17 @@
 -- A number's bytes are read to the number, and the bytes that a number was read from are its bytes: once over the
--- width.
+-- width. Last, lists of bytes.
 use mathlib.Core.Path.{_≡_, refl, ap}
-use mathlib.Core.List.{List, _∷_, _++_}
+use mathlib.Core.Bool.{Bool, true, _&&_}
+use mathlib.Core.List.{List, [], _∷_, _++_}
 use Prim.Native.Nat.{ℕ, zero, suc, _+_, _*_, _/_, _%_, _^_, _<_, _≤_}
 use native.Mathlib.Omega.{arith}
 use native.Mathlib.Nat.{add-zero}
 use native.Mathlib.Numerals.{add-one}
 use lib.ListN.{length, getD, drop}
 use lib.Seq.{drop-cons}
+use lib.Dec.{T, ltb, ltb→lt}
 use Rattle.wire.specs.Bytes.{numberAt, bytesOf, AreBytes}
+use Rattle.wire.proofs.Tests.{and-T}
 
 -- a byte more in front moves every place by one
 number-shift : (width byte : ℕ) (s : List ℕ) (place : ℕ) → numberAt width (byte ∷ s) (place + 1)
@@ -44,3 +47,14 @@ bytes-of-number (suc width) s place bytes h =
 pub number-small : (width : ℕ) (s : List ℕ) (place : ℕ) → AreBytes s → numberAt width s place < 256 ^ width
 number-small zero s place bytes = omega arith
 number-small (suc width) s place bytes = omega (arith, bytes place, number-small width s (place + 1) bytes)
+
+-- whether a list holds bytes alone, as a test that computes
+unfoldable pub allBytes : List ℕ → Bool
+allBytes [] = true
+allBytes (x ∷ s) = ltb x 256 && allBytes s
+
+pub are-bytes : (s : List ℕ) → T (allBytes s) → AreBytes s
+unfolding allBytes
+are-bytes [] t place = omega arith
+are-bytes (x ∷ s) t zero = ltb→lt x 256 (and-T (ltb x 256) (allBytes s) t .0)
+are-bytes (x ∷ s) t (suc place) = are-bytes s (and-T (ltb x 256) (allBytes s) t .1) place

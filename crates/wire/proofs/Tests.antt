@@ -1,8 +1,8 @@
 -- Tests as facts: under `omega tests` a test such as `T (ltb a b)` or `T (not (eqb a b))` is read, and proved, as
 -- the fact it stands for.
-use mathlib.Core.Path.{_≡_, refl}
-use mathlib.Core.Bool.{Bool, true, false, not, _&&_}
-use mathlib.Core.Logic.{_≢_}
+use mathlib.Core.Path.{_≡_, refl, sym}
+use mathlib.Core.Bool.{Bool, true, false, not, _&&_, _||_, true≢false}
+use mathlib.Core.Logic.{_⊎_, inl, inr, _≢_}
 use Prim.Native.Nat.{ℕ}
 use native.Mathlib.Omega.{arith}
 use lib.Dec.{T, leb, ltb, eqb, leb→le, le→leb, ltb→lt, lt→ltb, nleb→lt, nltb→le, eqb→eq, eqb-refl, not-T, T-not}
@@ -34,11 +34,37 @@ pub ruleset tests = (
   lt→nleb,
 )
 
+-- Tests joined by `&&` and `||`, as facts.
+
+pub and-T : (a b : Bool) → T (a && b) → T a × T b
+and-T true b h = (tt, h)
+and-T false b h = absurd h
+
+pub T-and : (a b : Bool) → T a → T b → T (a && b)
+T-and true b h k = k
+T-and false b h k = h
+
+pub or-T : (a b : Bool) → T (a || b) → T a ⊎ T b
+or-T true b h = inl tt
+or-T false b h = inr h
+
+pub T-or-l : (a b : Bool) → T a → T (a || b)
+T-or-l true b h = tt
+T-or-l false b h = absurd h
+
+pub T-or-r : (a b : Bool) → T b → T (a || b)
+T-or-r true b h = tt
+T-or-r false b h = h
+
+pub T-dec : (a : Bool) → T a ⊎ (T a → ⊥)
+T-dec true = inl tt
+T-dec false = inr (λ h. h)
+
 -- two tests that pass together pass each
 pub both-true : (a b : Bool) → a && b ≡ true → (a ≡ true) × (b ≡ true)
 both-true true true e = (refl, refl)
-both-true true false e = absurd (let z : _≡_ {A = ℕ} 0 1 = cc in omega arith)
-both-true false b e = absurd (let z : _≡_ {A = ℕ} 0 1 = cc in omega arith)
+both-true true false e = absurd (true≢false (sym e))
+both-true false b e = absurd (true≢false (sym e))
 
 -- a test beside one that fails, and beside one that passes
 pub and-false : (a : Bool) → (a && false) ≡ false
