@@ -103,7 +103,7 @@ module _ (l : Execution) (crew : Crew) (run : ℕ) (pre : Premises l crew run) w
   result p h = elim (engine.result (runOf l crew) (admissible l crew run pre) p (honest-below l crew run pre p h) h) [
     | inl r ↦ inl (subst (PlanDecided l crew p) (sym (standing-is p h)) (record {
       round = r .round;
-      wins = decides-wins p (r .round) _ h (r .decides);
+      win = decides-wins p (r .round) _ h (r .decides);
       least = λ w x. r .least w (wins-decides p (r .round) w h x);
       first = λ i w before x. r .first i w before (wins-decides p i w h x);
     }))
@@ -148,4 +148,4 @@ module _ (l : Execution) (crew : Crew) (run : ℕ) (pre : Premises l crew run) w
     pub common-start : (p w : ℕ) → T (honest l p) → PlanDecided l crew p w → w ≡ v
     common-start p w h d =
         engine.common-start (runOf l crew) (admissible l crew run pre) v (λ q lq hq. begins-with q hq)
-        p (honest-below l crew run pre p h) h (d .round) w (wins-decides p (d .round) w h (d .wins))
+        p (honest-below l crew run pre p h) h (d .round) w (wins-decides p (d .round) w h (d .win))

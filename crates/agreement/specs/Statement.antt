@@ -223,26 +223,38 @@ pub record Premises (l : Execution) (crew : Crew) (run : ℕ) : Type 0 where
 abbrev pub isFor : Crew → ℕ → ℕ → Ballot → Bool
 isFor crew phase v m = fresh (classOf crew) phase m && votes v m
 
--- In round j the plan v wins for p.
+-- In round j the plan v wins for a node with this record, which took this inbox.
 -- 01: "in some round 3 that it took, at least D counting slots held one plan (in classes 2 and 3 with the phase as
 -- stamp)"
-abbrev pub Wins : Execution → Crew → ℕ → ℕ → ℕ → Type 0
-Wins l crew p j v =
+abbrev pub WinsOn : Crew → ℕ → Node → Option (List ℕ) → ℕ → Type 0
+WinsOn crew j d taken v =
     (roundAt crew j ≡ 3)
     × (inbox : List ℕ)
-    × (inboxAt l p j ≡ some inbox)
-    × (crew .d ≤ tally (λ q. holds (isFor crew (phaseAt crew j) v) (ballotAt (recordAt l p j) inbox q)) (crew .n))
+    × (taken ≡ some inbox)
+    × (crew .d ≤ tally (λ q. holds (isFor crew (phaseAt crew j) v) (ballotAt d inbox q)) (crew .n))
+
+-- What a node has decided, by which plans win for it in which rounds.
 
 -- 01: "A node has decided when, in some round 3 that it took, .."
-abbrev pub Decided : Execution → Crew → ℕ → Type 0
-Decided l crew p = (j : ℕ) × (v : ℕ) × Wins l crew p j v
+abbrev pub AnyWin : (ℕ → ℕ → Type 0) → Type 0
+AnyWin wins = (j : ℕ) × (v : ℕ) × wins j v
 
 -- 01: "The plan it decided is the least such plan of the first such round."
-pub record PlanDecided (l : Execution) (crew : Crew) (p v : ℕ) : Type 0 where
+pub record FirstWin (wins : ℕ → ℕ → Type 0) (v : ℕ) : Type 0 where
   pub round : ℕ
-  pub wins : Wins l crew p round v
-  pub least : (w : ℕ) → Wins l crew p round w → v ≤ w
-  pub first : (i w : ℕ) → i < round → Wins l crew p i w → ⊥
+  pub win : wins round v
+  pub least : (w : ℕ) → wins round w → v ≤ w
+  pub first : (i w : ℕ) → i < round → wins i w → ⊥
+
+-- the same of node p in this list
+abbrev pub Wins : Execution → Crew → ℕ → ℕ → ℕ → Type 0
+Wins l crew p j v = WinsOn crew j (recordAt l p j) (inboxAt l p j) v
+
+abbrev pub Decided : Execution → Crew → ℕ → Type 0
+Decided l crew p = AnyWin (Wins l crew p)
+
+abbrev pub PlanDecided : Execution → Crew → ℕ → ℕ → Type 0
+PlanDecided l crew p v = FirstWin (Wins l crew p) v
 
 -- 01: "Its standing result is its record's result after the list."
 abbrev pub standing : Execution → ℕ → ℕ

@@ -21,7 +21,7 @@ use Rattle.node.specs.declared.Node.{Node}
 use Rattle.inbox.specs.Inbox.{ballotAt}
 use Rattle.agreement.specs.Statement as lists
 use Rattle.agreement.specs.Statement.{Execution, answerTo, made, numbered, callsOf, recordAt, inboxAt, phaseAt, Every}
-use Rattle.agreement.specs.Statement.{isFor, Conclusions}
+use Rattle.agreement.specs.Statement.{isFor, AnyWin, FirstWin, Conclusions}
 use Rattle.agreement.proofs.Calls.{taken-inside}
 use Rattle.agreement.proofs.Demand.{demand3}
 use Rattle.agreement.proofs.Prefix.{cut, record-same, inbox-same, after-every-round}
@@ -41,30 +41,32 @@ took-round s p j inbox e = elim (decLt j (roundsTaken s p)) [
       absurd (Option·none-ne-some _ (sym nothing ∙ e))
 ]
 
--- the plan that a node decided is one
-decided-once : {s : Schedule} {crew : Crew} {p v w : ℕ} → PlanDecided s crew p v → PlanDecided s crew p w → v ≡ w
-decided-once {s} {crew} {p} {v} {w} a b = elim (decLt (a .round) (b .round)) [
-  | yes l ↦ absurd (b .first (a .round) v l (a .wins))
-  | no l ↦ elim (decLt (b .round) (a .round)) [
-    | yes k ↦ absurd (a .first (b .round) w k (b .wins))
-    | no k ↦
-        let same : a .round ≡ b .round = omega arith in
-        let low = a .least w (subst (λ j. Wins s crew p j w) (sym same) (b .wins)) in
-        let high = b .least v (subst (λ j. Wins s crew p j v) same (a .wins)) in
-        omega arith
+-- Whatever wins, in whichever rounds.
+module _ (wins : ℕ → ℕ → Type 0) where
+  -- the plan that a node decided is one
+  decided-once : {v w : ℕ} → FirstWin wins v → FirstWin wins w → v ≡ w
+  decided-once {v} {w} a b = elim (decLt (a .round) (b .round)) [
+    | yes l ↦ absurd (b .first (a .round) v l (a .win))
+    | no l ↦ elim (decLt (b .round) (a .round)) [
+      | yes k ↦ absurd (a .first (b .round) w k (b .win))
+      | no k ↦
+          let same : a .round ≡ b .round = omega arith in
+          let low = a .least w (subst (λ j. wins j w) (sym same) (b .win)) in
+          let high = b .least v (subst (λ j. wins j v) same (a .win)) in
+          omega arith
+    ]
   ]
-]
 
--- what is said of the result v of p
-abbrev Stands : Schedule → Crew → ℕ → ℕ → Type 0
-Stands s crew p v = PlanDecided s crew p v ⊎ ((Decided s crew p → ⊥) × (v ≡ 0))
+  -- what is said of the result v of a node
+  abbrev Stands : ℕ → Type 0
+  Stands v = FirstWin wins v ⊎ ((AnyWin wins → ⊥) × (v ≡ 0))
 
--- so two results of one node, of which that is said, are the same
-stands-once : {s : Schedule} {crew : Crew} {p v w : ℕ} → Stands s crew p v → Stands s crew p w → v ≡ w
-stands-once (inl a) (inl b) = decided-once a b
-stands-once (inl a) (inr b) = absurd (b .0 (a .round, _, a .wins))
-stands-once (inr a) (inl b) = absurd (a .0 (b .round, _, b .wins))
-stands-once (inr a) (inr b) = a .1 ∙ sym (b .1)
+  -- so two results of one node, of which that is said, are the same
+  stands-once : {v w : ℕ} → Stands v → Stands w → v ≡ w
+  stands-once (inl a) (inl b) = decided-once a b
+  stands-once (inl a) (inr b) = absurd (b .0 (a .round, _, a .win))
+  stands-once (inr a) (inl b) = absurd (a .0 (b .round, _, b .win))
+  stands-once (inr a) (inr b) = a .1 ∙ sym (b .1)
 
 -- A list in which p has the schedule's records and inboxes as long as it took rounds, and then hears nothing.
 record Carries (s : Schedule) (n p : ℕ) (l : Execution) : Type 0 where
@@ -118,7 +120,7 @@ module _ (s : Schedule) (crew : Crew) (ok : acceptOf crew ≡ accepted tt) (p : 
   plan-to : (v : ℕ) → PlanDecided s crew p v → lists.PlanDecided l crew p v
   plan-to v d = record {
     round = d .round;
-    wins = wins-to (d .round) v (d .wins);
+    win = wins-to (d .round) v (d .win);
     least = λ w x. d .least w (wins-from (d .round) w x);
     first = λ i w before x. d .first i w before (wins-from i w x);
   }
@@ -126,13 +128,13 @@ module _ (s : Schedule) (crew : Crew) (ok : acceptOf crew ≡ accepted tt) (p : 
   plan-from : (v : ℕ) → lists.PlanDecided l crew p v → PlanDecided s crew p v
   plan-from v d = record {
     round = d .round;
-    wins = wins-from (d .round) v (d .wins);
+    win = wins-from (d .round) v (d .win);
     least = λ w x. d .least w (wins-to (d .round) w x);
     first = λ i w before x. d .first i w before (wins-to i w x);
   }
 
   -- what demand 3 says of a result in the list, it says in the schedule
-  result-from : (v : ℕ) → lists.PlanDecided l crew p v ⊎ ((lists.Decided l crew p → ⊥) × (v ≡ 0)) → Stands s crew p v
+  result-from : (v : ℕ) → lists.PlanDecided l crew p v ⊎ ((lists.Decided l crew p → ⊥) × (v ≡ 0)) → Stands (Wins s crew p) v
   result-from v (inl d) = inl (plan-from v d)
   result-from v (inr d) = inr (λ x. d .0 (decided-to x), d .1)
 
@@ -157,9 +159,9 @@ module _ (s : Schedule) (crew : Crew) (run : ℕ) (l : Execution) (inStep : InLo
   concludes = demand3 l crew run (inStep .premises)
 
   -- The result of p: demand 3 of the run cut short after the rounds that p took, where it has the record of p.
-  result : (p : ℕ) → T (isHonest s p) → Stands s crew p (standing s p)
+  result : (p : ℕ) → T (isHonest s p) → Stands (Wins s crew p) (standing s p)
   result p h =
-      subst (Stands s crew p) (ap (λ (d : Node). d .result) end)
+      subst (Stands (Wins s crew p)) (ap (λ (d : Node). d .result) end)
       (result-from s crew ok p short short-carries (lists.standing short p)
       (after-every-round l crew run (inStep .premises) m .result p (honest-in p h)))
     where
@@ -185,7 +187,7 @@ module _ (s : Schedule) (crew : Crew) (run : ℕ) (l : Execution) (inStep : InLo
   -- so a node's result stays what it is in the rounds that others took and it did not
   same-standing : (p : ℕ) (h : T (isHonest s p)) → lists.standing l p ≡ standing s p
   same-standing p h =
-      stands-once
+      stands-once (Wins s crew p)
       (result-from s crew ok p l (run-carries p h) (lists.standing l p) (concludes .result p (honest-in p h)))
       (result p h)
 

@@ -141,7 +141,8 @@ premises = record {
   few = drill-premises .few;
   bytes = λ p h before inbox t. bytes-ok outOfStep 4 (first-two .0) p h before inbox t;
   slots = λ p q hp hq before inbox m t counts.
-      slots-ok outOfStep 4 (first-two .0) p hp before inbox t q hq (honest-below drill crew 1 drill-premises q hq) m counts;
+      let below = honest-below drill crew 1 drill-premises q hq in
+      slots-ok outOfStep 4 (first-two .0) p hp before inbox t q hq below m counts;
 }
 
 -- so something is said of it

@@ -24,7 +24,7 @@ use Rattle.inbox.specs.Inbox.{slotAt, ballotAt}
 use Rattle.rounds.specs.Taking.{takeOf}
 use Rattle.agreement.specs.Statement.{Start, Call, write, ask, take-round, Event, Execution, answerTo, made, numbered}
 use Rattle.agreement.specs.Statement.{recordOf, afterCall, afterCalls, callsOf, recordAt, takenInbox, inboxAt}
-use Rattle.agreement.specs.Statement.{Puts, Wrote, phaseAt, roundAt, Every, Premises, isFor}
+use Rattle.agreement.specs.Statement.{Puts, Wrote, Every, Premises, WinsOn, AnyWin, FirstWin}
 
 -- 02: "Let nodes take their rounds in any order, under demand 3's premises, where each keeps its own order and a
 -- counting honest message was written before it is taken."
@@ -265,23 +265,16 @@ LockStep =
 
 -- 02: "Agreement and common start follow for it without a fresh argument."
 
--- Decisions as in the Statement, from the inboxes of the rounds that the node took.
+-- The Statement's decisions, from the inboxes of the rounds that the node took.
 
 abbrev pub Wins : Schedule → Crew → ℕ → ℕ → ℕ → Type 0
-Wins s crew p j v =
-    (roundAt crew j ≡ 3)
-    × (inbox : List ℕ)
-    × (ownInbox s p j ≡ some inbox)
-    × (crew .d ≤ tally (λ q. holds (isFor crew (phaseAt crew j) v) (ballotAt (ownRecord s p j) inbox q)) (crew .n))
+Wins s crew p j v = WinsOn crew j (ownRecord s p j) (ownInbox s p j) v
 
 abbrev pub Decided : Schedule → Crew → ℕ → Type 0
-Decided s crew p = (j : ℕ) × (v : ℕ) × Wins s crew p j v
+Decided s crew p = AnyWin (Wins s crew p)
 
-pub record PlanDecided (s : Schedule) (crew : Crew) (p v : ℕ) : Type 0 where
-  pub round : ℕ
-  pub wins : Wins s crew p round v
-  pub least : (w : ℕ) → Wins s crew p round w → v ≤ w
-  pub first : (i w : ℕ) → i < round → Wins s crew p i w → ⊥
+abbrev pub PlanDecided : Schedule → Crew → ℕ → ℕ → Type 0
+PlanDecided s crew p v = FirstWin (Wins s crew p) v
 
 -- the result of p after all events
 abbrev pub standing : Schedule → ℕ → ℕ
