@@ -26,9 +26,9 @@ data Answer : Type 0 where
   answers : Outcome (Unit {0}) → Answer
   chooses : Choice → ℕ → Answer
 
-abbrev answered : Question → Answer
-answered (accept crew) = answers (acceptOf crew)
-answered (select crew ballots) = chooses (selection (classOf crew) crew ballots) (taken (classOf crew) crew ballots)
+abbrev reply : Question → Answer
+reply (accept crew) = answers (acceptOf crew)
+reply (select crew ballots) = chooses (selection (classOf crew) crew ballots) (taken (classOf crew) crew ballots)
 
 -- a line of the board
 record Example : Type 0 where
@@ -41,7 +41,7 @@ _gives_ q a = record { question = q; answer = a }
 infix 20 _gives_
 -- every question of the table has its answer
 abbrev Holds : List Example → Type 0
-Holds table = map (λ e. answered (e .question)) table ≡ map (λ e. e .answer) table
+Holds table = map (λ e. reply (e .question)) table ≡ map (λ e. e .answer) table
 
 -- the answers in 01's words
 abbrev acceptance : Answer
