@@ -1,7 +1,9 @@
 -- `accept` meets its contract.
-use mathlib.Core.Path.{sym, _∙_}
+use mathlib.Core.Path.{_≡_, sym, _∙_}
+use mathlib.Core.Bool.{true}
 use borrow.Author.Needs.{needs}
-use Rattle.crew.specs.Acceptance.{acceptOf}
+use Rattle.wire.specs.Outcome.{accepted, require}
+use Rattle.crew.specs.Acceptance.{acceptOf, classKnown, sizeKnown, highEnough}
 use Rattle.crew.proofs.accept.Statement.{statement}
 use Rattle.crew.proofs.accept.Tie as tie
 
@@ -17,43 +19,41 @@ is-reachable-requires c κs = search needs
 is-high-enough-requires : tie.Need-is-high-enough-requires
 is-high-enough-requires c κs = search needs
 
-returns : tie.Need-returns
+-- the tests that are passed on the way, each at the place behind it
+class-known : (c : tie.Then1) → classKnown (c .before .before .args .crew) ≡ true
+class-known c = sym (c .before .is-class .ensures) ∙ c .if1 .taken
+
+size-known : (c : tie.Then2) → sizeKnown (c .before .before .before .before .args .crew) ≡ true
+size-known c = sym (c .before .is-size .ensures) ∙ c .if2 .taken
+
+-- with three tests passed, only the fourth is left to answer
+last-left : (c : tie.Then3) →
+    let crew = c .before .before .before .before .before .before .args .crew in
+    acceptOf crew ≡ require (highEnough crew) 4 (accepted tt)
 unfolding acceptOf
-returns c =
-    let b4 = c .before .before .before .before in
-    simp (
-      sym (b4 .before .before .before .is-class .ensures) ∙ b4 .before .before .if1 .taken,
-      sym (b4 .before .is-size .ensures) ∙ b4 .if2 .taken,
-      sym (c .before .before .before .is-reachable .ensures) ∙ c .before .before .if3 .taken,
-      sym (c .before .is-high-enough .ensures) ∙ c .if4 .taken,
-    )
+last-left c =
+    let sized = c .before .before in
+    let reached = sym (c .before .is-reachable .ensures) ∙ c .if3 .taken in
+    simp (class-known (sized .before .before), size-known sized, reached)
+
+returns : tie.Need-returns
+returns c = simp (last-left (c .before .before), sym (c .before .is-high-enough .ensures) ∙ c .if4 .taken)
 
 returns-2 : tie.Need-returns-2
-unfolding acceptOf
-returns-2 c =
-    let b4 = c .before .before .before .before in
-    simp (
-      sym (b4 .before .before .before .is-class .ensures) ∙ b4 .before .before .if1 .taken,
-      sym (b4 .before .is-size .ensures) ∙ b4 .if2 .taken,
-      sym (c .before .before .before .is-reachable .ensures) ∙ c .before .before .if3 .taken,
-      sym (c .before .is-high-enough .ensures) ∙ c .if4 .left,
-    )
+returns-2 c = simp (last-left (c .before .before), sym (c .before .is-high-enough .ensures) ∙ c .if4 .left)
 
 returns-3 : tie.Need-returns-3
 unfolding acceptOf
-returns-3 c = simp (
-  sym (c .before .before .before .before .before .is-class .ensures) ∙ c .before .before .before .before .if1 .taken,
-  sym (c .before .before .before .is-size .ensures) ∙ c .before .before .if2 .taken,
-  sym (c .before .is-reachable .ensures) ∙ c .if3 .left,
-)
+returns-3 c =
+    let sized = c .before .before in
+    let beyond = sym (c .before .is-reachable .ensures) ∙ c .if3 .left in
+    simp (class-known (sized .before .before), size-known sized, beyond)
 
 returns-4 : tie.Need-returns-4
 unfolding acceptOf
 returns-4 c =
-    simp (
-      sym (c .before .before .before .is-class .ensures) ∙ c .before .before .if1 .taken,
-      sym (c .before .is-size .ensures) ∙ c .if2 .left,
-    )
+    let unsized = sym (c .before .is-size .ensures) ∙ c .if2 .left in
+    simp (class-known (c .before .before), unsized)
 
 returns-5 : tie.Need-returns-5
 unfolding acceptOf
