@@ -71,12 +71,13 @@ abbrev rest : (s : List ℕ) → (count phase i least : ℕ) → Bool
 rest s count phase i least =
     leb least phase && entriesOk least phase (entriesIn (count - i) (drop (entriesPlace + entrySize * i) s))
 
--- what is left to test answers for all
+-- before entry i, of which there are count: what is left to test answers for all
 pub record Left (s : List ℕ) (count phase i least : ℕ) : Type 0 where
+  pub place : i ≤ count
   pub same : rest s count phase i least ≡ whole s count phase
 
 pub all-left : (s : List ℕ) (count phase : ℕ) → Left s count phase 0 0
-all-left s count phase = record { same = simp (sub-zero, le-leb 0 phase (omega arith)) }
+all-left s count phase = record { place = omega arith; same = simp (sub-zero, le-leb 0 phase (omega arith)) }
 
 module _ {s : List ℕ} {count phase i least : ℕ} (left : Left s count phase i least) where
   step : i < count → (keeps least (entryInSlice s i) && rest s count phase (i + 1) (entryInSlice s i .phase + 1))
@@ -92,7 +93,7 @@ module _ {s : List ℕ} {count phase i least : ℕ} (left : Left s count phase i
       → Left s count phase (i + 1) after
   entry-passes after after-is more some =
       let same = kept (keeps least (entryInSlice s i)) _ after (rest s count phase (i + 1)) after-is some in
-      record { same = sym same ∙ step more }
+      record { place = omega arith; same = sym same ∙ step more }
 
   -- an entry that breaks a bound settles the answer
   pub entry-breaks : (after : ℕ) → after ≡ leastAfter least (entryInSlice s i) → i < count → after ≡ 0

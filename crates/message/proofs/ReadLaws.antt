@@ -18,7 +18,6 @@ use Rattle.message.specs.Bounds.{within}
 use Rattle.message.specs.Encoding.{sizeOf}
 use Rattle.message.specs.Reading.{
   lengthAt,
-  kindAt,
   messageWith,
   selectionAt,
   validationAt,
@@ -33,6 +32,7 @@ use Rattle.message.specs.Reading.{
   countIn,
   bodyAs,
 }
+use Rattle.message.specs.Promises.{OfKind}
 use Rattle.message.specs.declared.Body.{Body as ReadBody}
 use Rattle.message.specs.declared.Body.the-variants.{Selection, Validation, Decision}
 use Rattle.message.proofs.EntryLaws.{entries-count}
@@ -44,18 +44,18 @@ framed-long s e =
     (leb-true _ _ (both-true _ _ (h .0) .0), leb-true _ _ (h .1))
 
 -- the kind picks the body; any but 1 and 2 picks a decision's
-module _ {kind : ℕ} (s : List ℕ) (is : kind ≡ kindAt s) where
+module _ {kind : ℕ} {s : List ℕ} (is : OfKind s kind) where
   pub kind-one : kind ≡ 1 → bodyAt s ≡ selectionAt s
   unfolding bodyAt
-  kind-one one = rw (sym is ∙ one)
+  kind-one one = rw (sym (is .same) ∙ one)
 
   pub kind-two : kind ≡ 2 → bodyAt s ≡ validationAt s
   unfolding bodyAt
-  kind-two two = rw (sym is ∙ two)
+  kind-two two = rw (sym (is .same) ∙ two)
 
   pub kind-other : kind ≢ 1 → kind ≢ 2 → bodyAt s ≡ decisionAt s
   unfolding bodyAt
-  kind-other not-one not-two = simp (← is, ne-eqb _ _ not-one, ne-eqb _ _ not-two)
+  kind-other not-one not-two = simp (← is .same, ne-eqb _ _ not-one, ne-eqb _ _ not-two)
 
   -- how long a selection is, by the count that stands in it
   pub size-one : kind ≡ 1 → sizeOf (bodyAt s) ≡ entriesPlace + entrySize * getD s countPlace 0

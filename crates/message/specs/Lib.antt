@@ -4,3 +4,4 @@ pub mod Bounds
 pub mod Encoding
 pub mod Reading
 pub mod Lookup
+pub mod Promises

@@ -7,18 +7,17 @@ use wire::PLAN_SIZE;
 use wire::Plan;
 use wire::RUN_SIZE;
 ghost use mathlib.Core.Path.{_≡_};
-ghost use Prim.Native.Nat.{_+_, _*_, _<_, _≤_, min};
+ghost use Prim.Native.Nat.{_+_, _*_, _≤_, min};
 ghost use lib.ListN.{length, getD, drop};
 ghost use lib.Dec.{eqb};
 ghost use Rattle.wire.specs.Bytes.{numberAt};
 ghost use Rattle.wire.specs.Sizes.{planSize, runSize};
-ghost use Rattle.message.specs.Layout.{runPlace, headerSize, planPlace, stampPlace};
+ghost use Rattle.message.specs.Layout.{runPlace, phasePlace, headerSize, planPlace, stampPlace};
 ghost use Rattle.message.specs.Layout.{countPlace, entriesPlace, entrySize};
 ghost use Rattle.message.specs.Bounds.{phaseOk, planOk, entriesOk, leastAfter, within};
 ghost use Rattle.message.specs.Encoding.{sizeOf};
 ghost use Rattle.message.specs.Reading.{
   lengthAt,
-  kindAt,
   messageWith,
   entriesIn,
   entryInSlice,
@@ -37,7 +36,8 @@ ghost use Rattle.message.specs.Reading.{
   bodyAs,
   readAnswer,
 };
-ghost use Rattle.message.specs.Lookup.{entriesUntil, hasEntry};
+ghost use Rattle.message.specs.Lookup.{hasEntry};
+ghost use Rattle.message.specs.Promises.{Widened, Framed, Held, Until};
 
 // Where the fields stand, each where the one before it ends, as in specs/Layout.antt.
 pub const LENGTH_AT: usize = 0;
@@ -113,7 +113,7 @@ pub struct Entry {
 }
 
 fn wide(x: u8) -> u16
-    ensures { λ r. ⌜ (r ≡ x) × (r < 256) ⌝ }
+    ensures { λ r. ⌜ Widened x r ⌝ }
 {
     x as u16
 }
@@ -218,34 +218,46 @@ fn are_entries(s: &[u8], count: usize, phase: u16) -> bool
     least <= phase
 }
 
-fn is_selection(s: &[u8]) -> bool
-    requires { ⌜ (entriesPlace ≤ length (now s))
-        × (entriesPlace + entrySize * getD (now s) countPlace 0 ≤ length (now s)) ⌝ }
+// Whether the header's phase keeps its bound.
+fn has_phase(s: &[u8]) -> bool
+    requires { ⌜ headerSize ≤ length (now s) ⌝ }
+    ensures { λ r. ⌜ r ≡ phaseOk (getD (now (s .entry)) phasePlace 0) ⌝ }
+{
+    is_phase(s[PHASE_AT])
+}
+
+// Whether a plan stands after the header: the vote of a selection or decision, the plan of a validation.
+fn has_plan(s: &[u8]) -> bool
+    requires { ⌜ planPlace + planSize ≤ length (now s) ⌝ }
+    ensures { λ r. ⌜ r ≡ planOk (numberAt planSize (now (s .entry)) planPlace) ⌝ }
+{
+    is_plan(plan_at(s, PLAN_AT))
+}
+
+fn selection_keeps_bounds(s: &[u8]) -> bool
+    requires { ⌜ entriesPlace + entrySize * getD (now s) countPlace 0 ≤ length (now s) ⌝ }
     ensures { λ r. ⌜ r ≡ within (messageWith (now (s .entry)) (selectionAt (now (s .entry)))) ⌝ }
 {
     let count = wide(s[COUNT_AT]) as usize;
-    is_phase(s[PHASE_AT])
-        & (is_plan(plan_at(s, PLAN_AT))
+    has_phase(s)
+        & (has_plan(s)
             & (s[STAMP_AT] < s[PHASE_AT])
             & (s[COUNT_AT] <= MOST_ENTRIES)
             & are_entries(s, count, wide(s[PHASE_AT])))
 }
 
-fn is_validation(s: &[u8]) -> bool
+fn validation_keeps_bounds(s: &[u8]) -> bool
     requires { ⌜ planPlace + planSize ≤ length (now s) ⌝ }
     ensures { λ r. ⌜ r ≡ within (messageWith (now (s .entry)) (validationAt (now (s .entry)))) ⌝ }
 {
-    if is_phase(s[PHASE_AT]) {
-        return is_plan(plan_at(s, PLAN_AT));
-    }
-    false
+    has_phase(s) & has_plan(s)
 }
 
-fn is_decision(s: &[u8]) -> bool
+fn decision_keeps_bounds(s: &[u8]) -> bool
     requires { ⌜ stampPlace + 1 ≤ length (now s) ⌝ }
     ensures { λ r. ⌜ r ≡ within (messageWith (now (s .entry)) (decisionAt (now (s .entry)))) ⌝ }
 {
-    is_phase(s[PHASE_AT]) & (is_plan(plan_at(s, PLAN_AT)) & (s[STAMP_AT] <= s[PHASE_AT]))
+    has_phase(s) & (has_plan(s) & (s[STAMP_AT] <= s[PHASE_AT]))
 }
 
 // Whether a kind is one of the three: 01's 11.
@@ -258,7 +270,7 @@ fn is_kind(kind: u16) -> bool
 // Whether a framed slice is as long as its kind asks: 01's 12. Here and in the two functions below the kinds are tried
 // in one order, selections first: reading is faster so.
 fn has_length(s: &[u8], kind: u16) -> bool
-    requires { ⌜ (headerSize ≤ length (now s)) × (lengthAt (now s) ≤ length (now s)) × (kind ≡ kindAt (now s)) ⌝ }
+    requires { ⌜ Framed (now s) kind ⌝ }
     ensures { λ r. ⌜ r ≡ eqb (lengthAt (now (s .entry))) (sizeOf (bodyAt (now (s .entry)))) ⌝ }
 {
     let size = u16_at(s, LENGTH_AT);
@@ -277,21 +289,21 @@ fn has_length(s: &[u8], kind: u16) -> bool
 
 // Whether the fields of a message that the slice holds in full keep their bounds: 01's 13.
 fn keeps_bounds(s: &[u8], kind: u16) -> bool
-    requires { ⌜ (sizeOf (bodyAt (now s)) ≤ length (now s)) × (kind ≡ kindAt (now s)) ⌝ }
+    requires { ⌜ Held (now s) kind ⌝ }
     ensures { λ r. ⌜ r ≡ within (messageWith (now (s .entry)) (bodyAt (now (s .entry)))) ⌝ }
 {
     if kind == SELECTION {
-        return is_selection(s);
+        return selection_keeps_bounds(s);
     }
     if kind == VALIDATION {
-        return is_validation(s);
+        return validation_keeps_bounds(s);
     }
-    is_decision(s)
+    decision_keeps_bounds(s)
 }
 
 // What a message that the slice holds in full says, by its kind.
 fn body_in(s: &[u8], kind: u16) -> Body
-    requires { ⌜ (sizeOf (bodyAt (now s)) ≤ length (now s)) × (kind ≡ kindAt (now s)) ⌝ }
+    requires { ⌜ Held (now s) kind ⌝ }
     ensures { λ r. ⌜ bodyAs r (now (s .entry)) ≡ bodyAt (now (s .entry)) ⌝ }
 {
     let vote = plan_at(s, PLAN_AT);
@@ -399,8 +411,7 @@ fn lower(a: usize, b: usize) -> usize
 // one. A slice that reading refuses may count more entries than it has room for.
 fn entries_until(s: &[u8], phase: u8) -> usize
     requires { ⌜ entriesPlace ≤ length (now s) ⌝ }
-    ensures { λ r. ⌜ (r ≡ entriesUntil (now (s .entry)) phase)
-        × (entriesPlace + entrySize * r ≤ length (now (s .entry))) ⌝ }
+    ensures { λ r. ⌜ Until (now (s .entry)) phase r ⌝ }
 {
     let room = (s.len() - ENTRIES_AT) / ENTRY_SIZE;
     let held = lower(wide(s[COUNT_AT]) as usize, room);

@@ -19,7 +19,7 @@ use message::VALIDATION_LENGTH;
 use wire::PHASES;
 use wire::Plan;
 ghost use mathlib.Core.Path.{_≡_};
-ghost use Prim.Native.Nat.{_+_, _<_, _≤_};
+ghost use Prim.Native.Nat.{_+_, _≤_};
 ghost use lib.ListN.{length};
 ghost use lib.Seq.{sets};
 ghost use Rattle.wire.specs.Sizes.{lastPhase};

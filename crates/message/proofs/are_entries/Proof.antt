@@ -2,7 +2,7 @@
 -- the message's, the entries from i on answer what all entries answer; where it is later, that is false.
 use mathlib.Core.Path.{_≡_}
 use mathlib.Core.Logic.{inl, inr}
-use Prim.Native.Nat.{_≤_, _+_, _-_}
+use Prim.Native.Nat.{_+_, _-_}
 use native.Mathlib.Omega.{arith}
 use borrow.Author.Needs.{needs}
 use denote.Ref.{now}
@@ -11,7 +11,7 @@ use Rattle.message.proofs.are_entries.Statement.{statement}
 use Rattle.message.proofs.are_entries.Tie as tie
 
 abbrev Inv-loop : tie.InvT-loop
-Inv-loop s count phase least₀ i₀ least i = (i ≤ count) × Left s count phase i least
+Inv-loop s count phase least₀ i₀ least i = Left s count phase i least
 
 abbrev μ-loop : tie.MeasureT-loop
 μ-loop s count phase least₀ i₀ least i = count - i
@@ -19,7 +19,7 @@ abbrev μ-loop : tie.MeasureT-loop
 loop-holds : tie.Need-loop-holds Inv-loop μ-loop
 loop-holds c =
     let args = c .before .args in
-    (search needs, all-left (now (args .s)) (args .count) (args .phase))
+    all-left (now (args .s)) (args .count) (args .phase)
 
 add-loop : tie.Need-add-loop Inv-loop μ-loop
 add-loop c = search needs
@@ -30,7 +30,7 @@ least-after-requires c κs = search needs
 returns : tie.Need-returns Inv-loop μ-loop
 returns c =
     let at = c .before .before .before in
-    entry-breaks (at .loop .inv .1) _ (c .before .least-after .ensures) (omega arith) (c .if1 .taken)
+    entry-breaks (at .loop .inv) _ (c .before .least-after .ensures) (omega arith) (c .if1 .taken)
 
 add-least-after : tie.Need-add-least-after Inv-loop μ-loop
 add-least-after c = search needs
@@ -48,7 +48,7 @@ Between c =
 between : (c : tie.Else1 Inv-loop μ-loop) → Between c
 between c =
     let at = c .before .before .before in
-    entry-passes (at .loop .inv .1) _ (c .before .least-after .ensures) (omega arith) (c .if1 .left)
+    entry-passes (at .loop .inv) _ (c .before .least-after .ensures) (omega arith) (c .if1 .left)
 
 returns-2 : tie.Need-returns-2 Inv-loop μ-loop
 returns-2 c =
@@ -68,7 +68,7 @@ loop-again c =
     let more = first .before .before .loop-test .taken in
     let i = first .before .before .before .loop .i in
     let two : i + 2 ≡ i + 1 + 1 = omega arith in
-    (search needs, rw two (entry-passes (between first) _ (c .before .least-after2 .ensures) more (c .if2 .left)))
+    rw two (entry-passes (between first) _ (c .before .least-after2 .ensures) more (c .if2 .left))
 
 least-after-requires-3 : tie.Need-least-after-requires-3 Inv-loop μ-loop
 least-after-requires-3 c κs = search needs
@@ -76,11 +76,11 @@ least-after-requires-3 c κs = search needs
 returns-3 : tie.Need-returns-3 Inv-loop μ-loop
 returns-3 c =
     let at = c .before .before .before .before in
-    entry-breaks (at .loop .inv .1) _ (c .before .least-after3 .ensures) (c .before .before .if3 .taken) (c .if4 .taken)
+    entry-breaks (at .loop .inv) _ (c .before .least-after3 .ensures) (c .before .before .if3 .taken) (c .if4 .taken)
 
 returns-4 : tie.Need-returns-4 Inv-loop μ-loop
 returns-4 c =
-    let left = c .before .before .loop .inv .1 in
+    let left = c .before .before .loop .inv in
     elim (c .if3 .came) [
       | inl odd ↦
           rw (odd .3)

@@ -1,12 +1,7 @@
 -- `entries_counted` meets its contract.
-use Prim.Native.Nat.{_+_, _*_, _≤_, _<_}
 use native.Mathlib.Nat.{add-sub-cancel-left}
-use native.Mathlib.Omega.{arith}
-use lib.ListN.{length}
 use borrow.Author.Needs.{needs}
 use borrow.Author.Tests.{le-leb, lt-leb}
-use denote.Ref.{now}
-use Rattle.message.specs.Layout.{entriesPlace, entrySize}
 use Rattle.message.proofs.entries_counted.Statement.{statement}
 use Rattle.message.proofs.entries_counted.Tie as tie
 
@@ -36,25 +31,13 @@ slice-aggregate-result c = search needs
 
 returns : tie.Need-returns
 returns c =
-    let b4 = c .before .before .before .before in
-    let a = b4 .args in
-    let fits : entriesPlace + entrySize * a .count ≤ length (now (a .s)) = omega (
-      arith,
-      c .before .before .wide .ensures .0,
-      c .before .if1 .taken,
-    ) in
-    simp (add-sub-cancel-left, le-leb _ _ fits, c .before .before .wide .ensures .0)
+    let widened = c .before .before .wide .ensures .same in
+    simp (← widened, le-leb _ _ (c .before .if1 .taken), add-sub-cancel-left)
 
 returns-2 : tie.Need-returns-2
 returns-2 c =
-    let b4 = c .before .before .before .before in
-    let a = b4 .args in
-    let short : length (now (a .s)) < entriesPlace + entrySize * a .count = omega (
-      arith,
-      c .before .before .wide .ensures .0,
-      c .before .if1 .left,
-    ) in
-    simp (lt-leb _ _ short)
+    let widened = c .before .before .wide .ensures .same in
+    simp (← widened, lt-leb _ _ (c .before .if1 .left))
 
 pub entries-counted-spec : {M : Type 1} → statement M
 entries-counted-spec =

@@ -21,7 +21,7 @@ returns c =
     let s = now (start .args .s) in
     let short : read .u16-at .result ≢ entriesPlace + entrySize * getD s countPlace 0 =
     λ e. omega (arith, e, c .if2 .taken) in
-    simp (size-one s (start .pre .2) (c .before .if1 .taken), ← read .u16-at .ensures, ne-eqb _ _ short)
+    simp (size-one (start .pre .of-kind) (c .before .if1 .taken), ← read .u16-at .ensures, ne-eqb _ _ short)
 
 cast-result : tie.Need-cast-result
 cast-result c = search needs
@@ -40,24 +40,22 @@ add-result c = search needs
 
 returns-2 : tie.Need-returns-2
 returns-2 c =
-    let read = c .before .before .before .before in
-    let start = read .before .before in
-    let size = size-one (now (start .args .s)) (start .pre .2) (c .before .before .before .if1 .taken) in
-    simp (size, ← read .u16-at .ensures, c .wide .ensures .0)
+    let tested = c .before .before .before in
+    let read = tested .before in
+    let kind = read .before .before .pre .of-kind in
+    simp (size-one kind (tested .if1 .taken), ← read .u16-at .ensures, c .wide .ensures .same)
 
 returns-3 : tie.Need-returns-3
 returns-3 c =
     let read = c .before .before in
-    let start = read .before .before in
-    let two = kind-two (now (start .args .s)) (start .pre .2) (c .if3 .taken) in
-    simp (two, ← read .u16-at .ensures)
+    let kind = read .before .before .pre .of-kind in
+    simp (kind-two kind (c .if3 .taken), ← read .u16-at .ensures)
 
 returns-4 : tie.Need-returns-4
 returns-4 c =
     let read = c .before .before in
-    let start = read .before .before in
-    let other = kind-other (now (start .args .s)) (start .pre .2) (c .before .if1 .left) (c .if3 .left) in
-    simp (other, ← read .u16-at .ensures)
+    let kind = read .before .before .pre .of-kind in
+    simp (kind-other kind (c .before .if1 .left) (c .if3 .left), ← read .u16-at .ensures)
 
 pub has-length-spec : {M : Type 1} → statement M
 has-length-spec =

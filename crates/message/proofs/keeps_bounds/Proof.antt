@@ -1,50 +1,49 @@
--- `keeps_bounds` meets its contract.
-use native.Mathlib.Omega.{arith}
-use denote.Ref.{now}
+-- `keeps_bounds` meets its contract: the kind picks the test.
 use Rattle.message.proofs.ReadLaws.{kind-one, kind-two, kind-other, size-one}
 use Rattle.message.proofs.keeps_bounds.Statement.{statement}
 use Rattle.message.proofs.keeps_bounds.Tie as tie
 
-is-selection-requires : tie.Need-is-selection-requires
-is-selection-requires c κs =
-    let start = c .before .before in
-    let long = rw (size-one (now (start .args .s)) (start .pre .1) (c .if1 .taken)) at (start .pre .0) in
-    (omega (arith, long), long)
+selection-keeps-bounds-requires : tie.Need-selection-keeps-bounds-requires
+selection-keeps-bounds-requires c κs =
+    let held = c .before .before .pre in
+    rw (size-one (held .of-kind) (c .if1 .taken)) at (held .whole)
 
 returns : tie.Need-returns
 returns c =
-    let start = c .before .before .before in
-    simp (kind-one (now (start .args .s)) (start .pre .1) (c .before .if1 .taken), c .is-selection .ensures)
+    let held = c .before .before .before .pre in
+    simp (kind-one (held .of-kind) (c .before .if1 .taken), c .selection-keeps-bounds .ensures)
 
-is-validation-requires : tie.Need-is-validation-requires
-is-validation-requires c κs =
-    let start = c .before .before .before in
-    rw (kind-two (now (start .args .s)) (start .pre .1) (c .if2 .taken)) at (start .pre .0)
+validation-keeps-bounds-requires : tie.Need-validation-keeps-bounds-requires
+validation-keeps-bounds-requires c κs =
+    let held = c .before .before .before .pre in
+    rw (kind-two (held .of-kind) (c .if2 .taken)) at (held .whole)
 
 returns-2 : tie.Need-returns-2
 returns-2 c =
-    let start = c .before .before .before .before in
-    simp (kind-two (now (start .args .s)) (start .pre .1) (c .before .if2 .taken), c .is-validation .ensures)
+    let held = c .before .before .before .before .pre in
+    simp (kind-two (held .of-kind) (c .before .if2 .taken), c .validation-keeps-bounds .ensures)
 
-is-decision-requires : tie.Need-is-decision-requires
-is-decision-requires c κs =
-    let start = c .before .before .before in
-    rw (kind-other (now (start .args .s)) (start .pre .1) (c .before .if1 .left) (c .if2 .left)) at (start .pre .0)
+decision-keeps-bounds-requires : tie.Need-decision-keeps-bounds-requires
+decision-keeps-bounds-requires c κs =
+    let held = c .before .before .before .pre in
+    rw (kind-other (held .of-kind) (c .before .if1 .left) (c .if2 .left)) at (held .whole)
 
 returns-3 : tie.Need-returns-3
 returns-3 c =
-    let start = c .before .before .before .before in
-    let s = now (start .args .s) in
-    let other = kind-other s (start .pre .1) (c .before .before .if1 .left) (c .before .if2 .left) in
-    simp (other, c .is-decision .ensures)
+    let tested = c .before in
+    let held = tested .before .before .before .pre in
+    simp (
+      kind-other (held .of-kind) (tested .before .if1 .left) (tested .if2 .left),
+      c .decision-keeps-bounds .ensures,
+    )
 
 pub keeps-bounds-spec : {M : Type 1} → statement M
 keeps-bounds-spec =
     tie.close
     (tie.spec
-    is-selection-requires
+    selection-keeps-bounds-requires
     returns
-    is-validation-requires
+    validation-keeps-bounds-requires
     returns-2
-    is-decision-requires
+    decision-keeps-bounds-requires
     returns-3)

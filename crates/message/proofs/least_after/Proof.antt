@@ -20,7 +20,7 @@ wide-requires : tie.Need-wide-requires
 wide-requires c κs = search needs
 
 returns : tie.Need-returns
-returns c = simp (sym (c .before .wide .ensures .0), lt-leb _ _ (c .if1 .taken))
+returns c = simp (sym (c .before .wide .ensures .same), lt-leb _ _ (c .if1 .taken))
 
 add-plan-at : tie.Need-add-plan-at
 add-plan-at c = search needs
@@ -38,7 +38,7 @@ returns-3 : tie.Need-returns-3
 returns-3 c =
     let known = le-leb 1 (c .before .plan-at .result) (omega (arith, c .if2 .left)) in
     let rises = le-leb _ _ (c .before .before .if1 .left) in
-    simp (sym (c .before .before .before .wide .ensures .0), sym (c .before .plan-at .ensures), rises, known)
+    simp (sym (c .before .before .before .wide .ensures .same), sym (c .before .plan-at .ensures), rises, known)
 
 pub least-after-spec : {M : Type 1} → statement M
 least-after-spec =

@@ -1,19 +1,23 @@
--- `look_up` meets its contract. The invariant: the first i entries tell what all that can be of the phase tell.
+-- `look_up` meets its contract.
 use mathlib.Core.Path.{_≡_, refl, sym, _∙_}
-use Prim.Native.Nat.{_+_, _*_, _≤_}
+use mathlib.Core.List.{List}
+use Prim.Native.Nat.{ℕ, _+_, _*_, _≤_}
 use lib.ListN.{length}
 use native.Mathlib.Omega.{arith}
 use borrow.Author.Needs.{needs}
-use denote.Ref.{now}
 use Rattle.message.specs.Layout.{entriesPlace, entrySize}
 use Rattle.message.proofs.LookupTurns.{lookup-here, lookup-before}
-use Rattle.message.specs.Lookup.{entriesUntil, lookedUp}
+use Rattle.message.specs.Lookup.{lookedUp, hasEntry}
 use Rattle.message.proofs.look_up.Statement.{statement}
 use Rattle.message.proofs.look_up.Tie as tie
 
+-- The invariant: the slice has room for the first i entries, and they tell what all that can be of the phase tell.
+record Looking (s : List ℕ) (plan phase i : ℕ) : Type 0 where
+  room : entriesPlace + entrySize * i ≤ length s
+  same : lookedUp s plan phase i ≡ hasEntry s plan phase
+
 abbrev Inv-loop : tie.InvT-loop
-Inv-loop s plan phase i₀ i =
-    (entriesPlace + entrySize * i ≤ length s) × (lookedUp s plan phase i ≡ lookedUp s plan phase (entriesUntil s phase))
+Inv-loop s plan phase i₀ i = Looking s plan phase i
 
 abbrev μ-loop : tie.MeasureT-loop
 μ-loop s plan phase i₀ i = i
@@ -22,7 +26,9 @@ entries-until-requires : tie.Need-entries-until-requires Inv-loop μ-loop
 entries-until-requires c κs = search needs
 
 loop-holds : tie.Need-loop-holds Inv-loop μ-loop
-loop-holds c = (c .entries-until .ensures .1, rw (c .entries-until .ensures .0) refl)
+loop-holds c =
+    let until = c .entries-until .ensures in
+    record { room = until .room; same = rw (until .same) refl }
 
 sub-place : tie.Need-sub-place Inv-loop μ-loop
 sub-place c = search needs
@@ -47,12 +53,10 @@ plan-at-requires c κs = search needs
 
 returns : tie.Need-returns Inv-loop μ-loop
 returns c =
-    let b4 = c .before .before .before .before in
-    let a = b4 .before .before .before .before .args in
-    let l = b4 .before .loop in
+    let more = c .before .before .before .before in
     rw (c .plan-at .ensures)
-    (sym (lookup-here (now (a .s)) (a .plan) (a .phase) (l .i) (b4 .loop-test .taken) (c .before .before .if1 .taken))
-    ∙ l .inv .1)
+    (sym (lookup-here _ _ _ _ (more .loop-test .taken) (c .before .before .if1 .taken))
+    ∙ more .before .loop .inv .same)
 
 sub-i : tie.Need-sub-i Inv-loop μ-loop
 sub-i c = search needs
@@ -62,19 +66,17 @@ loop-less c = search needs
 
 loop-again : tie.Need-loop-again Inv-loop μ-loop
 loop-again c =
-    let b2 = c .before .before in
-    let a = b2 .before .before .before .before .args in
-    let l = b2 .before .loop in (
-      omega arith,
-      sym (lookup-before (now (a .s)) (a .plan) (a .phase) (l .i) (b2 .loop-test .taken) (c .if1 .left))
-          ∙ l .inv .1,
-    )
+    let more = c .before .before in
+    record {
+      room = omega arith;
+      same = sym (lookup-before _ _ _ _ (more .loop-test .taken) (c .if1 .left)) ∙ more .before .loop .inv .same;
+    }
 
 returns-2 : tie.Need-returns-2 Inv-loop μ-loop
 unfolding lookedUp
 returns-2 c =
     let none : c .before .loop .i ≡ 0 = omega (arith, c .loop-test .left) in
-    rw none at (c .before .loop .inv .1)
+    rw none at (c .before .loop .inv .same)
 
 pub look-up-spec : {M : Type 1} → statement M
 look-up-spec =
