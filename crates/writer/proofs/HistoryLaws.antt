@@ -3,6 +3,7 @@ use mathlib.Core.Path.{_≡_, refl, ap, _∙_}
 use mathlib.Core.Bool.{Bool, true, false, cond}
 use mathlib.Core.List.{List, [], _∷_, _++_}
 use Prim.Native.Nat.{ℕ, zero, suc, _+_, _-_, _<_, _≤_}
+use native.Mathlib.Nat.{sub-zero}
 use native.Mathlib.Omega.{arith}
 use lib.Dec.{leb}
 use lib.ListN.{length, getD, set, length-append}
@@ -12,6 +13,7 @@ use Rattle.wire.proofs.Stores.{sets-append}
 use Rattle.wire.specs.Entry.{Entry, entryOf, entriesFrom}
 use Rattle.message.specs.Bounds.{entriesOk}
 use Rattle.message.specs.Encoding.{entryBytes}
+use Rattle.writer.specs.Promises.{Put}
 
 pub entry-bytes-append : (es ks : List Entry) → entryBytes (es ++ ks) ≡ entryBytes es ++ entryBytes ks
 unfolding entryBytes
@@ -78,23 +80,53 @@ pub listed-end : (history : List ℕ) (j phases : ℕ) → phases ≤ j → entr
 unfolding entriesFrom
 listed-end history j phases h = let left : phases - j ≡ 0 = omega arith in ap (entriesFrom history j) left
 
--- A turn of the loop that writes the entries: what is left still fits, and the stores that are left end in the same
--- buffer.
-module _ (history : List ℕ) (j phases place : ℕ) (more : j < phases) where
-  pub room-turn : (n : ℕ) → place + length (entryBytes (entriesFrom history j (phases - j))) ≤ n
-      → place + length (entryBytes (entryOf j (getD history j 0)))
-      + length (entryBytes (entriesFrom history (j + 1) (phases - (j + 1)))) ≤ n
-  room-turn n room =
-      let first = entryBytes (entryOf j (getD history j 0)) in
-      let others = entryBytes (entriesFrom history (j + 1) (phases - (j + 1))) in
-      omega (arith, length-append first others, ap length (bytes-turn history j phases more))
+-- While entries are put, those of the phases before this one are: the buffer is as long as it was, it has room for what
+-- is left, and with that it is the buffer with the entries of all phases.
+pub record Putting (buffer₀ : List ℕ) (place₀ : ℕ) (history : List ℕ) (phases : ℕ) (buffer : List ℕ) (place phase : ℕ)
+    : Type 0 where
+  pub early : phase ≤ phases
+  pub long : length buffer ≡ length buffer₀
+  pub room : place + length (entryBytes (entriesFrom history phase (phases - phase))) ≤ length buffer
+  pub whole : sets buffer place (entryBytes (entriesFrom history phase (phases - phase)))
+      ≡ sets buffer₀ place₀ (entryBytes (entriesFrom history 0 phases))
 
-  pub stores-turn : (buf whole : List ℕ) (place′ : ℕ) (buf′ : List ℕ)
-      → place′ ≡ place + length (entryBytes (entryOf j (getD history j 0)))
-      → buf′ ≡ sets buf place (entryBytes (entryOf j (getD history j 0)))
-      → sets buf place (entryBytes (entriesFrom history j (phases - j))) ≡ whole
-      → sets buf′ place′ (entryBytes (entriesFrom history (j + 1) (phases - (j + 1)))) ≡ whole
-  stores-turn buf whole place′ buf′ at-place at-buf e =
-      let first = entryBytes (entryOf j (getD history j 0)) in
-      let others = entryBytes (entriesFrom history (j + 1) (phases - (j + 1))) in
-      rw (at-place, at-buf, ← sets-append first others buf place, ← bytes-turn history j phases more) e
+pub putting-none : (buffer : List ℕ) (place : ℕ) (history : List ℕ) (phases : ℕ)
+    → place + length (entryBytes (entriesFrom history 0 phases)) ≤ length buffer
+    → Putting buffer place history phases buffer place 0
+putting-none buffer place history phases fits =
+    record { early = omega arith; long = refl; room = simp sub-zero fits; whole = simp sub-zero }
+
+module _ {buffer₀ : List ℕ} {place₀ : ℕ} {history : List ℕ} {phases : ℕ} {buffer : List ℕ} {place phase : ℕ}
+    (putting : Putting buffer₀ place₀ history phases buffer place phase) where
+  module _ (more : phase < phases) where
+    abbrev first : List ℕ
+    first = entryBytes (entryOf phase (getD history phase 0))
+
+    abbrev others : List ℕ
+    others = entryBytes (entriesFrom history (phase + 1) (phases - (phase + 1)))
+
+    fits : place + length first + length others ≤ length buffer
+    fits = omega (arith, putting .room, length-append first others, ap length (bytes-turn history phase phases more))
+
+    -- there is room for the entry of this phase
+    pub room-here : place + length first ≤ length buffer
+    room-here = omega (arith, fits)
+
+    -- a turn of the loop puts it
+    pub putting-more : {after : List ℕ} {next : ℕ}
+        → Put buffer place (entryOf phase (getD history phase 0)) after next
+        → length after ≡ length buffer
+        → Putting buffer₀ place₀ history phases after next (phase + 1)
+    putting-more put kept = record {
+      early = omega arith;
+      long = kept ∙ putting .long;
+      room = omega (arith, fits, kept, put .goes-on);
+      whole =
+          rw (put .goes-on, put .left, ← sets-append first others buffer place, ← bytes-turn history phase phases more)
+          (putting .whole);
+    }
+
+  -- no phase is left
+  pub putting-all : phases ≤ phase → buffer ≡ sets buffer₀ place₀ (entryBytes (entriesFrom history 0 phases))
+  unfolding entryBytes
+  putting-all done = rw (listed-end history phase phases done) at (putting .whole)

@@ -1,6 +1,6 @@
 -- What the writers' tests and stores amount to: the whole buffer is the message and the bytes after it, or untouched.
 use mathlib.Core.Path.{_≡_, refl}
-use mathlib.Core.Bool.{Bool, true, false, _&&_}
+use mathlib.Core.Bool.{Bool, true, false, _&&_, true≢false}
 use mathlib.Core.List.{List}
 use Prim.Native.Nat.{ℕ, _≤_, _<_}
 use native.Mathlib.Omega.{arith}
@@ -8,7 +8,7 @@ use lib.Dec.{leb, ltb}
 use lib.ListN.{length}
 use lib.Seq.{sets}
 use borrow.Author.Tests.{le-leb, lt-leb, leb-true}
-use Rattle.wire.specs.Outcome.{accepted, refused}
+use Rattle.wire.specs.Outcome.{Outcome, accepted, refused}
 use Rattle.wire.proofs.Stores.{sets-front}
 use Rattle.wire.proofs.Tests.{both-true}
 use Rattle.wire.specs.Sizes.{lastPhase}
@@ -21,6 +21,7 @@ use Rattle.wire.specs.Entry.{entriesFrom}
 use Rattle.message.proofs.EncodeLaws.{encode-length}
 use Rattle.writer.proofs.HistoryLaws.{listed-count, listed-ok}
 
+-- a message that keeps its bounds is written where the buffer has room for it
 module _ (m : Message) (buffer : List ℕ) where
   pub written : within m ≡ true → sizeOf (m .body) ≤ length buffer
       → (accepted (sizeOf (m .body)) ≡ writeMessageOf m buffer) × (sets buffer 0 (encode m) ≡ messageBufferOf m buffer)
@@ -30,61 +31,74 @@ module _ (m : Message) (buffer : List ℕ) where
       let fits : length (encode m) ≤ length buffer = omega arith in
       (rw (ok, le-leb _ _ room), rw (ok, le-leb _ _ room, ← long) (sets-front (encode m) buffer fits))
 
+  -- a buffer that is too short stays as it is
   pub too-short : within m ≡ true → length buffer < sizeOf (m .body)
       → (refused 9 ≡ writeMessageOf m buffer) × (buffer ≡ messageBufferOf m buffer)
   unfolding writeMessageOf
   too-short ok short = (rw (ok, lt-leb _ _ short), rw (ok, lt-leb _ _ short))
 
+  -- and so does any buffer where a field breaks a bound
   pub out-of-bounds : within m ≡ false → (refused 13 ≡ writeMessageOf m buffer) × (buffer ≡ messageBufferOf m buffer)
   unfolding writeMessageOf
   out-of-bounds broken = (rw broken, rw broken)
 
 -- Of a selection's bounds only those that its scalar fields can break are left to test, where the phases looked at
 -- are no more than the message's phase.
-module _ (run phase vote stamp : ℕ) (history : List ℕ) (phases : ℕ) where
-  abbrev pub allowed : Bool
-  allowed = leb phases phase && (phaseOk phase && (planOk vote && ltb stamp phase))
+abbrev pub allowed : (phase vote stamp phases : ℕ) → Bool
+allowed phase vote stamp phases = leb phases phase && (phaseOk phase && (planOk vote && ltb stamp phase))
+
+-- what passing them tells
+pub record Allows (run phase vote stamp : ℕ) (history : List ℕ) (phases : ℕ) : Type 0 where
+  pub before : leb phases phase ≡ true
+  pub in-bounds : within (selectionOf run phase vote stamp history phases) ≡ true
+  pub few : phases ≤ lastPhase
+
+all-true : (a b c d : Bool) → a ≡ true → b ≡ true → c ≡ true → d ≡ true → a && (b && c && d) ≡ true
+all-true a b c d ha hb hc hd = rw (ha, hb, hc, hd)
+
+pub allows : (run phase vote stamp : ℕ) (history : List ℕ) (phases : ℕ) → allowed phase vote stamp phases ≡ true
+    → Allows run phase vote stamp history phases
+allows run phase vote stamp history phases e =
+    let parts = both-true (leb phases phase) _ e in
+    let scalars = both-true (phaseOk phase) (planOk vote && ltb stamp phase) (parts .1) in
+    let below : phases ≤ phase = leb-true _ _ (parts .0) in
+    let last : phase ≤ lastPhase = leb-true _ _ (both-true (leb 1 phase) (leb phase lastPhase) (scalars .0) .1) in
+    let few : length (entriesFrom history 0 phases) ≤ lastPhase = omega (arith, listed-count history 0 phases) in
+    let rising = listed-ok history 0 phases 0 phase (omega arith) (omega arith) in
+    record {
+      before = parts .0;
+      in-bounds = all-true _ _ _ _ (scalars .0) (scalars .1) (le-leb _ _ few) rising;
+      few = omega arith;
+    }
+
+module _ (run phase vote stamp : ℕ) (history : List ℕ) (phases : ℕ) (buffer : List ℕ) where
+  -- what the writer of a selection answers and leaves
+  abbrev Answers : Outcome ℕ → List ℕ → Type 0
+  Answers outcome after =
+      (outcome ≡ writeSelectionOf run phase vote stamp history phases buffer)
+      × (after ≡ selectionBufferOf run phase vote stamp history phases buffer)
 
   abbrev message : Message
   message = selectionOf run phase vote stamp history phases
 
-  all-true : (a b c d : Bool) → a ≡ true → b ≡ true → c ≡ true → d ≡ true → a && (b && c && d) ≡ true
-  all-true a b c d ha hb hc hd = rw (ha, hb, hc, hd)
+  pub selection-written : Allows run phase vote stamp history phases → sizeOf (message .body) ≤ length buffer
+      → Answers (accepted (sizeOf (message .body))) (sets buffer 0 (encode message))
+  selection-written ok room = rw (ok .before) (written message buffer (ok .in-bounds) room)
 
-  pub allowed-within : allowed ≡ true → (leb phases phase ≡ true) × (within message ≡ true) × (phases ≤ lastPhase)
-  allowed-within e =
-      let parts = both-true (leb phases phase) _ e in
-      let scalars = both-true (phaseOk phase) (planOk vote && ltb stamp phase) (parts .1) in
-      let below : phases ≤ phase = leb-true _ _ (parts .0) in
-      let last : phase ≤ lastPhase = leb-true _ _ (both-true (leb 1 phase) (leb phase lastPhase) (scalars .0) .1) in
-      let few : length (entriesFrom history 0 phases) ≤ lastPhase = omega (arith, listed-count history 0 phases) in
-      let rising = listed-ok history 0 phases 0 phase (omega arith) (omega arith) in
-      (parts .0, all-true _ _ _ _ (scalars .0) (scalars .1) (le-leb _ _ few) rising, omega arith)
+  pub selection-too-short : Allows run phase vote stamp history phases → length buffer < sizeOf (message .body)
+      → Answers (refused 9) buffer
+  selection-too-short ok short = rw (ok .before) (too-short message buffer (ok .in-bounds) short)
 
-  module _ (buffer : List ℕ) where
-    pub selection-written : allowed ≡ true → sizeOf (message .body) ≤ length buffer
-        → (accepted (sizeOf (message .body)) ≡ writeSelectionOf run phase vote stamp history phases buffer)
-        × (sets buffer 0 (encode message) ≡ selectionBufferOf run phase vote stamp history phases buffer)
-    selection-written e room = rw (allowed-within e .0) (written message buffer (allowed-within e .1) room)
+  pub selection-out-of-bounds : allowed phase vote stamp phases ≡ false → Answers (refused 13) buffer
+  selection-out-of-bounds e = go (leb phases phase) refl e
+    where
+      broken : (a b c d : Bool) → a && b ≡ false → a && (b && c && d) ≡ false
+      broken true true c d e = absurd (true≢false e)
+      broken true false c d e = refl
+      broken false b c d e = refl
 
-    pub selection-too-short : allowed ≡ true → length buffer < sizeOf (message .body)
-        → (refused 9 ≡ writeSelectionOf run phase vote stamp history phases buffer)
-        × (buffer ≡ selectionBufferOf run phase vote stamp history phases buffer)
-    selection-too-short e short = rw (allowed-within e .0) (too-short message buffer (allowed-within e .1) short)
-
-    pub selection-out-of-bounds : allowed ≡ false
-        → (refused 13 ≡ writeSelectionOf run phase vote stamp history phases buffer)
-        × (buffer ≡ selectionBufferOf run phase vote stamp history phases buffer)
-    selection-out-of-bounds e = go (leb phases phase) refl e
-      where
-        broken : (a b c d : Bool) → a && b ≡ false → a && (b && c && d) ≡ false
-        broken true true c d e = absurd (let z : _≡_ {A = ℕ} 0 1 = cc in omega arith)
-        broken true false c d e = refl
-        broken false b c d e = refl
-
-        go : (b : Bool) → leb phases phase ≡ b → b && (phaseOk phase && (planOk vote && ltb stamp phase)) ≡ false
-            → (refused 13 ≡ writeSelectionOf run phase vote stamp history phases buffer)
-            × (buffer ≡ selectionBufferOf run phase vote stamp history phases buffer)
-        go true h e = rw h (out-of-bounds message buffer
-            (broken (phaseOk phase) (planOk vote && ltb stamp phase) _ _ e))
-        go false h e = (rw h, rw h)
+      go : (b : Bool) → leb phases phase ≡ b → b && (phaseOk phase && (planOk vote && ltb stamp phase)) ≡ false
+          → Answers (refused 13) buffer
+      go true h e = rw h (out-of-bounds message buffer
+          (broken (phaseOk phase) (planOk vote && ltb stamp phase) _ _ e))
+      go false h e = (rw h, rw h)

@@ -22,9 +22,11 @@ ghost use mathlib.Core.Path.{_≡_};
 ghost use Prim.Native.Nat.{_+_, _≤_};
 ghost use lib.ListN.{length};
 ghost use lib.Seq.{sets};
-ghost use Rattle.wire.specs.Sizes.{lastPhase};
+ghost use mathlib.Core.List.{_++_};
+ghost use Rattle.wire.specs.Sizes.{planSize, lastPhase};
+ghost use Rattle.wire.specs.Bytes.{bytesOf};
 ghost use Rattle.message.specs.Encoding.{header, entryBytes};
-ghost use Rattle.message.specs.Layout.{headerSize, entriesPlace};
+ghost use Rattle.message.specs.Layout.{headerSize, planPlace, entriesPlace};
 ghost use Rattle.writer.specs.Writing.{
   validationOf,
   decisionOf,
@@ -34,6 +36,7 @@ ghost use Rattle.writer.specs.Writing.{
   selectionBufferOf,
   writeAnswer,
 };
+ghost use Rattle.writer.specs.Promises.{Counts, HaveRoom, Put};
 ghost use Rattle.wire.specs.Entry.{entryOf, entriesFrom};
 
 // Why writing refuses; `writeNumber` in specs/Writing.antt has 01's numbers.
@@ -60,6 +63,17 @@ fn put_header(buf: &mut [u8], size: u16, kind: u16, run: u32, phase: u8)
     buf[PHASE_AT] = phase;
 }
 
+// Writes the header, and after it the plan that every message has: the vote of a selection or decision, the plan of a
+// validation.
+fn put_front(buf: &mut [u8], size: u16, kind: u16, run: u32, phase: u8, plan: Plan)
+    requires { ⌜ planPlace + planSize ≤ length (now buf) ⌝ }
+    ensures { λ _. ⌜ now (buf .exit)
+        ≡ sets (now (buf .entry)) 0 (header size kind run phase ++ bytesOf planSize plan) ⌝ }
+{
+    put_header(buf, size, kind, run, phase);
+    wire::put_plan(buf, PLAN_AT, plan);
+}
+
 // Writes a validation. Fields that break a bound are refused, then a buffer that is too short.
 pub fn write_validation(buf: &mut [u8], run: u32, phase: u8, plan: Plan) -> Writing
     ensures { λ r. ⌜ (writeAnswer r ≡ writeMessageOf (validationOf run phase plan) (now (buf .entry)))
@@ -70,8 +84,7 @@ pub fn write_validation(buf: &mut [u8], run: u32, phase: u8, plan: Plan) -> Writ
         if buf.len() < VALIDATION_LENGTH as usize {
             return Writing::Refused(WriteRefusal::Short);
         }
-        put_header(buf, VALIDATION_LENGTH, VALIDATION, run, phase);
-        wire::put_plan(buf, PLAN_AT, plan);
+        put_front(buf, VALIDATION_LENGTH, VALIDATION, run, phase, plan);
         return Writing::Bytes(VALIDATION_LENGTH as usize);
     }
     Writing::Refused(WriteRefusal::OutOfBounds)
@@ -87,8 +100,7 @@ pub fn write_decision(buf: &mut [u8], run: u32, phase: u8, vote: Plan, stamp: u8
         if buf.len() < DECISION_LENGTH as usize {
             return Writing::Refused(WriteRefusal::Short);
         }
-        put_header(buf, DECISION_LENGTH, DECISION, run, phase);
-        wire::put_plan(buf, PLAN_AT, vote);
+        put_front(buf, DECISION_LENGTH, DECISION, run, phase, vote);
         buf[STAMP_AT] = stamp;
         return Writing::Bytes(DECISION_LENGTH as usize);
     }
@@ -97,7 +109,7 @@ pub fn write_decision(buf: &mut [u8], run: u32, phase: u8, vote: Plan, stamp: u8
 
 // 1 for a phase that has a plan, else 0.
 fn one_if_plan(phase: u8, plan: Plan) -> usize
-    ensures { λ r. ⌜ (r ≡ length (entryOf phase plan)) × (r ≤ 1) ⌝ }
+    ensures { λ r. ⌜ Counts (entryOf phase plan) 1 r ⌝ }
 {
     if message::is_plan(plan) { 1 } else { 0 }
 }
@@ -105,7 +117,7 @@ fn one_if_plan(phase: u8, plan: Plan) -> usize
 // How many of the first phases have a plan.
 fn count_entries(history: [Plan; PHASES], phases: u8) -> usize
     requires { ⌜ phases ≤ lastPhase ⌝ }
-    ensures { λ r. ⌜ (r ≡ length (entriesFrom history 0 phases)) × (r ≤ phases) ⌝ }
+    ensures { λ r. ⌜ Counts (entriesFrom history 0 phases) phases r ⌝ }
 {
     let mut count: usize = 0;
     let mut phase: u8 = 0;
@@ -119,8 +131,7 @@ fn count_entries(history: [Plan; PHASES], phases: u8) -> usize
 // Writes the entry of a phase that has a plan, and answers the place after it.
 fn put_entry(buf: &mut [u8], place: usize, phase: u8, plan: Plan) -> usize
     requires { ⌜ place + length (entryBytes (entryOf phase plan)) ≤ length (now buf) ⌝ }
-    ensures { λ r. ⌜ (r ≡ place + length (entryBytes (entryOf phase plan)))
-        × (now (buf .exit) ≡ sets (now (buf .entry)) place (entryBytes (entryOf phase plan))) ⌝ }
+    ensures { λ r. ⌜ Put (now (buf .entry)) place (entryOf phase plan) (now (buf .exit)) r ⌝ }
 {
     if message::is_plan(plan) {
         buf[place] = phase;
@@ -133,8 +144,7 @@ fn put_entry(buf: &mut [u8], place: usize, phase: u8, plan: Plan) -> usize
 
 // Writes the entries of the first phases.
 fn put_entries(buf: &mut [u8], history: [Plan; PHASES], phases: u8)
-    requires { ⌜ (phases ≤ lastPhase)
-        × (entriesPlace + length (entryBytes (entriesFrom history 0 phases)) ≤ length (now buf)) ⌝ }
+    requires { ⌜ HaveRoom history phases (now buf) ⌝ }
     ensures { λ _. ⌜ now (buf .exit)
         ≡ sets (now (buf .entry)) entriesPlace (entryBytes (entriesFrom history 0 phases)) ⌝ }
 {
@@ -168,8 +178,7 @@ pub fn write_selection(
         if buf.len() < size {
             return Writing::Refused(WriteRefusal::Short);
         }
-        put_header(buf, size as u16, SELECTION, run, phase);
-        wire::put_plan(buf, PLAN_AT, vote);
+        put_front(buf, size as u16, SELECTION, run, phase, vote);
         buf[STAMP_AT] = stamp;
         buf[COUNT_AT] = count as u8;
         put_entries(buf, history, phases);

@@ -1,32 +1,23 @@
--- `put_entries` meets its contract. The invariant: laying the entries of the phases left at this place ends in the
+-- `put_entries` meets its contract. The invariant: putting the entries of the phases left at this place ends in the
 -- buffer with all entries.
-use mathlib.Core.Path.{_≡_, _∙_}
-use Prim.Native.Nat.{_≤_, _+_, _-_}
-use native.Mathlib.Nat.{sub-zero}
-use native.Mathlib.Omega.{arith}
-use lib.ListN.{length}
-use lib.Seq.{sets}
+use Prim.Native.Nat.{_-_}
 use borrow.Author.Needs.{needs}
+use denote.Ref.{now}
 use Rattle.message.specs.Layout.{entriesPlace}
-use Rattle.writer.proofs.HistoryLaws.{room-turn, stores-turn, listed-end}
-use Rattle.message.specs.Encoding.{entryBytes}
-use Rattle.wire.specs.Entry.{entriesFrom}
+use Rattle.writer.proofs.HistoryLaws.{Putting, putting-none, room-here, putting-more, putting-all}
 use Rattle.writer.proofs.put_entries.Statement.{statement}
 use Rattle.writer.proofs.put_entries.Tie as tie
 
 abbrev Inv-loop : tie.InvT-loop
-Inv-loop buf₀ phases history place₀ phase₀ buf place phase =
-    (length buf ≡ length buf₀)
-    × (place + length (entryBytes (entriesFrom history phase (phases - phase))) ≤ length buf)
-    × (sets buf place (entryBytes (entriesFrom history phase (phases - phase)))
-    ≡ sets buf₀ entriesPlace (entryBytes (entriesFrom history 0 phases)))
-    × (phase ≤ phases)
+Inv-loop buf₀ phases history place₀ phase₀ buf place phase = Putting buf₀ entriesPlace history phases buf place phase
 
 abbrev μ-loop : tie.MeasureT-loop
 μ-loop buf₀ phases history place₀ phase₀ buf place phase = phases - phase
 
 loop-holds : tie.Need-loop-holds Inv-loop μ-loop
-loop-holds c = simp sub-zero (search needs)
+loop-holds c =
+    let start = c .before in
+    putting-none (now (start .args .buf)) entriesPlace (start .args .t2) (start .args .phases) (start .pre .room)
 
 cast-put-entry : tie.Need-cast-put-entry Inv-loop μ-loop
 cast-put-entry c = search needs
@@ -38,13 +29,7 @@ array-read-put-entry : tie.Need-array-read-put-entry Inv-loop μ-loop
 array-read-put-entry c = search needs
 
 put-entry-requires : tie.Need-put-entry-requires Inv-loop μ-loop
-put-entry-requires c κs =
-    let b4 = c .before .before .before .before in
-    let l = c .before .before .loop in
-    omega (
-      arith,
-      room-turn (b4 .args .t2) (l .phase) (b4 .args .phases) (l .place) (c .before .loop-test .taken) _ (l .inv .1),
-    )
+put-entry-requires c κs = room-here (c .before .before .loop .inv) (c .before .loop-test .taken)
 
 add-phase : tie.Need-add-phase Inv-loop μ-loop
 add-phase c = search needs
@@ -54,30 +39,15 @@ loop-less c = search needs
 
 loop-again : tie.Need-loop-again Inv-loop μ-loop
 loop-again c =
-    let b4 = c .before .before .before .before in
-    let b4 = b4 in
-    let l = b4 .before .loop in
-    let e = c .before .before .put-entry in
-    let kept : length (e .last .0) ≡ length (l .buf) = e .kept .0 in
-    let room = room-turn (b4 .before .before .before .args .t2) (l .phase)
-    (b4 .before .before .before .args .phases) (l .place) (b4 .loop-test .taken) (length (l .buf)) (l .inv .1) in (
-      kept ∙ l .inv .0,
-      omega (arith, room, kept, e .ensures .0),
-      stores-turn (b4 .before .before .before .args .t2) (l .phase) (b4 .before .before .before .args .phases)
-          (l .place) (b4 .loop-test .taken) (l .buf) _ _ _ (e .ensures .0)
-          (e .ensures .1) (l .inv .2),
-      omega arith,
-    )
+    let put = c .before .before .put-entry in
+    let more = c .before .before .before .before in
+    putting-more (more .before .loop .inv) (more .loop-test .taken) (put .ensures) (put .kept .0)
 
 same-length : tie.Need-same-length Inv-loop μ-loop
 same-length c = search needs
 
 returns : tie.Need-returns Inv-loop μ-loop
-unfolding entryBytes
-returns c =
-    let done = listed-end (c .before .before .before .args .t2) (c .before .loop .phase)
-    (c .before .before .before .args .phases) (c .loop-test .left) in
-    rw done at (c .before .loop .inv .2)
+returns c = putting-all (c .before .loop .inv) (c .loop-test .left)
 
 pub put-entries-spec : {M : Type 1} → statement M
 put-entries-spec =

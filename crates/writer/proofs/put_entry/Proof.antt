@@ -1,6 +1,5 @@
 -- `put_entry` meets its contract.
 use mathlib.Core.Path.{sym, _∙_}
-use native.Mathlib.Nat.{add-zero}
 use native.Mathlib.Numerals.{towards-suc}
 use native.Mathlib.Omega.{arith}
 use lib.ListN.{length-set}
@@ -35,15 +34,16 @@ same-length c =
 returns : tie.Need-returns
 unfolding entryBytes
 returns c =
-    let b4 = c .before .before .before .before in
-    let full = sym (b4 .before .is-plan .ensures) ∙ b4 .if1 .taken in
-    let room = simp full at (b4 .before .before .before .pre) in
-    let laid = laid-room _ _ _ (c .before .before .put-plan .ensures) (simp length-set (omega (arith, room))) in
+    let put = c .before .before in
+    let planned = put .before .before in
+    let full = sym (planned .before .is-plan .ensures) ∙ planned .if1 .taken in
+    let room = simp full at (planned .before .before .before .pre) in
+    let laid = laid-room _ _ _ (put .put-plan .ensures) (simp length-set (omega (arith, room))) in
     simp (full, towards-suc, laid) (search needs)
 
 returns-2 : tie.Need-returns-2
 unfolding entryBytes
-returns-2 c = simp (sym (c .before .is-plan .ensures) ∙ c .if1 .left, add-zero) (search needs)
+returns-2 c = simp (sym (c .before .is-plan .ensures) ∙ c .if1 .left) (search needs)
 
 pub put-entry-spec : {M : Type 1} → statement M
 put-entry-spec =

@@ -1,4 +1,4 @@
--- `put_header` meets its contract.
+-- `put_header` meets its contract: four fields are stored, one after the other.
 use native.Mathlib.Omega.{arith}
 use lib.ListN.{length-set}
 use borrow.Author.Needs.{needs}
@@ -20,27 +20,28 @@ slice-write-buf c = search needs
 
 same-length : tie.Need-same-length
 same-length c =
-    let b4 = c .before .before .before .before in
-    let b8 = b4 .before .before .before .before in
+    let run-put = c .before .before in
+    let kind-put = run-put .before .before .before .before in
+    let length-put = kind-put .before .before .before .before in
     simp length-set (omega (
       arith,
-      c .before .before .put-u32 .kept .0,
-      b4 .before .before .put-u162 .kept .0,
-      b8 .before .before .put-u16 .kept .0,
+      run-put .put-u32 .kept .0,
+      kind-put .put-u162 .kept .0,
+      length-put .put-u16 .kept .0,
     ))
 
 returns : tie.Need-returns
 returns c =
-    let b4 = c .before .before .before .before in
-    let b8 = b4 .before .before .before .before in
-    let first = b8 .before .before .put-u16 in
-    let second = b4 .before .before .put-u162 in
-    let third = c .before .before .put-u32 in
-    let pre = b8 .before .before .before .before .before .pre in
+    let run-put = c .before .before in
+    let kind-put = run-put .before .before .before .before in
+    let length-put = kind-put .before .before .before .before in
+    let kind-kept = kind-put .put-u162 .kept .0 in
+    let length-kept = length-put .put-u16 .kept .0 in
+    let room = length-put .before .before .before .pre in
     simp (
-      laid-room _ _ _ (third .ensures) (omega (arith, second .kept .0, first .kept .0, pre)),
-      laid-room _ _ _ (second .ensures) (omega (arith, first .kept .0, pre)),
-      laid-room _ _ _ (first .ensures) (omega (arith, pre)),
+      laid-room _ _ _ (run-put .put-u32 .ensures) (omega (arith, kind-kept, length-kept, room)),
+      laid-room _ _ _ (kind-put .put-u162 .ensures) (omega (arith, length-kept, room)),
+      laid-room _ _ _ (length-put .put-u16 .ensures) (omega (arith, room)),
     )
 
 pub put-header-spec : {M : Type 1} → statement M

@@ -1,12 +1,16 @@
 -- `write_decision` meets its contract.
-use native.Mathlib.Omega.{arith}
+use mathlib.Core.Path.{_≡_}
+use mathlib.Core.Bool.{true}
+use mathlib.Core.List.{List}
+use Prim.Native.Nat.{ℕ}
 use lib.ListN.{length-set}
 use borrow.Author.Needs.{needs}
-use Rattle.wire.proofs.Stores.{laid-room}
 use denote.Ref.{now}
-use Rattle.writer.proofs.WriteLaws.{written, too-short, out-of-bounds}
+use Rattle.message.specs.Fields.{Message}
+use Rattle.message.specs.Bounds.{within}
 use Rattle.message.specs.Encoding.{encode}
 use Rattle.writer.specs.Writing.{decisionOf}
+use Rattle.writer.proofs.WriteLaws.{written, too-short, out-of-bounds}
 use Rattle.writer.proofs.write_decision.Statement.{statement}
 use Rattle.writer.proofs.write_decision.Tie as tie
 
@@ -19,21 +23,28 @@ is-plan-requires c κs = search needs
 cast-if2 : tie.Need-cast-if2
 cast-if2 c = search needs
 
+-- what is written, and where
+abbrev message : tie.Start → Message
+message start = let a = start .args in decisionOf (a .run) (a .phase) (a .vote) (a .stamp)
+
+abbrev buffer : tie.Start → List ℕ
+buffer start = now (start .args .buf)
+
+-- behind the first test: the fields keep their bounds
+module _ (c : tie.Then1) where
+  abbrev start : tie.Start
+  start = c .before .before .before .before
+
+  in-bounds : within (message start) ≡ true
+  in-bounds = simp (c .before .before .is-phase .ensures, c .before .is-plan .ensures) at (c .if1 .taken)
+
 returns : tie.Need-returns
 returns c =
-    let b4 = c .before .before .before .before in
-    let a = b4 .before .args in
-    too-short (decisionOf (a .run) (a .phase) (a .vote) (a .stamp)) (now (a .buf))
-    (simp (
-      c .before .before .before .is-phase .ensures,
-      c .before .before .is-plan .ensures,
-    ) at (c .before .if1 .taken)) (c .if2 .taken)
+    let allowed = c .before in
+    too-short (message (start allowed)) (buffer (start allowed)) (in-bounds allowed) (c .if2 .taken)
 
-put-header-requires : tie.Need-put-header-requires
-put-header-requires c κs = search needs
-
-put-plan-requires : tie.Need-put-plan-requires
-put-plan-requires c κs = search needs
+put-front-requires : tie.Need-put-front-requires
+put-front-requires c κs = search needs
 
 slice-write-buf : tie.Need-slice-write-buf
 slice-write-buf c = search needs
@@ -42,29 +53,21 @@ cast-t11 : tie.Need-cast-t11
 cast-t11 c = search needs
 
 same-length : tie.Need-same-length
-same-length c =
-    let b4 = c .before .before .before .before in
-    simp length-set (omega (arith, c .before .before .put-plan .kept .0, b4 .before .before .put-header .kept .0))
+same-length c = simp length-set (search needs)
 
 returns-2 : tie.Need-returns-2
 unfolding encode
 returns-2 c =
-    let b4 = c .before .before .before .before in
-    let b8 = b4 .before .before .before .before in
-    let b12 = b8 .before .before .before .before in
-    let a = b12 .before .args in
-    let put = b4 .before .before .put-header in
-    let laid = laid-room _ _ _ (c .before .before .put-plan .ensures) (omega (arith, put .kept .0, b8 .if2 .left)) in
-    simp (laid, put .ensures)
-    (written (decisionOf (a .run) (a .phase) (a .vote) (a .stamp)) (now (a .buf))
-    (simp (
-      b8 .before .before .before .is-phase .ensures,
-      b8 .before .before .is-plan .ensures,
-    ) at (b8 .before .if1 .taken)) (b8 .if2 .left))
+    let put = c .before .before in
+    let roomy = put .before .before in
+    let allowed = roomy .before in
+    simp (put .put-front .ensures)
+    (written (message (start allowed)) (buffer (start allowed)) (in-bounds allowed) (roomy .if2 .left))
 
 returns-3 : tie.Need-returns-3
-returns-3 c = let a = c .before .before .before .before .args in
-    out-of-bounds (decisionOf (a .run) (a .phase) (a .vote) (a .stamp)) (now (a .buf))
+returns-3 c =
+    let start = c .before .before .before .before in
+    out-of-bounds (message start) (buffer start)
     (simp (c .before .before .is-phase .ensures, c .before .is-plan .ensures) at (c .if1 .left))
 
 pub write-decision-spec : {M : Type 1} → statement M
@@ -75,8 +78,7 @@ write-decision-spec =
     is-plan-requires
     cast-if2
     returns
-    put-header-requires
-    put-plan-requires
+    put-front-requires
     slice-write-buf
     cast-t11
     same-length
