@@ -8,7 +8,7 @@ use lib.Dec.{leb, ltb}
 use lib.ListN.{length}
 use lib.Seq.{sets}
 use borrow.Author.Tests.{le-leb, lt-leb, leb-true}
-use Rattle.wire.specs.Outcome.{Outcome, accepted, refused}
+use Rattle.wire.specs.Outcome.{accepted, refused}
 use Rattle.wire.proofs.Stores.{sets-front}
 use Rattle.wire.proofs.Tests.{both-true}
 use Rattle.wire.specs.Sizes.{lastPhase}
@@ -71,34 +71,40 @@ allows run phase vote stamp history phases e =
       few = omega arith;
     }
 
-module _ (run phase vote stamp : ℕ) (history : List ℕ) (phases : ℕ) (buffer : List ℕ) where
-  -- what the writer of a selection answers and leaves
-  abbrev Answers : Outcome ℕ → List ℕ → Type 0
-  Answers outcome after =
-      (outcome ≡ writeSelectionOf run phase vote stamp history phases buffer)
-      × (after ≡ selectionBufferOf run phase vote stamp history phases buffer)
-
+-- the answers of a selection's writer, where its fields are allowed and where they are not
+module _ {run phase vote stamp : ℕ} {history : List ℕ} {phases : ℕ} (ok : Allows run phase vote stamp history phases)
+    (buffer : List ℕ) where
   abbrev message : Message
   message = selectionOf run phase vote stamp history phases
 
-  pub selection-written : Allows run phase vote stamp history phases → sizeOf (message .body) ≤ length buffer
-      → Answers (accepted (sizeOf (message .body))) (sets buffer 0 (encode message))
-  selection-written ok room = rw (ok .before) (written message buffer (ok .in-bounds) room)
+  pub selection-written : sizeOf (message .body) ≤ length buffer
+      → (accepted (sizeOf (message .body)) ≡ writeSelectionOf run phase vote stamp history phases buffer)
+      × (sets buffer 0 (encode message) ≡ selectionBufferOf run phase vote stamp history phases buffer)
+  selection-written room = rw (ok .before) (written message buffer (ok .in-bounds) room)
 
-  pub selection-too-short : Allows run phase vote stamp history phases → length buffer < sizeOf (message .body)
-      → Answers (refused 9) buffer
-  selection-too-short ok short = rw (ok .before) (too-short message buffer (ok .in-bounds) short)
+  pub selection-too-short : length buffer < sizeOf (message .body)
+      → (refused 9 ≡ writeSelectionOf run phase vote stamp history phases buffer)
+      × (buffer ≡ selectionBufferOf run phase vote stamp history phases buffer)
+  selection-too-short short = rw (ok .before) (too-short message buffer (ok .in-bounds) short)
 
-  pub selection-out-of-bounds : allowed phase vote stamp phases ≡ false → Answers (refused 13) buffer
-  selection-out-of-bounds e = go (leb phases phase) refl e
+module _ (run phase vote stamp : ℕ) (history : List ℕ) (phases : ℕ) (buffer : List ℕ) where
+  -- whatever the phases, a selection whose scalar fields break a bound is refused
+  refused-by : (early : Bool) → leb phases phase ≡ early
+      → early && (phaseOk phase && (planOk vote && ltb stamp phase)) ≡ false
+      → (refused 13 ≡ writeSelectionOf run phase vote stamp history phases buffer)
+      × (buffer ≡ selectionBufferOf run phase vote stamp history phases buffer)
+  refused-by true early e =
+      rw early
+      (out-of-bounds (selectionOf run phase vote stamp history phases) buffer
+      (broken (phaseOk phase) (planOk vote && ltb stamp phase) _ _ e))
     where
       broken : (a b c d : Bool) → a && b ≡ false → a && (b && c && d) ≡ false
       broken true true c d e = absurd (true≢false e)
       broken true false c d e = refl
       broken false b c d e = refl
+  refused-by false late e = (rw late, rw late)
 
-      go : (b : Bool) → leb phases phase ≡ b → b && (phaseOk phase && (planOk vote && ltb stamp phase)) ≡ false
-          → Answers (refused 13) buffer
-      go true h e = rw h (out-of-bounds message buffer
-          (broken (phaseOk phase) (planOk vote && ltb stamp phase) _ _ e))
-      go false h e = (rw h, rw h)
+  pub selection-out-of-bounds : allowed phase vote stamp phases ≡ false
+      → (refused 13 ≡ writeSelectionOf run phase vote stamp history phases buffer)
+      × (buffer ≡ selectionBufferOf run phase vote stamp history phases buffer)
+  selection-out-of-bounds e = refused-by (leb phases phase) refl e

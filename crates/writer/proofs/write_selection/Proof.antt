@@ -44,10 +44,8 @@ add-size c = search needs
 returns : tie.Need-returns
 returns c =
     let counted = c .before in
-    let tested = counted .before in
-    let a = tested .before .before .before .before .args in
-    selection-too-short (a .run) (a .phase) (a .vote) (a .stamp) (a .history) (a .phases) (now (a .buf))
-    (fields-allowed tested) (omega (arith, counted .count-entries .ensures .same, c .if2 .taken))
+    selection-too-short (fields-allowed (counted .before)) _
+    (omega (arith, counted .count-entries .ensures .same, c .if2 .taken))
 
 cast-put-front : tie.Need-cast-put-front
 cast-put-front c = search needs
@@ -94,18 +92,17 @@ returns-2 c =
     let put = entries .before .before .before .before in
     let roomy = put .before .before in
     let counted = roomy .before in
-    let tested = counted .before in
-    let a = tested .before .before .before .before .args in
     let count = counted .count-entries .ensures .same in
-    let done =
-    selection-written (a .run) (a .phase) (a .vote) (a .stamp) (a .history) (a .phases) (now (a .buf))
-    (fields-allowed tested) (omega (arith, count, roomy .if2 .left)) in (
+    let a = counted .before .before .before .before .before .args in
+    let done = selection-written (fields-allowed (counted .before)) (now (a .buf))
+    (omega (arith, count, roomy .if2 .left)) in (
       ap (λ (k : ℕ). accepted (entriesPlace + entrySize * k)) count ∙ done .0,
       simp (entries .put-entries .ensures, put .put-front .ensures, count) (done .1),
     )
 
 returns-3 : tie.Need-returns-3
-returns-3 c = let a = c .before .before .before .before .args in
+returns-3 c =
+    let a = c .before .before .before .before .args in
     selection-out-of-bounds (a .run) (a .phase) (a .vote) (a .stamp) (a .history) (a .phases) (now (a .buf))
     (simp (c .before .before .is-phase .ensures, c .before .is-plan .ensures) at (c .if1 .left))
 

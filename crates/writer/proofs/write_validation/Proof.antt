@@ -1,11 +1,7 @@
 -- `write_validation` meets its contract.
 use mathlib.Core.Path.{_≡_}
 use mathlib.Core.Bool.{true}
-use mathlib.Core.List.{List}
-use Prim.Native.Nat.{ℕ}
 use borrow.Author.Needs.{needs}
-use denote.Ref.{now}
-use Rattle.message.specs.Fields.{Message}
 use Rattle.message.specs.Bounds.{within}
 use Rattle.message.specs.Encoding.{encode}
 use Rattle.writer.specs.Writing.{validationOf}
@@ -22,25 +18,14 @@ is-plan-requires c κs = search needs
 cast-if2 : tie.Need-cast-if2
 cast-if2 c = search needs
 
--- what is written, and where
-abbrev message : tie.Start → Message
-message start = let a = start .args in validationOf (a .run) (a .phase) (a .plan)
-
-abbrev buffer : tie.Start → List ℕ
-buffer start = now (start .args .buf)
-
 -- behind the first test: the fields keep their bounds
-module _ (c : tie.Then1) where
-  abbrev start : tie.Start
-  start = c .before .before .before .before
-
-  in-bounds : within (message start) ≡ true
-  in-bounds = simp (c .before .before .is-phase .ensures, c .before .is-plan .ensures) at (c .if1 .taken)
+in-bounds : (c : tie.Then1) →
+    let a = c .before .before .before .before .args in
+    within (validationOf (a .run) (a .phase) (a .plan)) ≡ true
+in-bounds c = simp (c .before .before .is-phase .ensures, c .before .is-plan .ensures) at (c .if1 .taken)
 
 returns : tie.Need-returns
-returns c =
-    let allowed = c .before in
-    too-short (message (start allowed)) (buffer (start allowed)) (in-bounds allowed) (c .if2 .taken)
+returns c = too-short _ _ (in-bounds (c .before)) (c .if2 .taken)
 
 put-front-requires : tie.Need-put-front-requires
 put-front-requires c κs = search needs
@@ -56,15 +41,11 @@ unfolding encode
 returns-2 c =
     let put = c .before .before in
     let roomy = put .before .before in
-    let allowed = roomy .before in
-    simp (put .put-front .ensures)
-    (written (message (start allowed)) (buffer (start allowed)) (in-bounds allowed) (roomy .if2 .left))
+    simp (put .put-front .ensures) (written _ _ (in-bounds (roomy .before)) (roomy .if2 .left))
 
 returns-3 : tie.Need-returns-3
 returns-3 c =
-    let start = c .before .before .before .before in
-    out-of-bounds (message start) (buffer start)
-    (simp (c .before .before .is-phase .ensures, c .before .is-plan .ensures) at (c .if1 .left))
+    out-of-bounds _ _ (simp (c .before .before .is-phase .ensures, c .before .is-plan .ensures) at (c .if1 .left))
 
 pub write-validation-spec : {M : Type 1} → statement M
 write-validation-spec =
