@@ -2,7 +2,7 @@
 use mathlib.Core.Path.{_≡_, refl, subst}
 use mathlib.Core.Bool.{Bool, true, false, cond}
 use mathlib.Core.List.{List, [], _∷_, _++_}
-use mathlib.Core.Option.{none, some}
+use mathlib.Core.Option.{none, some, Option·none-ne-some}
 use Prim.Native.Nat.{ℕ, zero, suc, _+_, _≤_, _<_}
 use native.Mathlib.Omega.{arith}
 use lib.ListN.{getD}
@@ -13,7 +13,7 @@ use Rattle.message.specs.Fields.{Message}
 use Rattle.message.specs.Bounds.{within, PlansFit, Fits}
 use Rattle.writer.specs.Writing.{selectionOf, validationOf, decisionOf}
 use Rattle.wire.specs.Entry.{entriesFrom}
-use Rattle.writer.proofs.WriteLaws.{allowed-within}
+use Rattle.writer.proofs.WriteLaws.{Allows, allows}
 use Rattle.node.specs.declared.Node.{Node}
 use Rattle.node.specs.Sending.{listedPhases, comingOf}
 use Rattle.node.proofs.Facts.{Sound, Typed, last-round}
@@ -45,7 +45,7 @@ coming-says {d} s m e = go (eqb (d .round) 1) (eqb (d .round) 2) (leb 1 (d .sele
         → Says d m
     go true second chosen one two plan e = subst (Says d) (cc) (selects (eqb-true _ _ one))
     go false true true one two plan e = subst (Says d) (cc) (confirms (eqb-true _ _ two) (leb-true _ _ plan))
-    go false true false one two plan e = absurd (let z : _≡_ {A = ℕ} 0 1 = cc in omega arith)
+    go false true false one two plan e = absurd (Option·none-ne-some m e)
     go false false chosen one two plan e =
         subst (Says d) (cc) (decides (last-round s (eqb-false _ _ one) (eqb-false _ _ two)))
 
@@ -64,21 +64,19 @@ listed-before d = go (eqb (d .crew .class) 3)
 
 -- the tests that the writer of a selection makes, passed
 pub selection-allowed : {d : Node} → Sound d → d .phase < spentPhase → d .round ≡ 1
-    → (leb (listedPhases d) (d .phase) ≡ true)
-    × (within (selectionOf (d .run) (d .phase) (d .vote) (d .stamp) (d .history) (listedPhases d)) ≡ true)
+    → Allows (d .run) (d .phase) (d .vote) (d .stamp) (d .history) (listedPhases d)
 selection-allowed {d} s left one =
-    let w = allowed-within (d .run) (d .phase) (d .vote) (d .stamp) (d .history) (listedPhases d) (simp (
+    allows (d .run) (d .phase) (d .vote) (d .stamp) (d .history) (listedPhases d) (simp (
       le-leb (listedPhases d) (d .phase) (listed-before d),
       le-leb 1 (d .phase) (s .phase-from),
       le-leb (d .phase) lastPhase (omega arith),
       le-leb 1 (d .vote) (s .vote),
       lt-ltb (d .stamp) (d .phase) (s .stamp-before (omega arith)),
-    )) in
-    (w .0, w .1)
+    ))
 
 -- what a sound, unspent record writes is within the bounds
 pub says-within : {d : Node} {m : Message} → Sound d → d .phase < spentPhase → Says d m → within m ≡ true
-says-within s left (selects one) = selection-allowed s left one .1
+says-within s left (selects one) = selection-allowed s left one .in-bounds
 says-within {d} s left (confirms two plan) =
     simp (le-leb 1 (d .phase) (s .phase-from), le-leb (d .phase) lastPhase (omega arith), le-leb 1 (d .select) plan)
 says-within {d} s left (decides three) =

@@ -1,7 +1,7 @@
 -- Soundness as facts, both ways, and what the types of a record's fields say: with these, later crates take a record
 -- apart.
-use mathlib.Core.Path.{_≡_, refl, ap}
-use mathlib.Core.Bool.{Bool, true, false, not, _&&_, _||_, or-true}
+use mathlib.Core.Path.{_≡_, refl, sym, ap}
+use mathlib.Core.Bool.{Bool, true, false, not, _&&_, _||_, or-true, true≢false}
 use mathlib.Core.Logic.{_⊎_, inl, inr, _≢_}
 use Prim.Native.Nat.{ℕ, _-_, _≤_, _<_}
 use native.Mathlib.Omega.{arith}
@@ -71,9 +71,7 @@ all-six a b c d e f h =
 
 no-validation : (class round : ℕ) → not (eqb class 1 && eqb round 2) ≡ true → class ≡ 1 → round ≢ 2
 no-validation class round e one two =
-    let z : _≡_ {A = Bool} false true = simp (eq-eqb class 1 one, eq-eqb round 2 two) at e in
-    let y : _≡_ {A = ℕ} 0 1 = cc in
-    omega arith
+    true≢false (sym (simp (eq-eqb class 1 one, eq-eqb round 2 two) at e))
 
 pub sound-facts : (d : Node) → sound d ≡ true → Sound d
 unfolding sound

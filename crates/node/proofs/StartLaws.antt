@@ -3,20 +3,24 @@ use mathlib.Core.Path.{_≡_, refl, sym, subst, _∙_}
 use mathlib.Core.Bool.{true, false}
 use Prim.Native.Nat.{ℕ, _≤_, _<_}
 use native.Mathlib.Omega.{arith}
-use native.Mathlib.Decide.{ℕ-discrete, decLt}
-use lib.ListN.{length, getD, set, replicate, length-set, length-replicate, getD-replicate, List·getD-eq-default}
+use native.Mathlib.Decide.{ℕ-discrete}
+use lib.ListN.{length, getD, set, replicate, length-set, length-replicate}
 use lib.Seq.{getD-set-same, getD-set-other}
 use lib.Dec.{leb, ltb}
 use borrow.Author.Tests.{ltb-true, leb-true, lt-ltb, le-ltb, le-leb}
-use Rattle.wire.specs.Outcome.{Outcome, accepted, refused, after}
-use Rattle.wire.proofs.Outcomes.{passed}
+use Rattle.wire.specs.Outcome.{Outcome, accepted, refused, after, verdict, valueOr}
+use Rattle.wire.proofs.Arrays.{same-everywhere}
+use Rattle.wire.proofs.Outcomes.{passed, refused-not-accepted}
 use Rattle.wire.specs.Sizes.{planLimit, runLimit, historySize}
 use Rattle.crew.specs.declared.Crew.{Crew}
 use Rattle.crew.specs.Acceptance.{acceptOf}
 use Rattle.node.specs.declared.Node.{Node}
 use Rattle.node.specs.Record.{begun, blank}
 use Rattle.node.specs.Soundness.{sound}
-use Rattle.node.specs.Starting.{startOf}
+use Rattle.node.specs.Starting.{startOf, startNumber, startAnswer}
+use Rattle.node.specs.Promises.{Refuses}
+use Rattle.node.specs.declared.StartRefusal.{StartRefusal}
+use Rattle.node.specs.declared.Started.{Started}
 use Rattle.node.proofs.Facts.{Typed, facts-sound}
 
 module _ (crew : Crew) (own run plan : ℕ) where
@@ -38,11 +42,18 @@ module _ (crew : Crew) (own run plan : ℕ) where
   unfolding startOf
   start-without-crew number e = simp e
 
+-- a refused start answers its number and shows the blank record
+pub refusal-shown : {why : StartRefusal} {started : Started} (crew : Crew) (own run plan : ℕ) → Refuses why started
+    → startOf crew own run plan ≡ refused (startNumber why)
+    → (startAnswer (started .answer) ≡ verdict (startOf crew own run plan))
+    × (started .node ≡ valueOr blank (startOf crew own run plan))
+refusal-shown crew own run plan shown e = (simp (e, shown .answer), simp (e, shown .node))
+
 -- an operation that goes before another was accepted where the whole is
 after-accepted : {A : Type 0} (before : Outcome (Unit {0})) (next : Outcome A) {value : A}
     → after before next ≡ accepted value → (before ≡ accepted tt) × (next ≡ accepted value)
 after-accepted (accepted value) next e = (refl, e)
-after-accepted (refused number) next e = absurd (let z : _≡_ {A = ℕ} 0 1 = cc in omega arith)
+after-accepted (refused number) next e = absurd (refused-not-accepted number _ e)
 
 -- an accepted start: what was asked of it holds, and its record is the one that a node begins with
 pub record Begins (crew : Crew) (own run plan : ℕ) (d : Node) : Type 0 where
@@ -69,14 +80,10 @@ start-accepted crew own run plan d e =
 first-plan : (plan : ℕ) → getD (set (replicate historySize 0) 0 plan) 0 0 ≡ plan
 first-plan plan = getD-set-same (replicate historySize 0) 0 plan 0 (rw length-replicate (omega arith))
 
-zeros : (phase : ℕ) → _≡_ {A = ℕ} (getD (replicate historySize 0) phase 0) 0
-zeros phase = elim (decLt phase historySize) [
-  | yes inside ↦ getD-replicate historySize phase 0 0 inside
-  | no outside ↦ List·getD-eq-default (replicate historySize 0) 0 {n = phase} (rw length-replicate (omega arith))
-]
-
 then-nothing : (plan phase : ℕ) → 1 ≤ phase → getD (set (replicate historySize 0) 0 plan) phase 0 ≡ 0
-then-nothing plan phase h = getD-set-other (replicate historySize 0) 0 phase plan 0 (λ e. omega arith) ∙ zeros phase
+then-nothing plan phase h =
+    getD-set-other (replicate historySize 0) 0 phase plan 0 (λ e. omega arith)
+    ∙ same-everywhere historySize phase 0
 
 -- law 4, its first part: a started record is sound
 pub start-sound : (crew : Crew) (own run plan : ℕ) (d : Node) → startOf crew own run plan ≡ accepted d → sound d ≡ true

@@ -3,3 +3,4 @@ pub mod Place
 pub mod Soundness
 pub mod Starting
 pub mod Sending
+pub mod Promises

@@ -7,12 +7,10 @@ use wire::PHASES;
 use wire::Plan;
 use writer::Writing;
 ghost use mathlib.Core.Path.{_≡_};
-ghost use mathlib.Core.Bool.{true, _&&_};
-ghost use Prim.Native.Nat.{_<_};
+ghost use mathlib.Core.Bool.{_&&_};
 ghost use lib.Dec.{leb};
 ghost use lib.ListN.{getD};
 ghost use Rattle.wire.specs.Outcome.{refused, verdict, valueOr};
-ghost use Rattle.wire.specs.Sizes.{spentPhase};
 ghost use Rattle.writer.specs.Writing.{writeAnswer};
 ghost use Rattle.node.specs.Record.{blank, begun};
 ghost use Rattle.node.specs.Soundness.{
@@ -23,6 +21,7 @@ ghost use Rattle.node.specs.Soundness.{
   sound,
 };
 ghost use Rattle.node.specs.Starting.{startOf, startAnswer};
+ghost use Rattle.node.specs.Promises.{Due, Writes, Refuses};
 ghost use Rattle.node.specs.Sending.{listedPhases, writeComingOf, comingBufferOf, sendAnswer};
 
 // 01's node record. Any values may stand in it: `is_sound` says whether they are those of a node.
@@ -130,7 +129,7 @@ fn begin(crew: Crew, own: u8, run: u32, plan: Plan) -> Node
 }
 
 fn refuse_start(why: StartRefusal) -> Started
-    ensures { λ r. ⌜ (r .answer ≡ Starting.Refused why) × (r .node ≡ blank) ⌝ }
+    ensures { λ r. ⌜ Refuses why r ⌝ }
 {
     Started {
         answer: Starting::Refused(why),
@@ -266,9 +265,8 @@ impl Node {
 
     // Writes the message of the coming round. Silence is a length of 0, for which any buffer is long enough.
     fn write_coming(self, buf: &mut [u8]) -> Writing
-        requires { ⌜ (sound self ≡ true) × (self .phase < spentPhase) ⌝ }
-        ensures { λ r. ⌜ (writeAnswer r ≡ writeComingOf self (now (buf .entry)))
-            × (now (buf .exit) ≡ comingBufferOf self (now (buf .entry))) ⌝ }
+        requires { ⌜ Due self ⌝ }
+        ensures { λ r. ⌜ Writes self (now (buf .entry)) (writeAnswer r) (now (buf .exit)) ⌝ }
     {
         if self.round == Node::SELECTION {
             let history = self.history;

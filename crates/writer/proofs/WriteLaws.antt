@@ -71,7 +71,7 @@ allows run phase vote stamp history phases e =
       few = omega arith;
     }
 
--- the answers of a selection's writer, where its fields are allowed and where they are not
+-- what the writer of a selection answers and leaves where the fields are allowed
 module _ {run phase vote stamp : ℕ} {history : List ℕ} {phases : ℕ} (ok : Allows run phase vote stamp history phases)
     (buffer : List ℕ) where
   abbrev message : Message
@@ -87,8 +87,8 @@ module _ {run phase vote stamp : ℕ} {history : List ℕ} {phases : ℕ} (ok : 
       × (buffer ≡ selectionBufferOf run phase vote stamp history phases buffer)
   selection-too-short short = rw (ok .before) (too-short message buffer (ok .in-bounds) short)
 
+-- and where they are not: the phases are too many, or a scalar field breaks its bound
 module _ (run phase vote stamp : ℕ) (history : List ℕ) (phases : ℕ) (buffer : List ℕ) where
-  -- whatever the phases, a selection whose scalar fields break a bound is refused
   refused-by : (early : Bool) → leb phases phase ≡ early
       → early && (phaseOk phase && (planOk vote && ltb stamp phase)) ≡ false
       → (refused 13 ≡ writeSelectionOf run phase vote stamp history phases buffer)

@@ -1,9 +1,16 @@
 -- A start gives the record that a node begins with, or the first refusal of 1 to 6 that applies and the blank record.
-use mathlib.Core.Path.{sym, ap, _∙_}
+use mathlib.Core.Path.{_≡_, sym, ap, _∙_}
 use native.Mathlib.Omega.{arith}
 use borrow.Author.Needs.{needs}
-use Rattle.crew.specs.Acceptance.{acceptAnswer}
-use Rattle.node.proofs.StartLaws.{start-begins, start-without-plan, start-beyond-crew, start-without-crew}
+use Rattle.wire.specs.Outcome.{accepted}
+use Rattle.crew.specs.Acceptance.{acceptOf, acceptAnswer}
+use Rattle.node.proofs.StartLaws.{
+  start-begins,
+  start-without-plan,
+  start-beyond-crew,
+  start-without-crew,
+  refusal-shown,
+}
 use Rattle.node.proofs.Node.start.Statement.{statement}
 use Rattle.node.proofs.Node.start.Tie as tie
 
@@ -22,13 +29,17 @@ enum-told c = search needs
 begin-requires : tie.Need-begin-requires
 begin-requires c κs = search needs
 
+-- behind the first arm: the crew is accepted
+crew-accepted : (c : tie.After-enum-told) → acceptOf (c .before .before .before .args .crew) ≡ accepted tt
+crew-accepted c = sym (c .before .before .accept .ensures) ∙ ap acceptAnswer (c .enum-told .given .1)
+
 returns : tie.Need-returns
 returns c =
-    let crew = c .before .before .before .before in
+    let own = c .before .before in
+    let crew = own .before .before in
     let args = crew .before .before .before .args in
-    let ok = sym (crew .before .before .accept .ensures) ∙ ap acceptAnswer (crew .enum-told .given .1) in
-    let own = c .before .before .if1 .taken in
-    let e = start-begins (args .crew) (args .own) (args .run) (args .plan) ok own (c .before .if2 .taken) in
+    let e = start-begins (args .crew) (args .own) (args .run) (args .plan) (crew-accepted crew) (own .if1 .taken)
+    (c .before .if2 .taken) in
     (simp e, simp (e, c .begin .ensures))
 
 refuse-start-requires-2 : tie.Need-refuse-start-requires-2
@@ -36,31 +47,24 @@ refuse-start-requires-2 c κs = search needs
 
 returns-2 : tie.Need-returns-2
 returns-2 c =
-    let crew = c .before .before .before .before in
-    let args = crew .before .before .before .args in
-    let ok = sym (crew .before .before .accept .ensures) ∙ ap acceptAnswer (crew .enum-told .given .1) in
-    let own = c .before .before .if1 .taken in
-    let e = start-without-plan (args .crew) (args .own) (args .run) (args .plan) ok own (omega arith) in
-    (simp (e, c .refuse-start2 .ensures .0), simp (e, c .refuse-start2 .ensures .1))
+    let own = c .before .before in
+    refusal-shown _ _ _ _ (c .refuse-start2 .ensures)
+    (start-without-plan _ _ _ _ (crew-accepted (own .before .before)) (own .if1 .taken) (omega arith))
 
 refuse-start-requires-3 : tie.Need-refuse-start-requires-3
 refuse-start-requires-3 c κs = search needs
 
 returns-3 : tie.Need-returns-3
 returns-3 c =
-    let args = c .before .before .before .before .before .args in
     let crew = c .before .before in
-    let turned-down = sym (crew .before .before .accept .ensures) ∙ ap acceptAnswer (crew .why .given .1) in
-    let e = start-without-crew (args .crew) (args .own) (args .run) (args .plan) _ turned-down in
-    (simp (e, c .refuse-start .ensures .0), simp (e, c .refuse-start .ensures .1))
+    refusal-shown _ _ _ _ (c .refuse-start .ensures)
+    (start-without-crew _ _ _ _ _ (sym (crew .before .before .accept .ensures) ∙ ap acceptAnswer (crew .why .given .1)))
 
 returns-4 : tie.Need-returns-4
 returns-4 c =
-    let crew = c .before .before .before in
-    let args = crew .before .before .before .args in
-    let ok = sym (crew .before .before .accept .ensures) ∙ ap acceptAnswer (crew .enum-told .given .1) in
-    let e = start-beyond-crew (args .crew) (args .own) (args .run) (args .plan) ok (c .before .if1 .left) in
-    (simp (e, c .refuse-start3 .ensures .0), simp (e, c .refuse-start3 .ensures .1))
+    let beyond = c .before in
+    refusal-shown _ _ _ _ (c .refuse-start3 .ensures)
+    (start-beyond-crew _ _ _ _ (crew-accepted (beyond .before .before)) (beyond .if1 .left))
 
 pub start-spec : {M : Type 1} → statement M
 start-spec =

@@ -1,7 +1,6 @@
 -- For a sound, unspent record each round's writer leaves the answer and the buffer that the node is to leave.
 use native.Mathlib.Omega.{arith}
 use borrow.Author.Needs.{needs}
-use denote.Ref.{now}
 use Rattle.node.proofs.Coming.{confirms, decides}
 use Rattle.node.proofs.Facts.{sound-facts, last-round}
 use Rattle.node.proofs.SendLaws.{message-written, selection-written, silence-written}
@@ -19,10 +18,10 @@ same-length c = search needs
 
 returns : tie.Need-returns
 returns c =
-    let place = c .before .before .before .before in
-    let start = place .before .before .before .before .before in
-    selection-written (start .args .self) (now (start .args .buf)) (start .pre .0) (start .pre .1)
-    (place .before .before .if1 .taken) (place .listed-phases .ensures) (c .before .before .write-selection .ensures)
+    let listed = c .before .before .before .before in
+    let first = listed .before .before in
+    selection-written (first .before .before .before .pre) (first .if1 .taken) (listed .listed-phases .ensures)
+    (c .before .before .write-selection .ensures)
 
 write-validation-requires : tie.Need-write-validation-requires
 write-validation-requires c κs = search needs
@@ -32,16 +31,15 @@ same-length-2 c = search needs
 
 returns-2 : tie.Need-returns-2
 returns-2 c =
-    let plan = c .before .before .before .before in
-    let start = plan .before .before .before .before .before .before .before in
-    message-written (start .args .self) (now (start .args .buf)) (start .pre .0) (start .pre .1)
-    (confirms (plan .before .before .if2 .taken) (plan .if3 .taken)) (c .before .before .write-validation .ensures)
+    let planned = c .before .before .before .before in
+    let second = planned .before .before in
+    message-written (second .before .before .before .before .before .pre)
+    (confirms (second .if2 .taken) (planned .if3 .taken)) (c .before .before .write-validation .ensures)
 
 returns-3 : tie.Need-returns-3
 returns-3 c =
-    let start = c .before .before .before .before .before .before .before in
-    silence-written (start .args .self) (now (start .args .buf)) (start .pre .0) (start .pre .1)
-    (c .before .before .if2 .taken) (omega arith)
+    let second = c .before .before in
+    silence-written (second .before .before .before .before .before .pre) (second .if2 .taken) (omega arith)
 
 write-decision-requires : tie.Need-write-decision-requires
 write-decision-requires c κs = search needs
@@ -52,11 +50,10 @@ same-length-3 c = search needs
 returns-4 : tie.Need-returns-4
 returns-4 c =
     let last = c .before .before .before .before in
-    let start = last .before .before .before .before .before in
-    let s = sound-facts (start .args .self) (start .pre .0) in
-    let three = last-round s (last .before .before .if1 .left) (last .if2 .left) in
-    message-written (start .args .self) (now (start .args .buf)) (start .pre .0) (start .pre .1)
-    (decides three) (c .before .before .write-decision .ensures)
+    let unfirst = last .before .before in
+    let due = unfirst .before .before .before .pre in
+    let three = last-round (sound-facts _ (due .is-sound)) (unfirst .if1 .left) (last .if2 .left) in
+    message-written due (decides three) (c .before .before .write-decision .ensures)
 
 pub write-coming-spec : {M : Type 1} → statement M
 write-coming-spec =
