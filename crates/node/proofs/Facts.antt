@@ -55,10 +55,12 @@ pub record Typed (d : Node) : Type 0 where
   pub entries : (phase : ℕ) → getD (d .history) phase 0 < planLimit
   pub long : length (d .history) ≡ historySize
 
+-- of two tests one passes where either does
 either-true : (a b : Bool) → (a || b) ≡ true → (a ≡ true) ⊎ (b ≡ true)
 either-true true b e = inl refl
 either-true false b e = inr e
 
+-- six tests that pass together pass each
 all-six : (a b c d e f : Bool) → (a && b && c && d && e && f) ≡ true
     → (a ≡ true) × (b ≡ true) × (c ≡ true) × (d ≡ true) × (e ≡ true) × (f ≡ true)
 all-six a b c d e f h =
@@ -69,29 +71,62 @@ all-six a b c d e f h =
     let h₁ = both-true a b (h₂ .0) in
     (h₁ .0, h₁ .1, h₂ .1, h₃ .1, h₄ .1, h₅ .1)
 
+-- 01's sentence on soundness as tests that pass, clause by clause; and its clause on the place
+record Passes (d : Node) : Type 0 where
+  crew : crewAccepted (d .crew) ≡ true
+  own : ownKnown d ≡ true
+  place : placeKnown d ≡ true
+  plans : plansKnown d ≡ true
+  stamp : stampKnown d ≡ true
+  empty : restEmpty d ≡ true
+
+record Placed (d : Node) : Type 0 where
+  phase-from : leb 1 (d .phase) ≡ true
+  phase-to : leb (d .phase) spentPhase ≡ true
+  round-from : leb 1 (d .round) ≡ true
+  round-to : leb (d .round) 3 ≡ true
+  unvalidated : not (eqb (d .crew .class) 1 && eqb (d .round) 2) ≡ true
+  unspent : (eqb (d .round) 1 || leb (d .phase) lastPhase) ≡ true
+
+sound-passes : (d : Node) → sound d ≡ true → Passes d
+unfolding sound
+sound-passes d e =
+    let t = all-six (crewAccepted (d .crew)) (ownKnown d) (placeKnown d) (plansKnown d) (stampKnown d) (restEmpty d) e in
+    record { crew = t .0; own = t .1; place = t .2; plans = t .3; stamp = t .4; empty = t .5 }
+
+known-placed : (d : Node) → placeKnown d ≡ true → Placed d
+known-placed d e =
+    let t = all-six (leb 1 (d .phase)) (leb (d .phase) spentPhase) (leb 1 (d .round)) (leb (d .round) 3) _ _ e in
+    record {
+      phase-from = t .0;
+      phase-to = t .1;
+      round-from = t .2;
+      round-to = t .3;
+      unvalidated = t .4;
+      unspent = t .5;
+    }
+
+-- class 1 has no round 2
 no-validation : (class round : ℕ) → not (eqb class 1 && eqb round 2) ≡ true → class ≡ 1 → round ≢ 2
 no-validation class round e one two =
     true≢false (sym (simp (eq-eqb class 1 one, eq-eqb round 2 two) at e))
 
 pub sound-facts : (d : Node) → sound d ≡ true → Sound d
-unfolding sound
 sound-facts d e =
-    let s =
-    all-six (crewAccepted (d .crew)) (ownKnown d) (placeKnown d) (plansKnown d) (stampKnown d) (restEmpty d) e in
-    let place = all-six (leb 1 (d .phase)) (leb (d .phase) spentPhase) (leb 1 (d .round)) (leb (d .round) 3) _ _
-    (s .2) in
-    let plans = both-true (leb 1 (d .vote) && leb 1 (d .base)) _ (s .3) in
+    let tests = sound-passes d e in
+    let place = known-placed d (tests .place) in
+    let plans = both-true (leb 1 (d .vote) && leb 1 (d .base)) _ (tests .plans) in
     let votes = both-true (leb 1 (d .vote)) (leb 1 (d .base)) (plans .0) in
-    let stamps = both-true (ltb (d .stamp) (d .phase) || (eqb (d .stamp) (d .phase) && eqb (d .round) 3)) _ (s .4) in
+    let stamps = both-true (ltb (d .stamp) (d .phase) || (eqb (d .stamp) (d .phase) && eqb (d .round) 3)) _ (tests .stamp) in
     record {
-      crew = accepted-is (acceptOf (d .crew)) (s .0);
-      own = ltb-true _ _ (s .1);
-      phase-from = leb-true _ _ (place .0);
-      phase-to = leb-true _ _ (place .1);
-      round-from = leb-true _ _ (place .2);
-      round-to = leb-true _ _ (place .3);
-      unvalidated = no-validation (d .crew .class) (d .round) (place .4);
-      unspent = λ late. elim (either-true (eqb (d .round) 1) (leb (d .phase) lastPhase) (place .5)) [
+      crew = accepted-is (acceptOf (d .crew)) (tests .crew);
+      own = ltb-true _ _ (tests .own);
+      phase-from = leb-true _ _ (place .phase-from);
+      phase-to = leb-true _ _ (place .phase-to);
+      round-from = leb-true _ _ (place .round-from);
+      round-to = leb-true _ _ (place .round-to);
+      unvalidated = no-validation (d .crew .class) (d .round) (place .unvalidated);
+      unspent = λ late. elim (either-true (eqb (d .round) 1) (leb (d .phase) lastPhase) (place .unspent)) [
         | inl one ↦ absurd (omega (arith, eqb-true (d .round) 1 one))
         | inr last ↦ leb-true _ _ last
       ];
@@ -111,7 +146,7 @@ sound-facts d e =
         | inr zero ↦ eqb-true _ _ zero
       ];
       empty = λ phase from to.
-          is-empty (d .history) (firstUnselected d) (historySize - firstUnselected d) (s .5) phase from (omega arith);
+          is-empty (d .history) (firstUnselected d) (historySize - firstUnselected d) (tests .empty) phase from (omega arith);
     }
 
 all-true : (a b c d e f : Bool) → a ≡ true → b ≡ true → c ≡ true → d ≡ true → e ≡ true → f ≡ true

@@ -28,15 +28,18 @@ slice-aggregate-result c = search needs
 returns : tie.Need-returns
 returns c =
     let told = c .before .before .before in
-    let s = now (told .before .before .before .before .args .s) in
-    let as-read = sym (told .before .before .read .ensures) ∙ ap (λ r. readAnswer r s) (told .reading .given .1) in
+    let read = told .before .before in
+    let s = now (read .before .before .args .s) in
+    let as-read = sym (read .read .ensures) ∙ ap (λ r. readAnswer r s) (told .reading .given .1) in
     let body = told .reading .given .0 .0 .body in
     simp (c .entries-counted .ensures, c .before .count-of .ensures) (part-shown s _ _ body as-read)
 
 returns-2 : tie.Need-returns-2
 returns-2 c =
-    let s = now (c .before .before .before .before .before .args .s) in
-    simp (sym (c .before .before .before .read .ensures) ∙ ap (λ r. readAnswer r s) (c .before .enum-told .given .1))
+    let told = c .before in
+    let read = told .before .before in
+    let s = now (read .before .before .args .s) in
+    simp (sym (read .read .ensures) ∙ ap (λ r. readAnswer r s) (told .enum-told .given .1))
 
 pub entries-spec : {M : Type 1} → statement M
 entries-spec =

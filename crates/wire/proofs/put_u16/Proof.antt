@@ -10,12 +10,9 @@ use borrow.Author.Tests.{leb-true}
 use Rattle.wire.specs.Bytes.{laid}
 use Rattle.wire.proofs.put_u16.Statement.{statement}
 use Rattle.wire.proofs.put_u16.Tie as tie
-use Rattle.wire.proofs.put_u16.Reads as reads
-use Rattle.wire.proofs.put_u16.Lts as lts
-use Rattle.wire.proofs.has_room.Reads as has-room-reads
 
 -- the bytes have room where the test passed
-room : (c : lts.Then1 (has-room-reads.Asked, has-room-reads.Learnt) reads.Pre reads.Post)
+room : (c : tie.Then1)
     → (c .before .before .before .args .place) + 2 ≤ length (now (c .before .before .before .args .buf))
 room c = leb-true _ _ (sym (c .before .has-room .ensures) ∙ c .if1 .taken)
 

@@ -10,9 +10,6 @@ use borrow.Author.Tests.{leb-true}
 use Rattle.wire.specs.Bytes.{laid}
 use Rattle.wire.proofs.put_u32.Statement.{statement}
 use Rattle.wire.proofs.put_u32.Tie as tie
-use Rattle.wire.proofs.put_u32.Reads as reads
-use Rattle.wire.proofs.put_u32.Lts as lts
-use Rattle.wire.proofs.has_room.Reads as has-room-reads
 
 -- the places of the third and the fourth byte
 add-two : (n : ℕ) → n + 2 ≡ suc (suc n)
@@ -22,7 +19,7 @@ add-three : (n : ℕ) → n + 3 ≡ suc (suc (suc n))
 add-three n = omega arith
 
 -- the bytes have room where the test passed
-room : (c : lts.Then1 (has-room-reads.Asked, has-room-reads.Learnt) reads.Pre reads.Post)
+room : (c : tie.Then1)
     → (c .before .before .before .args .place) + 4 ≤ length (now (c .before .before .before .args .buf))
 room c = leb-true _ _ (sym (c .before .has-room .ensures) ∙ c .if1 .taken)
 
