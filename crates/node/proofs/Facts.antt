@@ -91,7 +91,8 @@ record Placed (d : Node) : Type 0 where
 sound-passes : (d : Node) → sound d ≡ true → Passes d
 unfolding sound
 sound-passes d e =
-    let t = all-six (crewAccepted (d .crew)) (ownKnown d) (placeKnown d) (plansKnown d) (stampKnown d) (restEmpty d) e in
+    let t =
+    all-six (crewAccepted (d .crew)) (ownKnown d) (placeKnown d) (plansKnown d) (stampKnown d) (restEmpty d) e in
     record { crew = t .0; own = t .1; place = t .2; plans = t .3; stamp = t .4; empty = t .5 }
 
 known-placed : (d : Node) → placeKnown d ≡ true → Placed d
@@ -117,7 +118,8 @@ sound-facts d e =
     let place = known-placed d (tests .place) in
     let plans = both-true (leb 1 (d .vote) && leb 1 (d .base)) _ (tests .plans) in
     let votes = both-true (leb 1 (d .vote)) (leb 1 (d .base)) (plans .0) in
-    let stamps = both-true (ltb (d .stamp) (d .phase) || (eqb (d .stamp) (d .phase) && eqb (d .round) 3)) _ (tests .stamp) in
+    let stamps = both-true (ltb (d .stamp) (d .phase) || (eqb (d .stamp) (d .phase) && eqb (d .round) 3)) _
+    (tests .stamp) in
     record {
       crew = accepted-is (acceptOf (d .crew)) (tests .crew);
       own = ltb-true _ _ (tests .own);
@@ -146,7 +148,8 @@ sound-facts d e =
         | inr zero ↦ eqb-true _ _ zero
       ];
       empty = λ phase from to.
-          is-empty (d .history) (firstUnselected d) (historySize - firstUnselected d) (tests .empty) phase from (omega arith);
+          is-empty (d .history) (firstUnselected d) (historySize - firstUnselected d) (tests .empty) phase from
+          (omega arith);
     }
 
 all-true : (a b c d e f : Bool) → a ≡ true → b ≡ true → c ≡ true → d ≡ true → e ≡ true → f ≡ true
