@@ -6,9 +6,10 @@ use mathlib.Core.Option.{Option, none, some}
 use mathlib.Core.Logic.{_≢_}
 use Prim.Native.Nat.{ℕ, zero, suc, _<_, _≤_}
 use native.Mathlib.Omega.{arith}
-use lib.ListN.{length, getD, set, replicate, length-set}
+use lib.ListN.{length, getD, length-set}
 use lib.Seq.{getD-set-same, getD-set-other}
 use Rattle.wire.specs.Entry.{Entry}
+use Rattle.wire.proofs.Arrays.{same-everywhere}
 use Rattle.wire.proofs.Tests.{by-equality}
 use Rattle.crew.specs.Parts.{mostNodes}
 use Rattle.ballot.specs.Count.{gather, push}
@@ -27,13 +28,8 @@ empty-shape = record {
   present-long = refl;
   votes-long = refl;
   stamps-long = refl;
-  absent = λ q more. all-same mostNodes q false;
+  absent = λ q more. same-everywhere mostNodes q false;
 }
-  where
-    all-same : {A : Type 0} (n i : ℕ) (a : A) → getD (replicate n a) i a ≡ a
-    all-same zero i a = refl
-    all-same (suc n) zero a = refl
-    all-same (suc n) (suc i) a = all-same n i a
 
 put-shape : (read : Columns) (n : ℕ) (slot : Option Ballot) → Shape read n → n < mostNodes
     → Shape (put read n slot) (suc n)

@@ -11,12 +11,11 @@ ghost use mathlib.Core.Path.{_≡_};
 ghost use mathlib.Core.Bool.{true};
 ghost use mathlib.Core.List.{List};
 ghost use mathlib.Core.Option.{some};
-ghost use Prim.Native.Nat.{ℕ, _*_, _<_, _≤_};
+ghost use Prim.Native.Nat.{ℕ, _*_, _<_};
 ghost use lib.ListN.{length, set};
 ghost use Rattle.crew.specs.Parts.{mostNodes};
 ghost use Rattle.message.specs.Encoding.{kindOf};
 ghost use Rattle.message.specs.Reading.{readOf, bodyAs};
-ghost use Rattle.message.specs.Layout.{slotSize};
 ghost use Rattle.inbox.specs.Inbox.{slotAt, ballotOf, counted};
 ghost use Rattle.inbox.specs.Columns.{columns, put, slotsIn, filled, slotHasEntry};
 
@@ -45,9 +44,9 @@ fn put_vote(
     stamps: &mut [u8; MOST_NODES],
 )
     requires { ⌜ q < mostNodes ⌝ }
-    ensures { λ _. ⌜ (now (present .exit) ≡ set (now (present .entry)) q true)
-        × (now (votes .exit) ≡ set (now (votes .entry)) q vote)
-        × (now (stamps .exit) ≡ set (now (stamps .entry)) q stamp) ⌝ }
+    ensures { λ _. ⌜ columns (now (present .exit)) (now (votes .exit)) (now (stamps .exit))
+        ≡ columns (set (now (present .entry)) q true) (set (now (votes .entry)) q vote)
+        (set (now (stamps .entry)) q stamp) ⌝ }
 {
     present[q] = true;
     votes[q] = vote;
@@ -109,7 +108,7 @@ fn read_slot(
 
 // How many slots of an inbox have a place in the columns; a slot that is not whole is none.
 fn slots_in(length: usize) -> usize
-    ensures { λ r. ⌜ (r ≡ slotsIn length) × (r ≤ mostNodes) × (slotSize * r ≤ length) ⌝ }
+    ensures { λ r. ⌜ r ≡ slotsIn length ⌝ }
 {
     let whole = length / SLOT;
     if whole < MOST_NODES {

@@ -23,18 +23,18 @@ put-vote-requires-3 c κs = search needs
 
 returns : tie.Need-returns
 returns c =
-    let e = c .put-vote .ensures in
-    λ slot. simp (c .before .before .before .before .before .body .given .1, e .0, e .1, e .2)
+    let told = c .before .before .before .before .before in
+    λ slot. simp (told .body .given .1) (c .put-vote .ensures)
 
 returns-2 : tie.Need-returns-2
 returns-2 c =
-    let e = c .put-vote2 .ensures in
-    λ slot. simp (c .before .before .before .before .before .body2 .given .1, e .0, e .1, e .2)
+    let told = c .before .before .before .before .before in
+    λ slot. simp (told .body2 .given .1) (c .put-vote2 .ensures)
 
 returns-3 : tie.Need-returns-3
 returns-3 c =
-    let e = c .put-vote3 .ensures in
-    λ slot. simp (c .before .before .before .before .before .body3 .given .1, e .0, e .1, e .2)
+    let told = c .before .before .before .before .before in
+    λ slot. simp (told .body3 .given .1) (c .put-vote3 .ensures)
 
 pub put-body-spec : {M : Type 1} → statement M
 put-body-spec =

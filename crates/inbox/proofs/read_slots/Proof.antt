@@ -1,16 +1,14 @@
 -- `read_slots` meets its contract. The invariant: the columns hold the first q slots.
+use mathlib.Core.List.{List}
 use mathlib.Core.Option.{Option}
 use mathlib.Core.Path.{_≡_, refl, ap}
-use Prim.Native.Nat.{ℕ, _*_, _≤_, _-_}
-use native.Mathlib.Nat.{add-sub-cancel-left}
+use Prim.Native.Nat.{ℕ, _≤_, _-_}
 use native.Mathlib.Omega.{arith}
-use lib.ListN.{take, drop}
 use borrow.Author.Needs.{needs}
 use denote.Ref.{now}
-use Rattle.message.specs.Layout.{slotSize}
 use Rattle.ballot.specs.Ballot.{Ballot}
 use Rattle.message.specs.Reading.{readOf}
-use Rattle.inbox.proofs.Filling.{filled-more}
+use Rattle.inbox.proofs.Filling.{slot-part, filled-more}
 use Rattle.inbox.specs.Columns.{columns, filled}
 use Rattle.inbox.specs.Inbox.{slotAt, counted}
 use Rattle.inbox.proofs.read_slots.Statement.{statement}
@@ -59,24 +57,23 @@ loop-less c = search needs
 
 loop-again : tie.Need-loop-again Inv-loop μ-loop
 loop-again c =
-    let at = c .before .before .before .before .before .before in
-    let a = at .before .before .before .args in
-    let l = at .loop in
-    let inbox = now (a .inbox) in
+    let looped = c .before .before .before .before .before .before in
+    let a = looped .before .before .before .args in
+    let turn = looped .loop in
     let first = columns (now (a .present)) (now (a .votes)) (now (a .stamps)) in
-    let slots : ℕ → Option Ballot = λ k. counted (a .run) (a .phase) (a .round) (readOf (slotAt inbox k)) in
-    let at-q = slotSize * l .q in
-    let slot =
-    ap (λ size. counted (a .run) (a .phase) (a .round) (readOf (take size (drop at-q inbox))))
-    (add-sub-cancel-left at-q slotSize) in
-    (omega arith, filled-more first slots (l .q) _ _ _ (l .inv .1) slot (c .read-slot .ensures))
+    let said : List ℕ → Option Ballot = λ slot. counted (a .run) (a .phase) (a .round) (readOf slot) in
+    let slot = ap said (slot-part (now (a .inbox)) (turn .q)) in (
+      omega arith,
+      filled-more first (λ k. said (slotAt (now (a .inbox)) k)) (turn .q) _ _ _ (turn .inv .1) slot
+          (c .read-slot .ensures),
+    )
 
 returns : tie.Need-returns Inv-loop μ-loop
 returns c =
-    let l = c .before .loop in
-    let n = c .before .before .slots-in in
-    let done : l .q ≡ n .result = omega (arith, l .inv .0, c .loop-test .left) in
-    rw (← n .ensures .0, ← done) (l .inv .1)
+    let looped = c .before .loop in
+    let counted = c .before .before .slots-in in
+    let done : looped .q ≡ counted .result = omega (arith, looped .inv .0, c .loop-test .left) in
+    rw (← counted .ensures, ← done) (looped .inv .1)
 
 pub read-slots-spec : {M : Type 1} → statement M
 read-slots-spec =

@@ -1,13 +1,10 @@
 -- `slot_has_entry` meets its contract.
 use mathlib.Core.Path.{ap, _∙_}
-use Prim.Native.Nat.{_*_}
-use native.Mathlib.Nat.{add-sub-cancel-left}
-use lib.ListN.{take, drop}
 use borrow.Author.Needs.{needs}
 use borrow.Author.Tests.{lt-ltb, le-ltb}
 use denote.Ref.{now}
 use Rattle.message.specs.Lookup.{hasEntry}
-use Rattle.message.specs.Layout.{slotSize}
+use Rattle.inbox.proofs.Filling.{slot-part}
 use Rattle.inbox.proofs.slot_has_entry.Statement.{statement}
 use Rattle.inbox.proofs.slot_has_entry.Tie as tie
 
@@ -34,17 +31,16 @@ has-entry-requires c κs = search needs
 
 returns : tie.Need-returns
 returns c =
-    let b3 = c .before .before .before in
-    let a = b3 .before .before .args in
-    let from = slotSize * a .q in
-    let inside = rw (b3 .slots-in .ensures .0) at (c .before .before .if1 .taken) in
-    let slot = ap (λ size. hasEntry (take size (drop from (now (a .inbox)))) (a .plan) (a .phase))
-    (add-sub-cancel-left from slotSize) in
+    let tested = c .before .before in
+    let counted = tested .before in
+    let a = counted .before .before .args in
+    let inside = rw (counted .slots-in .ensures) at (tested .if1 .taken) in
+    let slot = ap (λ s. hasEntry s (a .plan) (a .phase)) (slot-part (now (a .inbox)) (a .q)) in
     rw (lt-ltb _ _ inside) (c .has-entry .ensures ∙ slot)
 
 returns-2 : tie.Need-returns-2
 returns-2 c =
-    let outside = rw (c .before .slots-in .ensures .0) at (c .if1 .left) in
+    let outside = rw (c .before .slots-in .ensures) at (c .if1 .left) in
     rw (le-ltb _ _ outside)
 
 pub slot-has-entry-spec : {M : Type 1} → statement M
