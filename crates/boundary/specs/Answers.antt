@@ -1,6 +1,7 @@
 -- What the functions for C and Rust answer, and what they leave in what they are lent: the engine's own definitions on
 -- the record whose image is lent.
 use Prim.Native.Nat.{ℕ, _+_, _*_, _/_, _^_, _<_}
+use mathlib.Core.Path.{_≡_}
 use mathlib.Core.List.{List, [], _∷_, _++_}
 use lib.ListN.{length}
 use lib.Dec.{ltb, eqb}
@@ -39,6 +40,17 @@ abbrev pub Apart : {A : Type 0} → (A → ℕ) → Outcome A → Type 0
 Apart value (accepted a) = value a < refusalUnit
 Apart value (refused number) = (0 < number) × (number < 256)
 
+-- What a function answers, by the outcome of the engine's operation.
+pub record Answered {A : Type 0} (value : A → ℕ) (outcome : Outcome A) (answer : ℕ) : Type 0 where
+  pub number : answer ≡ answerOf value outcome
+  pub apart : Apart value outcome
+
+-- The same of a function that is lent bytes to write: what it leaves in them goes by the outcome too.
+pub record Leaves {A : Type 0} (value : A → ℕ) (outcome : Outcome A) (after : Outcome A → List ℕ) (answer : ℕ)
+    (bytes : List ℕ) : Type 0 where
+  pub told : Answered value outcome answer
+  pub left : bytes ≡ after outcome
+
 -- the value of what has none to give
 abbrev pub done : {A : Type 0} → A → ℕ
 done a = 0
@@ -73,9 +85,9 @@ startInto image crew own run first = onImage image (startOf crew own run first)
 abbrev pub writeFrom : List ℕ → List ℕ → Outcome ℕ
 writeFrom image buffer = onImage image (writeComingOf (recordIn image) buffer)
 
--- the whole buffer after writing
-abbrev pub bufferFrom : List ℕ → List ℕ → List ℕ
-bufferFrom image buffer = bufferAfter (comingBytes (recordIn image)) buffer (writeFrom image buffer)
+-- the whole buffer after writing, by what writing comes to
+abbrev pub bufferFrom : List ℕ → List ℕ → Outcome ℕ → List ℕ
+bufferFrom image buffer = bufferAfter (comingBytes (recordIn image)) buffer
 
 abbrev pub takeFrom : List ℕ → List ℕ → Outcome Node
 takeFrom image inbox = onImage image (takeOf (recordIn image) inbox)

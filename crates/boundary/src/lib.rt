@@ -35,8 +35,8 @@ ghost use Rattle.boundary.specs.Answers.{
   itself,
   choiceNumber,
   entryNumber,
-  answerOf,
-  Apart,
+  Answered,
+  Leaves,
   startInto,
   recordAfter,
   writeFrom,
@@ -52,6 +52,7 @@ ghost use Rattle.boundary.specs.Answers.{
   entryIn,
   entryFrom,
 };
+ghost use Rattle.boundary.specs.Numbers.{Numbered};
 
 // 01's numbers of the refusals. The engine below answers by name, so this is the one place where its code has them.
 // Accepting a crew.
@@ -133,7 +134,7 @@ fn refusal(number: u64) -> u64
 }
 
 fn crew_number(why: crew::AcceptRefusal) -> u64
-    ensures { λ r. ⌜ (r ≡ acceptNumber why) × (0 < r) × (r < 256) ⌝ }
+    ensures { λ r. ⌜ Numbered (acceptNumber why) r ⌝ }
 {
     match why {
         crew::AcceptRefusal::Class => CLASS,
@@ -144,7 +145,7 @@ fn crew_number(why: crew::AcceptRefusal) -> u64
 }
 
 fn start_number(why: StartRefusal) -> u64
-    ensures { λ r. ⌜ (r ≡ startNumber why) × (0 < r) × (r < 256) ⌝ }
+    ensures { λ r. ⌜ Numbered (startNumber why) r ⌝ }
 {
     match why {
         StartRefusal::Crew(reason) => crew_number(reason),
@@ -154,7 +155,7 @@ fn start_number(why: StartRefusal) -> u64
 }
 
 fn send_number(why: node::SendRefusal) -> u64
-    ensures { λ r. ⌜ (r ≡ sendNumber why) × (0 < r) × (r < 256) ⌝ }
+    ensures { λ r. ⌜ Numbered (sendNumber why) r ⌝ }
 {
     match why {
         node::SendRefusal::Unsound => UNSOUND,
@@ -164,7 +165,7 @@ fn send_number(why: node::SendRefusal) -> u64
 }
 
 fn read_number(why: message::ReadRefusal) -> u64
-    ensures { λ r. ⌜ (r ≡ readNumber why) × (0 < r) × (r < 256) ⌝ }
+    ensures { λ r. ⌜ Numbered (readNumber why) r ⌝ }
 {
     match why {
         message::ReadRefusal::Cut => CUT,
@@ -175,7 +176,7 @@ fn read_number(why: message::ReadRefusal) -> u64
 }
 
 fn round_number(why: rounds::TakeRefusal) -> u64
-    ensures { λ r. ⌜ (r ≡ takeNumber why) × (0 < r) × (r < 256) ⌝ }
+    ensures { λ r. ⌜ Numbered (takeNumber why) r ⌝ }
 {
     match why {
         rounds::TakeRefusal::Unsound => UNSOUND,
@@ -185,7 +186,7 @@ fn round_number(why: rounds::TakeRefusal) -> u64
 }
 
 fn accepting_answer(answer: Acceptance) -> u64
-    ensures { λ r. ⌜ (r ≡ answerOf done (acceptAnswer answer)) × Apart done (acceptAnswer answer) ⌝ }
+    ensures { λ r. ⌜ Answered done (acceptAnswer answer) r ⌝ }
 {
     match answer {
         Acceptance::Accepted => 0,
@@ -203,8 +204,7 @@ fn crew_of(class: u8, n: u8, b: u8, f: u8, d: u8) -> Crew
 // Accepts a crew.
 #[no_mangle]
 pub extern "C" fn rail_accept(class: u8, n: u8, b: u8, f: u8, d: u8) -> u64
-    ensures { λ r. ⌜ (r ≡ answerOf done (acceptOf (crewOf class n b f d)))
-        × Apart done (acceptOf (crewOf class n b f d)) ⌝ }
+    ensures { λ r. ⌜ Answered done (acceptOf (crewOf class n b f d)) r ⌝ }
 {
     accepting_answer(crew::accept(crew_of(class, n, b, f, d)))
 }
@@ -222,10 +222,8 @@ pub extern "C" fn rail_start(
     plan: Plan,
     image: &mut [u8],
 ) -> u64
-    ensures { λ r. ⌜ (r ≡ answerOf done (startInto (now (image .entry)) (crewOf class n b f d) own run plan))
-        × Apart done (startInto (now (image .entry)) (crewOf class n b f d) own run plan)
-        × (now (image .exit)
-        ≡ recordAfter (now (image .entry)) (startInto (now (image .entry)) (crewOf class n b f d) own run plan)) ⌝ }
+    ensures { λ r. ⌜ Leaves done (startInto (now (image .entry)) (crewOf class n b f d) own run plan)
+        (recordAfter (now (image .entry))) r (now (image .exit)) ⌝ }
 {
     if image::fits(image) {
         let started = Node::start(crew_of(class, n, b, f, d), own, run, plan);
@@ -246,7 +244,7 @@ pub extern "C" fn rail_start(
 // What writing the coming message answers, as a number.
 fn sending_answer(answer: Sending) -> u64
     requires { ⌜ valueOr 0 (sendAnswer answer) < refusalUnit ⌝ }
-    ensures { λ r. ⌜ (r ≡ answerOf itself (sendAnswer answer)) × Apart itself (sendAnswer answer) ⌝ }
+    ensures { λ r. ⌜ Answered itself (sendAnswer answer) r ⌝ }
 {
     match answer {
         Sending::Bytes(size) => size as u64,
@@ -257,9 +255,8 @@ fn sending_answer(answer: Sending) -> u64
 // Writes the coming message to the front of a buffer; the value is its length, 0 for silence.
 #[no_mangle]
 pub extern "C" fn rail_write(image: &[u8], buffer: &mut [u8]) -> u64
-    ensures { λ r. ⌜ (r ≡ answerOf itself (writeFrom (now (image .entry)) (now (buffer .entry))))
-        × Apart itself (writeFrom (now (image .entry)) (now (buffer .entry)))
-        × (now (buffer .exit) ≡ bufferFrom (now (image .entry)) (now (buffer .entry))) ⌝ }
+    ensures { λ r. ⌜ Leaves itself (writeFrom (now (image .entry)) (now (buffer .entry)))
+        (bufferFrom (now (image .entry)) (now (buffer .entry))) r (now (buffer .exit)) ⌝ }
 {
     let loaded = image::load(image);
     if loaded.fits {
@@ -273,10 +270,8 @@ pub extern "C" fn rail_write(image: &[u8], buffer: &mut [u8]) -> u64
 // Takes a round: the image becomes the next record's.
 #[no_mangle]
 pub extern "C" fn rail_take(image: &mut [u8], inbox: &[u8]) -> u64
-    ensures { λ r. ⌜ (r ≡ answerOf done (takeFrom (now (image .entry)) (now (inbox .entry))))
-        × Apart done (takeFrom (now (image .entry)) (now (inbox .entry)))
-        × (now (image .exit)
-        ≡ recordAfter (now (image .entry)) (takeFrom (now (image .entry)) (now (inbox .entry)))) ⌝ }
+    ensures { λ r. ⌜ Leaves done (takeFrom (now (image .entry)) (now (inbox .entry)))
+        (recordAfter (now (image .entry))) r (now (image .exit)) ⌝ }
 {
     let loaded = image::load(image);
     if loaded.fits {
@@ -297,7 +292,7 @@ pub extern "C" fn rail_take(image: &mut [u8], inbox: &[u8]) -> u64
 
 // What asking answers, as a number: a plan, 0 for 'none', 2^32 for 'any'.
 fn asking_answer(answer: Asking) -> u64
-    ensures { λ r. ⌜ (r ≡ answerOf choiceNumber (askAnswer answer)) × Apart choiceNumber (askAnswer answer) ⌝ }
+    ensures { λ r. ⌜ Answered choiceNumber (askAnswer answer) r ⌝ }
 {
     match answer {
         Asking::Plan(plan) => plan as u64,
@@ -310,8 +305,7 @@ fn asking_answer(answer: Asking) -> u64
 // Asks for the coming selection.
 #[no_mangle]
 pub extern "C" fn rail_ask(image: &[u8], inbox: &[u8]) -> u64
-    ensures { λ r. ⌜ (r ≡ answerOf choiceNumber (askFrom (now (image .entry)) (now (inbox .entry))))
-        × Apart choiceNumber (askFrom (now (image .entry)) (now (inbox .entry))) ⌝ }
+    ensures { λ r. ⌜ Answered choiceNumber (askFrom (now (image .entry)) (now (inbox .entry))) r ⌝ }
 {
     let loaded = image::load(image);
     if loaded.fits {
@@ -325,8 +319,7 @@ pub extern "C" fn rail_ask(image: &[u8], inbox: &[u8]) -> u64
 // The record's standing result, 0 before it has one.
 #[no_mangle]
 pub extern "C" fn rail_result(image: &[u8]) -> u64
-    ensures { λ r. ⌜ (r ≡ answerOf itself (resultFrom (now (image .entry))))
-        × Apart itself (resultFrom (now (image .entry))) ⌝ }
+    ensures { λ r. ⌜ Answered itself (resultFrom (now (image .entry))) r ⌝ }
 {
     let loaded = image::load(image);
     if loaded.fits {
@@ -375,10 +368,8 @@ fn put_message(fields: &mut [u8], message: Message)
 // Reads the message at the front of a slice and lays its fields out.
 #[no_mangle]
 pub extern "C" fn rail_read(bytes: &[u8], fields: &mut [u8]) -> u64
-    ensures { λ r. ⌜ (r ≡ answerOf done (readInto (now (bytes .entry)) (now (fields .entry))))
-        × Apart done (readInto (now (bytes .entry)) (now (fields .entry)))
-        × (now (fields .exit)
-        ≡ fieldsAfter (now (fields .entry)) (readInto (now (bytes .entry)) (now (fields .entry)))) ⌝ }
+    ensures { λ r. ⌜ Leaves done (readInto (now (bytes .entry)) (now (fields .entry)))
+        (fieldsAfter (now (fields .entry))) r (now (fields .exit)) ⌝ }
 {
     if fields.len() == FIELDS {
         let reading = message::read(bytes);
@@ -397,8 +388,7 @@ pub extern "C" fn rail_read(bytes: &[u8], fields: &mut [u8]) -> u64
 
 // Entry i of the part that shows a message's entries.
 fn entry_in(part: &[u8], i: usize) -> u64
-    ensures { λ r. ⌜ (r ≡ answerOf entryNumber (entryIn (now (part .entry)) i))
-        × Apart entryNumber (entryIn (now (part .entry)) i) ⌝ }
+    ensures { λ r. ⌜ Answered entryNumber (entryIn (now (part .entry)) i) r ⌝ }
 {
     if i < part.len() / ENTRY_SIZE {
         let entry = message::entry_at(part, i);
@@ -410,8 +400,7 @@ fn entry_in(part: &[u8], i: usize) -> u64
 // Entry i of the message at the front of a slice: its phase times 2^32, and its plan.
 #[no_mangle]
 pub extern "C" fn rail_entry(bytes: &[u8], i: usize) -> u64
-    ensures { λ r. ⌜ (r ≡ answerOf entryNumber (entryFrom (now (bytes .entry)) i))
-        × Apart entryNumber (entryFrom (now (bytes .entry)) i) ⌝ }
+    ensures { λ r. ⌜ Answered entryNumber (entryFrom (now (bytes .entry)) i) r ⌝ }
 {
     let reading = message::read(bytes);
     match reading {

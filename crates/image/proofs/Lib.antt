@@ -1,2 +1,3 @@
 pub mod Stores
 pub mod RoundTrip
+pub mod Loading

@@ -1,10 +1,10 @@
 -- Laying plans one after the other, and reading them so: what the loops go by.
 use mathlib.Core.Path.{_≡_, refl, ap, sym, _∙_}
 use mathlib.Core.List.{List, [], _∷_, _++_}
-use Prim.Native.Nat.{ℕ, zero, suc, _+_, _*_, _-_, _<_, _≤_}
+use Prim.Native.Nat.{ℕ, zero, suc, _+_, _*_, _<_, _≤_}
 use native.Mathlib.Omega.{arith}
 use native.Mathlib.Numerals.{add-one}
-use lib.ListN.{length, getD, set, drop, replicate, drop-of-length-le}
+use lib.ListN.{length, getD, drop, drop-of-length-le}
 use lib.Seq.{sets, drop-cons}
 use Rattle.wire.specs.Bytes.{numberAt, bytesOf}
 use Rattle.wire.proofs.Stores.{sets-append, sets-whole}
@@ -24,33 +24,14 @@ unfolding plansIn
 plans-length s place zero = refl
 plans-length s place (suc count) = omega (arith, plans-length s (place + planSize) count)
 
--- the plans laid over an empty history are the history
-pub read-start : (s : List ℕ)
-    → sets (replicate historySize 0) 0 (plansIn s historyPlace historySize) ≡ plansIn s historyPlace historySize
-read-start s =
-    let plans = plansIn s historyPlace historySize in
-    let long : length plans ≡ length (replicate {A = ℕ} historySize 0) =
-    omega (arith, plans-length s historyPlace historySize) in
-    sets-whole plans (replicate historySize 0) long
-
--- A turn of the loop that reads the plans: those left, laid over what is there, end in the same plans.
-pub read-turn : (s history whole : List ℕ) (i plan : ℕ) → i < historySize
-    → plan ≡ numberAt planSize s (historyPlace + planSize * i)
-    → sets history i (plansIn s (historyPlace + planSize * i) (historySize - i)) ≡ whole
-    → sets (set history i plan) (i + 1) (plansIn s (historyPlace + planSize * (i + 1)) (historySize - (i + 1))) ≡ whole
+-- plan i of those from a place on stands after i plans
+pub plan-in : (s : List ℕ) (place count i : ℕ) → i < count
+    → getD (plansIn s place count) i 0 ≡ numberAt planSize s (place + planSize * i)
 unfolding plansIn
-read-turn s history whole i plan more is e =
-    let left : historySize - i ≡ suc (historySize - suc i) = omega arith in
-    let next : historyPlace + planSize * i + planSize ≡ historyPlace + planSize * (i + 1) = omega arith in
-    rw (is, ← next, add-one i) (rw left at e)
-
--- none is left
-pub read-end : (s history whole : List ℕ) (i : ℕ) → historySize ≤ i
-    → sets history i (plansIn s (historyPlace + planSize * i) (historySize - i)) ≡ whole → history ≡ whole
-unfolding plansIn
-read-end s history whole i done e =
-    let left : historySize - i ≡ 0 = omega arith in
-    rw left at e
+plan-in s place zero i less = absurd (omega arith)
+plan-in s place (suc count) zero less = ap (numberAt planSize s) (omega arith)
+plan-in s place (suc count) (suc i) less =
+    plan-in s (place + planSize) count i (omega arith) ∙ ap (numberAt planSize s) (omega arith)
 
 -- A turn of the loop that lays the plans: those left end in the same bytes.
 pub lay-turn : (history image next whole : List ℕ) (i : ℕ) → i < length history

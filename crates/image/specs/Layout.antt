@@ -4,6 +4,7 @@
 --   field class  n  b  f  D  own  run  phase  round  vote  base  stamp  select  result  history
 --   bytes 1      1  1  1  1  1    4    1      1      2     2     1      2       2       64 times 2, from phase 0 on
 use Prim.Native.Nat.{ℕ, zero, suc, _+_, _*_}
+use mathlib.Core.Path.{_≡_}
 use mathlib.Core.Bool.{Bool, cond}
 use mathlib.Core.List.{List, [], _∷_, _++_}
 use lib.ListN.{length, getD}
@@ -14,6 +15,7 @@ use Rattle.crew.specs.declared.Crew.{Crew}
 use Rattle.crew.specs.Parts.{crewOf}
 use Rattle.node.specs.declared.Node.{Node}
 use Rattle.node.specs.Record.{blank}
+use Rattle.image.specs.declared.Loaded.{Loaded}
 
 -- the places, each where the field before it ends; the code has them as constants in src/lib.rt
 abbrev pub crewPlace : ℕ
@@ -119,3 +121,13 @@ loadOf s = cond (imageFits s) (recordIn s) blank
 -- what storing a record leaves in a lent slice: its image, or the slice as it was where it has another length
 abbrev pub imageAfter : Node → List ℕ → List ℕ
 imageAfter d s = cond (imageFits s) (imageOf d) s
+
+-- What loading a slice gives: whether it has the length of an image, and the record that it is the image of.
+pub record LoadedFrom (s : List ℕ) (loaded : Loaded) : Type 0 where
+  pub fits : loaded .fits ≡ imageFits s
+  pub node : loaded .node ≡ loadOf s
+
+-- What storing a record in a slice gives: whether it has the length of an image, and what stands in it then.
+pub record StoredIn (s : List ℕ) (d : Node) (stored : Bool) (s′ : List ℕ) : Type 0 where
+  pub fits : stored ≡ imageFits s
+  pub left : s′ ≡ imageAfter d s

@@ -24,14 +24,14 @@ ghost use Rattle.image.specs.Layout.{
   placeBytes,
   planBytes,
   scalarBytes,
-  historyBytes,
   plansIn,
   crewIn,
   recordIn,
   imageFits,
-  loadOf,
-  imageAfter,
+  LoadedFrom,
+  StoredIn,
 };
+ghost use Rattle.image.specs.Laying.{HistoryLaid};
 
 // Where the fields stand: each where the one before it ends. A crew is five bytes.
 const CREW_AT: usize = 0;
@@ -137,7 +137,7 @@ pub struct Loaded {
 
 // Loads the record that a slice is the image of.
 pub fn load(s: &[u8]) -> Loaded
-    ensures { λ r. ⌜ (r .fits ≡ imageFits (now (s .entry))) × (r .node ≡ loadOf (now (s .entry))) ⌝ }
+    ensures { λ r. ⌜ LoadedFrom (now (s .entry)) r ⌝ }
 {
     if s.len() == LENGTH {
         return Loaded {
@@ -197,8 +197,7 @@ fn put_scalars(image: &mut [u8], node: Node)
 
 fn put_history(image: &mut [u8], history: [Plan; PHASES])
     requires { ⌜ imageSize ≤ length (now image) ⌝ }
-    ensures { λ _. ⌜ (length history ≡ historySize)
-        × (now (image .exit) ≡ sets (now (image .entry)) historyPlace (historyBytes history)) ⌝ }
+    ensures { λ _. ⌜ HistoryLaid (now (image .entry)) history (now (image .exit)) ⌝ }
 {
     let mut phase = 0;
     while phase < PHASES {
@@ -209,8 +208,7 @@ fn put_history(image: &mut [u8], history: [Plan; PHASES])
 
 // Writes a record's image. A slice of another length is left as it is.
 pub fn store(node: Node, image: &mut [u8]) -> bool
-    ensures { λ r. ⌜ (r ≡ imageFits (now (image .entry)))
-        × (now (image .exit) ≡ imageAfter node (now (image .entry))) ⌝ }
+    ensures { λ r. ⌜ StoredIn (now (image .entry)) node r (now (image .exit)) ⌝ }
 {
     if image.len() == LENGTH {
         put_scalars(image, node);

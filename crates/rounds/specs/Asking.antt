@@ -1,5 +1,6 @@
 -- What asking for the coming selection answers: document 01.
 use Prim.Native.Nat.{ℕ, _*_}
+use mathlib.Core.Path.{_≡_}
 use mathlib.Core.Bool.{_&&_}
 use mathlib.Core.List.{List}
 use lib.ListN.{length}
@@ -15,6 +16,7 @@ use Rattle.inbox.specs.Inbox.{ballots}
 use Rattle.rounds.specs.Taking.{takeNumber}
 use Rattle.rounds.specs.declared.Asking.{Asking}
 use Rattle.rounds.specs.declared.Asking.the-variants.{Plan, Any, Nothing, Refused}
+use Rattle.rounds.specs.declared.Asked.{Asked}
 
 -- 01: "only asking for the coming selection (answered as the plan, 'any' or 'none'): 7; 8; 14 inbox length not 202n.
 -- Asking outside round 1 is also 7."
@@ -31,3 +33,8 @@ askAnswer (Plan v) = accepted (plan v)
 askAnswer Any = accepted any
 askAnswer Nothing = accepted nothing
 askAnswer (Refused why) = refused (takeNumber why)
+
+-- What asking gives: its answer, and the record as it was handed in.
+pub record AskedFrom (d : Node) (bytes : List ℕ) (r : Asked) : Type 0 where
+  pub answer : askAnswer (r .answer) ≡ askOf d bytes
+  pub node : r .node ≡ d

@@ -7,6 +7,11 @@ use lib.Dec.{eqb}
 use Rattle.crew.specs.declared.Crew.{Crew}
 use Rattle.node.specs.declared.Node.{Node}
 use Rattle.tally.specs.Rules.{selected, validIn, decidedIn}
+use Rattle.rounds.specs.declared.TakeRefusal.{TakeRefusal}
+use Rattle.rounds.specs.declared.Taken.{Taken}
+use Rattle.rounds.specs.declared.Taking as taking
+use Rattle.rounds.specs.declared.Asked.{Asked}
+use Rattle.rounds.specs.declared.Asking as asking
 use Rattle.rounds.specs.Taking.{afterSelection, afterValidation, afterDecision}
 
 -- the plan that is selected, valid or decided, by the round; 0 where there is none
@@ -22,3 +27,10 @@ afterPlan d v =
     cond (eqb (d .round) 1) (afterSelection d v)
     (cond (eqb (d .round) 2) (afterValidation d v)
     (afterDecision d v))
+
+-- a refusal of a round, and of a selection that is asked for: the record as it was handed in stands beside it
+abbrev pub refusedTake : Node → TakeRefusal → Taken
+refusedTake d why = record { answer = taking.the-variants.Refused why; node = d }
+
+abbrev pub refusedAsk : Node → TakeRefusal → Asked
+refusedAsk d why = record { answer = asking.the-variants.Refused why; node = d }

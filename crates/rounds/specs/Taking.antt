@@ -1,12 +1,13 @@
 -- What taking a round answers, and the record that it gives: document 01, 'The three rounds'.
 use Prim.Native.Nat.{ℕ, _*_}
+use mathlib.Core.Path.{_≡_}
 use mathlib.Core.Bool.{cond}
 use mathlib.Core.List.{List}
 use lib.ListN.{length, set}
 use lib.Dec.{ltb, eqb}
 use Rattle.wire.specs.Sizes.{spentPhase}
 use Rattle.wire.specs.Plan.{ifPlan}
-use Rattle.wire.specs.Outcome.{Outcome, accepted, refused, require}
+use Rattle.wire.specs.Outcome.{Outcome, accepted, refused, require, verdict, valueOr}
 use Rattle.crew.specs.Thresholds.{classOf}
 use Rattle.message.specs.Layout.{slotSize}
 use Rattle.ballot.specs.Ballot.{Ballot}
@@ -21,6 +22,7 @@ use Rattle.rounds.specs.declared.TakeRefusal.{TakeRefusal}
 use Rattle.rounds.specs.declared.TakeRefusal.the-variants.{Unsound, Spent, Inbox}
 use Rattle.rounds.specs.declared.Taking.{Taking}
 use Rattle.rounds.specs.declared.Taking.the-variants.{Accepted, Refused}
+use Rattle.rounds.specs.declared.Taken.{Taken}
 
 -- 01: "Select is the plan, or 0 for 'none'; a plan becomes the vote and the phase's history entry."
 abbrev pub afterSelection : Node → ℕ → Node
@@ -95,3 +97,8 @@ takeNumber Inbox = 14
 abbrev pub takeAnswer : Taking → Outcome (Unit {0})
 takeAnswer Accepted = accepted tt
 takeAnswer (Refused why) = refused (takeNumber why)
+
+-- What taking a round gives: its answer, and the next record or, where it is refused, the one that was handed in.
+pub record TakenFrom (d : Node) (bytes : List ℕ) (r : Taken) : Type 0 where
+  pub answer : takeAnswer (r .answer) ≡ verdict (takeOf d bytes)
+  pub node : r .node ≡ valueOr d (takeOf d bytes)

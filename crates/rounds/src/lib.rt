@@ -8,18 +8,17 @@ use wire::Plan;
 ghost use mathlib.Core.Path.{_≡_};
 ghost use Prim.Native.Nat.{_<_};
 ghost use Rattle.wire.specs.Sizes.{spentPhase};
-ghost use Rattle.wire.specs.Outcome.{accepted, verdict, valueOr};
+ghost use Rattle.wire.specs.Outcome.{accepted};
 ghost use Rattle.node.specs.Place.{roundAfter};
 ghost use Rattle.tally.specs.Rules.{choiceAs};
 ghost use Rattle.rounds.specs.Taking.{
   afterSelection,
   afterValidation,
   afterDecision,
-  takeOf,
-  takeAnswer,
+  TakenFrom,
 };
-ghost use Rattle.rounds.specs.Steps.{planOf, afterPlan};
-ghost use Rattle.rounds.specs.Asking.{askOf, askAnswer};
+ghost use Rattle.rounds.specs.Steps.{planOf, afterPlan, refusedTake, refusedAsk};
+ghost use Rattle.rounds.specs.Asking.{askAnswer, AskedFrom};
 
 // Why a round is not taken, or a selection not told; `takeNumber` in specs/Taking.antt has 01's numbers.
 pub enum TakeRefusal {
@@ -143,7 +142,7 @@ fn after_plan(node: Node, plan: Plan) -> Node
 }
 
 fn refuse_take(node: Node, why: TakeRefusal) -> Taken
-    ensures { λ r. ⌜ (r .answer ≡ Taking.Refused why) × (r .node ≡ node) ⌝ }
+    ensures { λ r. ⌜ r ≡ refusedTake node why ⌝ }
 {
     Taken {
         answer: Taking::Refused(why),
@@ -153,8 +152,7 @@ fn refuse_take(node: Node, why: TakeRefusal) -> Taken
 
 // Takes the coming round with this inbox: the next record, or a refusal and the record as it was.
 pub fn take(node: Node, inbox: &[u8]) -> Taken
-    ensures { λ r. ⌜ (takeAnswer (r .answer) ≡ verdict (takeOf node (now (inbox .entry))))
-        × (r .node ≡ valueOr node (takeOf node (now (inbox .entry)))) ⌝ }
+    ensures { λ r. ⌜ TakenFrom node (now (inbox .entry)) r ⌝ }
 {
     if node.is_sound() {
         if node.phase < Node::SPENT {
@@ -174,7 +172,7 @@ pub fn take(node: Node, inbox: &[u8]) -> Taken
 }
 
 fn refuse_ask(node: Node, why: TakeRefusal) -> Asked
-    ensures { λ r. ⌜ (r .answer ≡ Asking.Refused why) × (r .node ≡ node) ⌝ }
+    ensures { λ r. ⌜ r ≡ refusedAsk node why ⌝ }
 {
     Asked {
         answer: Asking::Refused(why),
@@ -194,7 +192,7 @@ fn to_asking(choice: Choice) -> Asking
 
 // Tells the coming selection with this inbox, and leaves the record as it was.
 pub fn ask(node: Node, inbox: &[u8]) -> Asked
-    ensures { λ r. ⌜ (askAnswer (r .answer) ≡ askOf node (now (inbox .entry))) × (r .node ≡ node) ⌝ }
+    ensures { λ r. ⌜ AskedFrom node (now (inbox .entry)) r ⌝ }
 {
     let selecting = node.is_sound() & (node.round == Node::SELECTION);
     if selecting {

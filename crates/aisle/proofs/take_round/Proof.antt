@@ -35,7 +35,7 @@ take-requires c κs = search needs
 
 returns : tie.Need-returns
 unfolding nodeAfter
-returns c = rw (← c .before .before .before .before .inbox-for .ensures .1) (c .before .take .ensures .1)
+returns c = rw (← c .before .before .before .before .inbox-for .ensures .1) (c .before .take .ensures .node)
 
 pub take-round-spec : {M : Type 1} → statement M
 take-round-spec =

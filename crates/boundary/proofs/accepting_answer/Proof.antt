@@ -1,9 +1,10 @@
 -- `accepting_answer` meets its contract.
-use mathlib.Core.Path.{sym, ap, _∙_, subst}
+use mathlib.Core.Path.{ap}
 use native.Mathlib.Omega.{arith}
 use borrow.Author.Needs.{needs}
-use Rattle.boundary.specs.Answers.{answerOf, Apart, done}
 use Rattle.crew.specs.Acceptance.{acceptAnswer}
+use Rattle.boundary.specs.Answers.{done}
+use Rattle.boundary.proofs.Verdicts.{value-told, refusal-told}
 use Rattle.boundary.proofs.accepting_answer.Statement.{statement}
 use Rattle.boundary.proofs.accepting_answer.Tie as tie
 
@@ -20,15 +21,12 @@ refusal-requires : tie.Need-refusal-requires
 refusal-requires c κs = search needs
 
 returns : tie.Need-returns
-returns c = let told = ap acceptAnswer (c .enum-told .given .1) in
-    (sym (ap (answerOf done) told), subst (Apart done) (sym told) (omega arith))
+returns c = value-told done _ (omega arith) (ap acceptAnswer (c .enum-told .given .1))
 
 returns-2 : tie.Need-returns-2
-returns-2 c = let told = ap acceptAnswer (c .before .before .before .answer .given .1) in
-    let number = c .before .crew-number .ensures in (
-      c .refusal .ensures ∙ rw (number .0) (sym (ap (answerOf done) told)),
-      subst (Apart done) (sym told) (omega (arith, number .0, number .1), omega (arith, number .0, number .2)),
-    )
+returns-2 c =
+    let told = ap acceptAnswer (c .before .before .before .answer .given .1) in
+    refusal-told done (c .before .crew-number .ensures) (c .refusal .ensures) told
 
 pub accepting-answer-spec : {M : Type 1} → statement M
 accepting-answer-spec =

@@ -1,9 +1,10 @@
 -- `asking_answer` meets its contract.
-use mathlib.Core.Path.{sym, ap, _∙_, subst}
+use mathlib.Core.Path.{ap}
 use native.Mathlib.Omega.{arith}
 use borrow.Author.Needs.{needs}
-use Rattle.boundary.specs.Answers.{answerOf, Apart, choiceNumber}
 use Rattle.rounds.specs.Asking.{askAnswer}
+use Rattle.boundary.specs.Answers.{choiceNumber}
+use Rattle.boundary.proofs.Verdicts.{value-told, refusal-told}
 use Rattle.boundary.proofs.asking_answer.Statement.{statement}
 use Rattle.boundary.proofs.asking_answer.Tie as tie
 
@@ -29,30 +30,18 @@ refusal-requires : tie.Need-refusal-requires
 refusal-requires c κs = search needs
 
 returns : tie.Need-returns
-returns c = let told = ap askAnswer (c .before .answer .given .1) in
-    (sym (ap (answerOf choiceNumber) told), subst (Apart choiceNumber) (sym told) (omega arith))
+returns c = value-told choiceNumber _ (omega arith) (ap askAnswer (c .before .answer .given .1))
 
 returns-2 : tie.Need-returns-2
-returns-2 c = let told = ap askAnswer (c .enum-told .given .1) in
-    (sym (ap (answerOf choiceNumber) told), subst (Apart choiceNumber) (sym told) (omega arith))
+returns-2 c = value-told choiceNumber _ (omega arith) (ap askAnswer (c .enum-told .given .1))
 
 returns-3 : tie.Need-returns-3
-returns-3 c = let told = ap askAnswer (c .enum-told2 .given .1) in
-    (sym (ap (answerOf choiceNumber) told), subst (Apart choiceNumber) (sym told) (omega arith))
+returns-3 c = value-told choiceNumber _ (omega arith) (ap askAnswer (c .enum-told2 .given .1))
 
 returns-4 : tie.Need-returns-4
-returns-4 c = let told = ap askAnswer (c .before .before .before .answer2 .given .1) in
-    let number = c .before .round-number .ensures in (
-      c .refusal .ensures ∙ rw (number .0) (sym (ap (answerOf choiceNumber) told)),
-      subst (Apart choiceNumber) (sym told) (
-        omega (arith, number .0, number .1),
-        omega (
-          arith,
-          number .0,
-          number .2,
-        ),
-      ),
-    )
+returns-4 c =
+    let told = ap askAnswer (c .before .before .before .answer2 .given .1) in
+    refusal-told choiceNumber (c .before .round-number .ensures) (c .refusal .ensures) told
 
 pub asking-answer-spec : {M : Type 1} → statement M
 asking-answer-spec =

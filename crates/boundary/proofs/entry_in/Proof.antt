@@ -4,6 +4,7 @@ use native.Mathlib.Omega.{arith}
 use borrow.Author.Needs.{needs}
 use borrow.Author.Tests.{lt-ltb, le-ltb}
 use Rattle.boundary.specs.Answers.{entryNumber}
+use Rattle.boundary.proofs.Verdicts.{no-entry, refusal-told}
 use Rattle.boundary.proofs.entry_in.Statement.{statement}
 use Rattle.boundary.proofs.entry_in.Tie as tie
 
@@ -23,20 +24,19 @@ add-result : tie.Need-add-result
 add-result c = search needs
 
 returns : tie.Need-returns
-returns c = let few = lt-ltb _ _ (c .before .before .before .if1 .taken) in
-    let told = ap entryNumber (c .before .before .entry-at .ensures) in
-    let same = rw few at told in
-    (rw few same, rw few (omega (arith, same)))
+returns c =
+    let read = c .before .before in
+    let few = lt-ltb _ _ (read .before .if1 .taken) in
+    let same = rw few at (ap entryNumber (read .entry-at .ensures)) in
+    record { number = rw few same; apart = rw few (omega (arith, same)) }
 
 refusal-requires : tie.Need-refusal-requires
 refusal-requires c κs = search needs
 
 returns-2 : tie.Need-returns-2
-returns-2 c = (
-  rw (c .refusal .ensures, le-ltb _ _ (c .before .if1 .left)),
-  rw (le-ltb _ _
-      (c .before .if1 .left)) (omega arith, omega arith),
-)
+returns-2 c =
+    let past = le-ltb _ _ (c .before .if1 .left) in
+    refusal-told entryNumber no-entry (c .refusal .ensures) (rw past)
 
 pub entry-in-spec : {M : Type 1} → statement M
 entry-in-spec =

@@ -1,10 +1,10 @@
 -- `put_fields` meets its contract.
 use mathlib.Core.Path.{_≡_, _∙_}
 use native.Mathlib.Omega.{arith}
-use lib.ListN.{length, set, length-set}
+use lib.ListN.{length, length-set}
 use denote.Ref.{now}
 use Rattle.wire.proofs.Stores.{laid-room}
-use Rattle.boundary.specs.Answers.{kindField, phaseField, fieldsSize}
+use Rattle.boundary.specs.Answers.{fieldsSize}
 use Rattle.boundary.proofs.Verdicts.{fields-laid}
 use borrow.Author.Needs.{needs}
 use Rattle.boundary.proofs.put_fields.Statement.{statement}
@@ -14,23 +14,17 @@ use Rattle.boundary.proofs.put_fields.Lts as lts
 use Rattle.wire.proofs.put_plan.Reads as put-plan-reads
 use Rattle.wire.proofs.put_u32.Reads as put-u32-reads
 
--- no store changes the length: not those of the kind, of the run and the phase, and of the plan
+-- no store changes the length: not that of the run, and not that of the plan
 lengths : (c : lts.After-slice-known3
     (put-u32-reads.Asked, put-u32-reads.Learnt, put-plan-reads.Asked, put-plan-reads.Learnt) reads.Pre reads.Post)
-    → let start = c .before .before .before .before .before .before .before .before .before in
-    let run = c .before .before .before .before .before .before .put-u32 in
-    (length (set (now (start .args .fields)) kindField (start .args .kind)) ≡ fieldsSize)
-    × (length (set (run .last .0) phaseField (start .args .phase)) ≡ fieldsSize)
-    × (length (c .before .before .put-plan .last .0) ≡ fieldsSize)
+    → let plan = c .before .before in
+    let run = plan .before .before .before .before in
+    (length (run .put-u32 .last .0) ≡ fieldsSize) × (length (plan .put-plan .last .0) ≡ fieldsSize)
 lengths c =
-    let start = c .before .before .before .before .before .before .before .before .before in
-    let a = start .args in
-    let run = c .before .before .before .before .before .before .put-u32 in
-    let first : length (set (now (a .fields)) kindField (a .kind)) ≡ fieldsSize =
-    length-set (now (a .fields)) kindField (a .kind) ∙ start .pre in
-    let second : length (set (run .last .0) phaseField (a .phase)) ≡ fieldsSize =
-    length-set (run .last .0) phaseField (a .phase) ∙ run .kept .0 ∙ first in
-    (first, second, c .before .before .put-plan .kept .0 ∙ second)
+    let plan = c .before .before in
+    let run = plan .before .before .before .before in
+    let after-run = simp length-set at (run .put-u32 .kept .0) ∙ run .before .before .before .pre in
+    (after-run, simp length-set at (plan .put-plan .kept .0) ∙ after-run)
 
 slice-write-fields : tie.Need-slice-write-fields
 slice-write-fields c = search needs
@@ -51,18 +45,17 @@ slice-write-fields-4 : tie.Need-slice-write-fields-4
 slice-write-fields-4 c = simp length-set (omega (arith, lengths c))
 
 same-length : tie.Need-same-length
-same-length c =
-    let start = c .before .before .before .before .before .before .before .before .before in
-    simp length-set (omega (arith, lengths c, start .pre))
+same-length c = simp length-set (omega (arith, lengths c))
 
 returns : tie.Need-returns
 returns c =
-    let start = c .before .before .before .before .before .before .before .before .before in
+    let plan = c .before .before in
+    let run = plan .before .before .before .before in
+    let start = run .before .before .before in
     let a = start .args in
-    let run = c .before .before .before .before .before .before .put-u32 in
     simp (
-      laid-room _ _ _ (c .before .before .put-plan .ensures) (omega (arith, lengths c)),
-      laid-room _ _ _ (run .ensures) (omega (arith, lengths c)),
+      laid-room _ _ _ (plan .put-plan .ensures) (simp length-set (omega (arith, lengths c))),
+      laid-room _ _ _ (run .put-u32 .ensures) (simp length-set (omega (arith, start .pre))),
     )
     (fields-laid (now (a .fields)) (a .kind) (a .run) (a .phase) (a .plan) (a .stamp) (a .count) (start .pre))
 

@@ -27,24 +27,24 @@ same-length c = search needs
 
 returns : tie.Need-returns
 returns c =
-    let told = c .before .before .before .before in
-    λ bytes. simp (c .before .before .put-fields .ensures, told .before .body .given .1, entries-count)
+    let told = c .before .before .before .before .before in
+    λ bytes. simp (c .before .before .put-fields .ensures, told .body .given .1, entries-count)
 
 same-length-2 : tie.Need-same-length-2
 same-length-2 c = search needs
 
 returns-2 : tie.Need-returns-2
 returns-2 c =
-    let told = c .before .before .before .before in
-    λ bytes. simp (c .before .before .put-fields2 .ensures, told .before .body2 .given .1)
+    let told = c .before .before .before .before .before in
+    λ bytes. simp (c .before .before .put-fields2 .ensures, told .body2 .given .1)
 
 same-length-3 : tie.Need-same-length-3
 same-length-3 c = search needs
 
 returns-3 : tie.Need-returns-3
 returns-3 c =
-    let told = c .before .before .before .before in
-    λ bytes. simp (c .before .before .put-fields3 .ensures, told .before .body3 .given .1)
+    let told = c .before .before .before .before .before in
+    λ bytes. simp (c .before .before .put-fields3 .ensures, told .body3 .given .1)
 
 pub put-message-spec : {M : Type 1} → statement M
 put-message-spec =

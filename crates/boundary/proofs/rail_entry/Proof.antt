@@ -1,9 +1,10 @@
 -- `rail_entry` meets its contract.
 use mathlib.Core.Path.{sym, _∙_, ap}
-use native.Mathlib.Omega.{arith}
+use borrow.Author.Needs.{needs}
 use denote.Ref.{now}
 use Rattle.message.specs.Reading.{readAnswer}
-use borrow.Author.Needs.{needs}
+use Rattle.boundary.specs.Answers.{entryNumber}
+use Rattle.boundary.proofs.Verdicts.{refusal-told}
 use Rattle.boundary.proofs.rail_entry.Statement.{statement}
 use Rattle.boundary.proofs.rail_entry.Tie as tie
 
@@ -30,22 +31,20 @@ refusal-requires c κs = search needs
 
 returns : tie.Need-returns
 returns c =
-    let b4 = c .before .before .before .before in
-    let as-read = sym (b4 .read .ensures) ∙ ap (λ r. readAnswer r (now (b4 .before .before .args .bytes)))
-    (c .before .before .enum-told .given .1) in (
-      rw (c .entry-in .ensures .0, c .before .entries .ensures, as-read),
-      rw as-read (rw (c .before .entries .ensures, as-read) at (c .entry-in .ensures .1)),
-    )
+    let part = c .before .entries .ensures in
+    let told = c .before .before in
+    let read = told .before .before in
+    let bytes = now (read .before .before .args .bytes) in
+    let as-read = sym (read .read .ensures) ∙ ap (λ r. readAnswer r bytes) (told .enum-told .given .1) in
+    rw as-read (rw (part, as-read) at (c .entry-in .ensures))
 
 returns-2 : tie.Need-returns-2
 returns-2 c =
-    let b4 = c .before .before .before .before in
-    let as-read = sym (b4 .before .read .ensures) ∙ ap (λ r. readAnswer r (now
-    (b4 .before .before .before .args .bytes))) (c .before .before .before .reading .given .1) in
-    let number = c .before .read-number .ensures in (
-      rw (c .refusal .ensures, number .0, as-read),
-      rw as-read (omega (arith, number .0, number .1), omega (arith, number .0, number .2)),
-    )
+    let told = c .before .before .before in
+    let read = told .before .before in
+    let bytes = now (read .before .before .args .bytes) in
+    let as-read = sym (read .read .ensures) ∙ ap (λ r. readAnswer r bytes) (told .reading .given .1) in
+    refusal-told entryNumber (c .before .read-number .ensures) (c .refusal .ensures) (rw as-read)
 
 pub rail-entry-spec : {M : Type 1} → statement M
 rail-entry-spec =

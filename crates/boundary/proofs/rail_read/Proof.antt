@@ -1,10 +1,10 @@
 -- `rail_read` meets its contract.
-use mathlib.Core.Path.{sym, _∙_, ap}
 use native.Mathlib.Omega.{arith}
-use borrow.Author.Tests.{eq-eqb, ne-eqb}
-use denote.Ref.{now}
-use Rattle.message.specs.Reading.{readAnswer}
+use borrow.Author.Tests.{ne-eqb}
 use borrow.Author.Needs.{needs}
+use denote.Ref.{now}
+use Rattle.boundary.specs.Answers.{done}
+use Rattle.boundary.proofs.Verdicts.{wrong-fields, value-told, refusal-told, read-told}
 use Rattle.boundary.proofs.rail_read.Statement.{statement}
 use Rattle.boundary.proofs.rail_read.Tie as tie
 
@@ -22,16 +22,15 @@ same-length c = search needs
 
 returns : tie.Need-returns
 returns c =
-    let b4 = c .before .before .before .before in
-    let b8 = b4 .before .before .before .before in
-    let s = now (b8 .before .before .before .args .bytes) in
-    let as-read = sym (b4 .before .before .before .read .ensures) ∙ ap (λ r. readAnswer r s)
-    (b4 .before .reading .given .1) in
-    let fits = eq-eqb _ _ (b8 .if1 .taken) in (
-      rw (fits, as-read),
-      rw (fits, as-read) (omega arith),
-      rw (fits, as-read) (c .before .before .put-message .ensures s),
-    )
+    let told = c .before .before .before .before .before in
+    let read = told .before .before in
+    let a = read .before .before .before .before .args in
+    let as-read = read-told (now (a .bytes)) (now (a .fields)) (read .before .if1 .taken) (read .read .ensures)
+    (told .reading .given .1) in
+    record {
+      told = value-told done _ (omega arith) as-read;
+      left = rw as-read (c .before .before .put-message .ensures (now (a .bytes)));
+    }
 
 enum-known-reading-2 : tie.Need-enum-known-reading-2
 enum-known-reading-2 c = search needs
@@ -44,25 +43,26 @@ refusal-requires c κs = search needs
 
 returns-2 : tie.Need-returns-2
 returns-2 c =
-    let b4 = c .before .before .before .before in
-    let b8 = b4 .before .before .before .before in
-    let s = now (b8 .before .args .bytes) in
-    let as-read = sym (b4 .before .read .ensures) ∙ ap (λ r. readAnswer r s)
-    (c .before .before .before .reading2 .given .1) in
-    let fits = eq-eqb _ _ (b4 .before .before .if1 .taken) in
-    let number = c .before .read-number .ensures in (
-      rw (c .refusal .ensures, number .0, fits, as-read),
-      rw (fits, as-read) (omega (arith, number .0, number .1), omega (arith, number .0, number .2)),
-      rw (fits, as-read),
-    )
+    let told = c .before .before .before in
+    let read = told .before .before in
+    let a = read .before .before .before .before .args in
+    let as-read = read-told (now (a .bytes)) (now (a .fields)) (read .before .if1 .taken) (read .read .ensures)
+    (told .reading2 .given .1) in
+    record {
+      told = refusal-told done (c .before .read-number .ensures) (c .refusal .ensures) as-read;
+      left = rw as-read;
+    }
 
 refusal-requires-2 : tie.Need-refusal-requires-2
 refusal-requires-2 c κs = search needs
 
 returns-3 : tie.Need-returns-3
 returns-3 c =
-    let fits = ne-eqb _ _ (c .before .if1 .left) in
-    (rw (c .refusal2 .ensures, fits), rw fits (omega arith, omega arith), rw fits)
+    let unfit = ne-eqb _ _ (c .before .if1 .left) in
+    record {
+      told = refusal-told done wrong-fields (c .refusal2 .ensures) (rw unfit);
+      left = rw unfit;
+    }
 
 pub rail-read-spec : {M : Type 1} → statement M
 rail-read-spec =

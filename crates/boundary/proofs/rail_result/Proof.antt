@@ -1,8 +1,9 @@
 -- `rail_result` meets its contract.
-use mathlib.Core.Path.{sym, _∙_, ap}
+use mathlib.Core.Path.{sym, _∙_}
 use native.Mathlib.Omega.{arith}
 use borrow.Author.Needs.{needs}
-use Rattle.node.specs.Soundness.{sound}
+use Rattle.boundary.specs.Answers.{itself}
+use Rattle.boundary.proofs.Verdicts.{result-told, unsound-told, wrong-image, refusal-told}
 use Rattle.boundary.proofs.rail_result.Statement.{statement}
 use Rattle.boundary.proofs.rail_result.Tie as tie
 
@@ -17,30 +18,28 @@ cast-result c = search needs
 
 returns : tie.Need-returns
 returns c =
-    let b4 = c .before .before .before .before in
-    let fits = sym (b4 .before .load .ensures .0) ∙ b4 .if1 .taken in
-    let is = rw fits at (b4 .before .load .ensures .1) in
-    let ok = ap sound (sym is) ∙ sym (c .before .before .is-sound .ensures) ∙ c .before .if2 .taken in
-    let same = ap (λ d. d .result) is in
-    (rw (fits, ok) same, rw (fits, ok) (omega (arith, same)))
+    let sounded = c .before .before in
+    let tested = sounded .before .before in
+    result-told _ _ (tested .before .load .ensures) (tested .if1 .taken) (sounded .is-sound .ensures)
+    (c .before .if2 .taken) (omega (arith, c .struct-known .given))
 
 refusal-requires : tie.Need-refusal-requires
 refusal-requires c κs = search needs
 
 returns-2 : tie.Need-returns-2
 returns-2 c =
-    let b4 = c .before .before .before .before in
-    let fits = sym (b4 .before .load .ensures .0) ∙ b4 .if1 .taken in
-    let is = rw fits at (b4 .before .load .ensures .1) in
-    let ok = ap sound (sym is) ∙ sym (c .before .before .is-sound .ensures) ∙ c .before .if2 .left in
-    (rw (c .refusal .ensures, fits, ok), rw (fits, ok) (omega arith, omega arith))
+    let sounded = c .before .before in
+    let tested = sounded .before .before in
+    unsound-told _ _ (tested .before .load .ensures) (tested .if1 .taken) (sounded .is-sound .ensures)
+    (c .before .if2 .left) (c .refusal .ensures)
 
 refusal-requires-2 : tie.Need-refusal-requires-2
 refusal-requires-2 c κs = search needs
 
 returns-3 : tie.Need-returns-3
-returns-3 c = let fits = sym (c .before .before .load .ensures .0) ∙ c .before .if1 .left in
-    (rw (c .refusal2 .ensures, fits), rw fits (omega arith, omega arith))
+returns-3 c =
+    let unfit = sym (c .before .before .load .ensures .fits) ∙ c .before .if1 .left in
+    refusal-told itself wrong-image (c .refusal2 .ensures) (rw unfit)
 
 pub rail-result-spec : {M : Type 1} → statement M
 rail-result-spec =

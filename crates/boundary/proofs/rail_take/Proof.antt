@@ -1,10 +1,9 @@
 -- `rail_take` meets its contract.
 use mathlib.Core.Path.{sym, _∙_, ap}
-use native.Mathlib.Omega.{arith}
 use borrow.Author.Needs.{needs}
-use denote.Ref.{now}
-use Rattle.boundary.proofs.Verdicts.{when-accepted, when-refused}
-use Rattle.rounds.specs.Taking.{takeOf, takeAnswer}
+use Rattle.rounds.specs.Taking.{takeAnswer}
+use Rattle.image.proofs.Loading.{loaded-record}
+use Rattle.boundary.proofs.Verdicts.{record-stored, record-kept, image-kept}
 use Rattle.boundary.proofs.rail_take.Statement.{statement}
 use Rattle.boundary.proofs.rail_take.Tie as tie
 
@@ -25,18 +24,13 @@ same-length c = search needs
 
 returns : tie.Need-returns
 returns c =
-    let b4 = c .before .before .before .before in
-    let b8 = b4 .before .before .before .before in
-    let b12 = b8 .before .before .before .before in
-    let d = b8 .load .result .node in
-    let fits = sym (b8 .load .ensures .0) ∙ b4 .before .before .before .if1 .taken in
-    let is = rw fits at (b8 .load .ensures .1) in
-    let told = sym (ap takeAnswer (b4 .enum-told .given .1)) ∙ b4 .before .before .take .ensures .0 in
-    let w = when-accepted (now (b12 .args .image)) d (takeOf d (now (b12 .args .inbox))) told in (
-      rw (fits, ← is) (w .0),
-      rw (fits, ← is) (w .1),
-      rw (c .before .before .store .ensures .1, fits, b4 .before .before .take .ensures .1, ← is) (w .2),
-    )
+    let told = c .before .before .before .before in
+    let taken = told .before .before in
+    let loaded = taken .before .before .load in
+    let fits = taken .before .if1 .taken in
+    rw (← loaded-record _ _ (loaded .ensures) fits)
+    (record-stored _ (loaded .result .node) (loaded .ensures .fits) fits _ (taken .take .ensures .answer)
+    (ap takeAnswer (told .enum-told .given .1)) (taken .take .ensures .node) (c .before .before .store .ensures))
 
 enum-known-answer : tie.Need-enum-known-answer
 enum-known-answer c = search needs
@@ -52,20 +46,13 @@ same-length-2 c = search needs
 
 returns-2 : tie.Need-returns-2
 returns-2 c =
-    let b4 = c .before .before .before .before in
-    let b8 = b4 .before .before .before .before in
-    let d = b4 .before .before .before .load .result .node in
-    let fits = sym (b4 .before .before .before .load .ensures .0) ∙ b4 .before .before .if1 .taken in
-    let is = rw fits at (b4 .before .before .before .load .ensures .1) in
-    let number = c .before .round-number .ensures in
-    let told = sym (ap takeAnswer (c .before .before .before .answer .given .1)) ∙ b4 .before .take .ensures .0 in
-    let w = when-refused (now (b8 .before .before .before .args .image)) d (takeOf d (now
-    (b8 .before .before .before .args .inbox))) _ told
-    (omega (arith, number .0, number .1), omega (arith, number .0, number .2)) in (
-      rw (c .refusal .ensures, number .0, fits, ← is) (w .0),
-      rw (fits, ← is) (w .1),
-      rw (fits, ← is) (w .2),
-    )
+    let told = c .before .before .before in
+    let taken = told .before .before in
+    let loaded = taken .before .before .load in
+    let fits = taken .before .if1 .taken in
+    rw (← loaded-record _ _ (loaded .ensures) fits)
+    (record-kept _ (loaded .result .node) (loaded .ensures .fits) fits _ (taken .take .ensures .answer)
+    _ (ap takeAnswer (told .answer .given .1)) (c .before .round-number .ensures) (c .refusal .ensures))
 
 refusal-requires-2 : tie.Need-refusal-requires-2
 refusal-requires-2 c κs = search needs
@@ -74,8 +61,9 @@ same-length-3 : tie.Need-same-length-3
 same-length-3 c = search needs
 
 returns-3 : tie.Need-returns-3
-returns-3 c = let fits = sym (c .before .before .load .ensures .0) ∙ c .before .if1 .left in
-    (rw (c .refusal2 .ensures, fits), rw fits (omega arith, omega arith), rw fits)
+returns-3 c =
+    let unfit = sym (c .before .before .load .ensures .fits) ∙ c .before .if1 .left in
+    image-kept _ _ unfit (c .refusal2 .ensures)
 
 pub rail-take-spec : {M : Type 1} → statement M
 rail-take-spec =

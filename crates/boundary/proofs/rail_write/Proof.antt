@@ -1,11 +1,12 @@
 -- `rail_write` meets its contract.
-use mathlib.Core.Path.{_≡_, sym, ap, _∙_, subst}
+use mathlib.Core.Path.{_≡_, sym, _∙_, subst}
 use native.Mathlib.Omega.{arith}
 use borrow.Author.Needs.{needs}
 use denote.Ref.{now}
-use Rattle.boundary.specs.Answers.{answerOf, Apart, itself, writeFrom}
 use Rattle.node.proofs.Lengths.{write-length}
 use Rattle.node.specs.Sending.{sendAnswer}
+use Rattle.boundary.specs.Answers.{Answered, itself, writeFrom}
+use Rattle.boundary.proofs.Verdicts.{wrong-image, refusal-told}
 use Rattle.boundary.proofs.rail_write.Statement.{statement}
 use Rattle.boundary.proofs.rail_write.Tie as tie
 
@@ -17,36 +18,34 @@ write-requires c κs = search needs
 
 sending-answer-requires : tie.Need-sending-answer-requires
 sending-answer-requires c κs =
-    let b4 = c .before .before .before .before in
-    let b8 = b4 .before .before .before .before in
-    rw (c .before .before .write .ensures .0) (omega (
-      arith,
-      write-length (b4 .before .load .result .node) (now
-          (b8 .args .buffer)),
-    ))
+    let written = c .before .before in
+    let loaded = written .before .before .before in
+    let buffer = now (loaded .before .before .before .args .buffer) in
+    rw (written .write .ensures .0) (omega (arith, write-length (loaded .load .result .node) buffer))
 
 same-length : tie.Need-same-length
 same-length c = search needs
 
 returns : tie.Need-returns
 returns c =
-    let b4 = c .before .before .before .before in
-    let b8 = b4 .before .before .before .before in
-    let fits = sym (b4 .before .before .load .ensures .0) ∙ b4 .before .if1 .taken in
-    let same : sendAnswer (c .before .before .before .write .result .answer) ≡ writeFrom (now
-    (b8 .before .args .image)) (now (b8 .before .args .buffer)) =
-    rw (c .before .before .before .write .ensures .0, b4 .before .before .load .ensures .1, fits) in (
-      c .sending-answer .ensures .0 ∙ ap (answerOf itself) same,
-      subst (Apart itself) same (c .sending-answer .ensures .1),
-      rw (c .before .before .before .write .ensures .2, b4 .before .before .load .ensures .1, fits),
-    )
+    let written = c .before .before .before in
+    let loaded = written .before .before .before in
+    let a = loaded .before .before .before .args in
+    let fits = sym (loaded .load .ensures .fits) ∙ written .before .before .if1 .taken in
+    let same : sendAnswer (written .write .result .answer) ≡ writeFrom (now (a .image)) (now (a .buffer)) =
+    rw (written .write .ensures .0, loaded .load .ensures .node, fits) in
+    record {
+      told = subst (λ outcome. Answered itself outcome (c .sending-answer .result)) same (c .sending-answer .ensures);
+      left = rw (written .write .ensures .2, loaded .load .ensures .node, fits);
+    }
 
 refusal-requires : tie.Need-refusal-requires
 refusal-requires c κs = search needs
 
 returns-2 : tie.Need-returns-2
-returns-2 c = let fits = sym (c .before .before .load .ensures .0) ∙ c .before .if1 .left in
-    (rw (c .refusal .ensures, fits), rw fits (omega arith, omega arith), rw fits)
+returns-2 c =
+    let unfit = sym (c .before .before .load .ensures .fits) ∙ c .before .if1 .left in
+    record { told = refusal-told itself wrong-image (c .refusal .ensures) (rw unfit); left = rw unfit }
 
 pub rail-write-spec : {M : Type 1} → statement M
 rail-write-spec =

@@ -1,10 +1,11 @@
 -- `sending_answer` meets its contract.
-use mathlib.Core.Path.{sym, ap, _∙_, subst}
+use mathlib.Core.Path.{ap}
 use native.Mathlib.Omega.{arith}
 use borrow.Author.Needs.{needs}
-use Rattle.boundary.specs.Answers.{answerOf, Apart, itself}
-use Rattle.node.specs.Sending.{sendAnswer}
 use Rattle.wire.specs.Outcome.{valueOr}
+use Rattle.node.specs.Sending.{sendAnswer}
+use Rattle.boundary.specs.Answers.{itself}
+use Rattle.boundary.proofs.Verdicts.{value-told, refusal-told}
 use Rattle.boundary.proofs.sending_answer.Statement.{statement}
 use Rattle.boundary.proofs.sending_answer.Tie as tie
 
@@ -21,22 +22,15 @@ refusal-requires : tie.Need-refusal-requires
 refusal-requires c κs = search needs
 
 returns : tie.Need-returns
-returns c = let told = ap sendAnswer (c .before .answer .given .1) in
-    let small = ap (valueOr 0) told in (
-      sym (ap (answerOf itself) told),
-      subst (Apart itself) (sym told) (omega (
-        arith,
-        small,
-        (c .before .before .before .pre),
-      )),
-    )
+returns c =
+    let told = ap sendAnswer (c .before .answer .given .1) in
+    let small = ap (valueOr 0) told in
+    value-told itself _ (omega (arith, small, c .before .before .before .pre)) told
 
 returns-2 : tie.Need-returns-2
-returns-2 c = let told = ap sendAnswer (c .before .before .before .answer2 .given .1) in
-    let number = c .before .send-number .ensures in (
-      c .refusal .ensures ∙ rw (number .0) (sym (ap (answerOf itself) told)),
-      subst (Apart itself) (sym told) (omega (arith, number .0, number .1), omega (arith, number .0, number .2)),
-    )
+returns-2 c =
+    let told = ap sendAnswer (c .before .before .before .answer2 .given .1) in
+    refusal-told itself (c .before .send-number .ensures) (c .refusal .ensures) told
 
 pub sending-answer-spec : {M : Type 1} → statement M
 sending-answer-spec =

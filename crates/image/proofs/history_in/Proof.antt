@@ -1,28 +1,42 @@
--- `history_in` meets its contract. The invariant: the plans that are left, laid over the history from this phase on,
--- make up the whole history.
-use mathlib.Core.Path.{_≡_}
-use Prim.Native.Nat.{_≤_, _+_, _*_, _-_}
+-- `history_in` meets its contract.
+use mathlib.Core.Path.{_≡_, refl, _∙_}
+use mathlib.Core.List.{List}
+use Prim.Native.Nat.{ℕ, _≤_, _+_, _*_, _-_}
 use native.Mathlib.Omega.{arith}
-use lib.Seq.{sets}
+use lib.ListN.{length, replicate, length-set}
 use borrow.Author.Needs.{needs}
 use denote.Ref.{now}
 use Rattle.wire.specs.Sizes.{planSize, historySize}
-use Rattle.image.proofs.Stores.{read-start, read-turn, read-end}
+use Rattle.wire.specs.Bytes.{numberAt}
+use Rattle.wire.proofs.Arrays.{Filled, filled-none, filled-more, filled-all}
 use Rattle.image.specs.Layout.{historyPlace, plansIn}
+use Rattle.image.proofs.Stores.{plan-in, plans-length}
 use Rattle.image.proofs.history_in.Statement.{statement}
 use Rattle.image.proofs.history_in.Tie as tie
 
+-- the plan of a phase, as it stands in an image
+abbrev planAt : List ℕ → ℕ → ℕ
+planAt s phase = numberAt planSize s (historyPlace + planSize * phase)
+
+-- The invariant: the history has a place for each phase, and the plans of the phases before this one.
+record Reading (s history : List ℕ) (phase : ℕ) : Type 0 where
+  within : phase ≤ historySize
+  long : length history ≡ historySize
+  so-far : Filled (planAt s) 0 history phase
+
 abbrev Inv-loop : tie.InvT-loop
-Inv-loop s history₀ phase₀ history phase =
-    (phase ≤ historySize)
-    × (sets history phase (plansIn s (historyPlace + planSize * phase) (historySize - phase))
-    ≡ plansIn s historyPlace historySize)
+Inv-loop s history₀ phase₀ history phase = Reading s history phase
 
 abbrev μ-loop : tie.MeasureT-loop
 μ-loop s history₀ phase₀ history phase = historySize - phase
 
 loop-holds : tie.Need-loop-holds Inv-loop μ-loop
-loop-holds c = (omega arith, read-start (now (c .before .args .s)))
+loop-holds c =
+    record {
+      within = omega arith;
+      long = refl;
+      so-far = filled-none (planAt (now (c .before .args .s))) 0 (replicate historySize 0);
+    }
 
 mul-plan-at : tie.Need-mul-plan-at Inv-loop μ-loop
 mul-plan-at c = search needs
@@ -47,16 +61,23 @@ loop-less c = search needs
 
 loop-again : tie.Need-loop-again Inv-loop μ-loop
 loop-again c =
-    let b4 = c .before .before .before .before in (
-      omega arith,
-      read-turn (now (b4 .args .s)) (c .before .before .loop .history) _ (c .before .before .loop .phase) _
-          (c .before .loop-test .taken)
-          (c .plan-at .ensures) (c .before .before .loop .inv .1),
-    )
+    let turn = c .before .before .loop in
+    let s = now (c .before .before .before .before .args .s) in
+    record {
+      within = omega arith;
+      long = length-set (turn .history) (turn .phase) _ ∙ turn .inv .long;
+      so-far = filled-more (planAt s) 0 (turn .history) (turn .phase) _ (omega (arith, turn .inv .long))
+          (turn .inv .so-far) (c .plan-at .ensures);
+    }
 
 returns : tie.Need-returns Inv-loop μ-loop
-returns c = read-end _ (c .before .loop .history) _ (c .before .loop .phase) (c .loop-test .left)
-    (c .before .loop .inv .1)
+returns c =
+    let done = c .before .loop in
+    let s = now (c .before .before .before .args .s) in
+    let count = plans-length s historyPlace historySize in
+    filled-all (planAt s) 0 (done .history) (plansIn s historyPlace historySize) (done .phase)
+    (omega (arith, count, done .inv .long)) (omega (arith, done .inv .long)) (done .inv .so-far)
+    (λ k less. plan-in s historyPlace historySize k (omega (arith, count)))
 
 pub history-in-spec : {M : Type 1} → statement M
 history-in-spec =

@@ -1,7 +1,7 @@
--- `put_history` meets its contract. The invariant: the plans that are left, laid from this place on, end in the image
--- with all plans.
-use mathlib.Core.Path.{_≡_, _∙_}
-use Prim.Native.Nat.{_≤_, _+_, _*_, _-_}
+-- `put_history` meets its contract.
+use mathlib.Core.Path.{_≡_, refl, _∙_}
+use mathlib.Core.List.{List}
+use Prim.Native.Nat.{ℕ, _≤_, _+_, _*_, _-_}
 use native.Mathlib.Omega.{arith}
 use lib.ListN.{length, drop}
 use lib.Seq.{sets}
@@ -13,18 +13,21 @@ use Rattle.image.specs.Layout.{historyPlace, historyBytes}
 use Rattle.image.proofs.put_history.Statement.{statement}
 use Rattle.image.proofs.put_history.Tie as tie
 
+-- The invariant: the plans that are left, laid from this place on, end in the image with all plans.
+record Laying (image₀ history image : List ℕ) (phase : ℕ) : Type 0 where
+  within : phase ≤ historySize
+  long : length image ≡ length image₀
+  left : sets image (historyPlace + planSize * phase) (historyBytes (drop phase history))
+      ≡ sets image₀ historyPlace (historyBytes history)
+
 abbrev Inv-loop : tie.InvT-loop
-Inv-loop image₀ history phase₀ image phase =
-    (phase ≤ historySize)
-    × (length image ≡ length image₀)
-    × (sets image (historyPlace + planSize * phase) (historyBytes (drop phase history))
-    ≡ sets image₀ historyPlace (historyBytes history))
+Inv-loop image₀ history phase₀ image phase = Laying image₀ history image phase
 
 abbrev μ-loop : tie.MeasureT-loop
 μ-loop image₀ history phase₀ image phase = historySize - phase
 
 loop-holds : tie.Need-loop-holds Inv-loop μ-loop
-loop-holds c = search needs
+loop-holds c = record { within = omega arith; long = refl; left = refl }
 
 mul-put-plan : tie.Need-mul-put-plan Inv-loop μ-loop
 mul-put-plan c = search needs
@@ -49,23 +52,28 @@ loop-less c = search needs
 
 loop-again : tie.Need-loop-again Inv-loop μ-loop
 loop-again c =
-    let b4 = c .before .before .before .before in (
-      omega arith,
-      c .before .before .put-plan .kept .0 ∙ b4 .before .loop .inv .1,
-      lay-turn (b4 .before .before .before .args .t2) (b4 .before .loop .image) _ _ (b4 .before .loop .phase)
-          (omega arith) (laid-room _ _ _ (c .before .before .put-plan .ensures) (omega arith))
-          (b4 .before .loop .inv .2),
-    )
+    let put = c .before .before .put-plan in
+    let looped = c .before .before .before .before .before in
+    let turn = looped .loop in
+    let room = laid-room _ _ _ (put .ensures) (omega (arith, turn .inv .long)) in
+    record {
+      within = omega arith;
+      long = put .kept .0 ∙ turn .inv .long;
+      left = lay-turn (looped .before .before .args .t2) (turn .image) _ _ (turn .phase) (omega arith) room
+          (turn .inv .left);
+    }
 
 same-length : tie.Need-same-length Inv-loop μ-loop
 same-length c = search needs
 
 returns : tie.Need-returns Inv-loop μ-loop
-returns c = (
-  omega arith,
-  lay-end (c .before .before .before .args .t2) (c .before .loop .image) _ (c .before .loop .phase)
-      (omega arith) (c .before .loop .inv .2),
-)
+returns c =
+    let done = c .before .loop in
+    record {
+      long = omega arith;
+      laid = lay-end (c .before .before .before .args .t2) (done .image) _ (done .phase) (omega arith)
+          (done .inv .left);
+    }
 
 pub put-history-spec : {M : Type 1} → statement M
 put-history-spec =

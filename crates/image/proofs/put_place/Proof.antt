@@ -3,8 +3,6 @@ use native.Mathlib.Omega.{arith}
 use lib.ListN.{length-set}
 use borrow.Author.Needs.{needs}
 use Rattle.wire.proofs.Stores.{laid-room}
-use denote.Ref.{now}
-use Rattle.image.specs.Layout.{ownPlace}
 use Rattle.image.proofs.put_place.Statement.{statement}
 use Rattle.image.proofs.put_place.Tie as tie
 
@@ -15,40 +13,16 @@ put-u32-requires : tie.Need-put-u32-requires
 put-u32-requires c κs = search needs
 
 slice-write-image-2 : tie.Need-slice-write-image-2
-slice-write-image-2 c =
-    let b4 = c .before .before .before .before in
-    omega (
-      arith,
-      c .before .before .put-u32 .kept .0,
-      length-set (now (b4 .before .args .image)) ownPlace
-          (b4 .before .args .node .own),
-    )
+slice-write-image-2 c = omega (arith, simp length-set at (c .before .before .put-u32 .kept .0))
 
 slice-write-image-3 : tie.Need-slice-write-image-3
-slice-write-image-3 c =
-    let b4 = c .before .before .before .before in
-    simp length-set (omega (
-      arith,
-      c .before .before .put-u32 .kept .0,
-      length-set (now
-          (b4 .before .args .image)) ownPlace (b4 .before .args .node .own),
-    ))
+slice-write-image-3 c = simp length-set (omega (arith, simp length-set at (c .before .before .put-u32 .kept .0)))
 
 same-length : tie.Need-same-length
-same-length c =
-    let b4 = c .before .before .before .before in
-    simp length-set (omega (
-      arith,
-      c .before .before .put-u32 .kept .0,
-      length-set (now
-          (b4 .before .args .image)) ownPlace (b4 .before .args .node .own),
-    ))
+same-length c = simp length-set (omega (arith, simp length-set at (c .before .before .put-u32 .kept .0)))
 
 returns : tie.Need-returns
-returns c =
-    let b4 = c .before .before .before .before in
-    let put = c .before .before .put-u32 in
-    simp (laid-room _ _ _ (put .ensures) (simp length-set (omega (arith, b4 .before .pre))))
+returns c = simp (laid-room _ _ _ (c .before .before .put-u32 .ensures) (simp length-set (omega arith)))
 
 pub put-place-spec : {M : Type 1} → statement M
 put-place-spec =

@@ -1,9 +1,9 @@
 -- `put_plans` meets its contract.
+use mathlib.Core.Path.{_∙_}
 use native.Mathlib.Omega.{arith}
 use lib.ListN.{length-set}
 use borrow.Author.Needs.{needs}
 use Rattle.wire.proofs.Stores.{laid-room}
-use Rattle.image.specs.Layout.{stampPlace}
 use Rattle.image.proofs.put_plans.Statement.{statement}
 use Rattle.image.proofs.put_plans.Tie as tie
 
@@ -24,37 +24,26 @@ put-plan-requires-4 c κs = search needs
 
 same-length : tie.Need-same-length
 same-length c =
-    let b4 = c .before .before .before .before in
-    let b8 = b4 .before .before .before .before in
-    let b12 = b8 .before .before .before .before in
-    let b16 = b12 .before .before .before .before in
-    omega (
-      arith,
-      c .before .before .put-plan4 .kept .0,
-      b4 .before .before .put-plan3 .kept .0,
-      b8 .before .before .put-plan2 .kept .0,
-      b12 .before .before .put-plan .kept .0,
-      length-set
-          (b8 .before .before .put-plan2 .last .0) stampPlace (b16 .before .args .node .stamp),
-    )
+    let result = c .before .before in
+    let select = result .before .before .before .before in
+    let base = select .before .before .before .before in
+    let vote = base .before .before .before .before in
+    let stamped = simp length-set at (select .put-plan3 .kept .0) in
+    omega (arith, result .put-plan4 .kept .0, stamped, base .put-plan2 .kept .0, vote .put-plan .kept .0)
 
 returns : tie.Need-returns
 returns c =
-    let b4 = c .before .before .before .before in
-    let b8 = b4 .before .before .before .before in
-    let b12 = b8 .before .before .before .before in
-    let b16 = b12 .before .before .before .before in
-    let pre = b16 .before .pre in
-    let vote = b12 .before .before .put-plan in
-    let base = b8 .before .before .put-plan2 in
-    let select = b4 .before .before .put-plan3 in
-    let result = c .before .before .put-plan4 in
-    let stamped = length-set (base .last .0) stampPlace (b16 .before .args .node .stamp) in
+    let result = c .before .before in
+    let select = result .before .before .before .before in
+    let base = select .before .before .before .before in
+    let vote = base .before .before .before .before in
+    let long = base .put-plan2 .kept .0 ∙ vote .put-plan .kept .0 in
+    let stamped = simp length-set at (select .put-plan3 .kept .0) in
     simp (
-      laid-room _ _ _ (result .ensures) (omega (arith, select .kept .0, stamped, base .kept .0, vote .kept .0, pre)),
-      laid-room _ _ _ (select .ensures) (omega (arith, stamped, base .kept .0, vote .kept .0, pre)),
-      laid-room _ _ _ (base .ensures) (omega (arith, vote .kept .0, pre)),
-      laid-room _ _ _ (vote .ensures) (omega (arith, pre)),
+      laid-room _ _ _ (result .put-plan4 .ensures) (omega (arith, stamped, long)),
+      laid-room _ _ _ (select .put-plan3 .ensures) (simp length-set (omega (arith, long))),
+      laid-room _ _ _ (base .put-plan2 .ensures) (omega (arith, vote .put-plan .kept .0)),
+      laid-room _ _ _ (vote .put-plan .ensures) (omega arith),
     )
 
 pub put-plans-spec : {M : Type 1} → statement M

@@ -17,13 +17,10 @@ same-length c = search needs
 
 returns : tie.Need-returns
 returns c =
-    let b4 = c .before .before .before .before in
-    let b8 = b4 .before .before .before .before in
-    simp (
-      c .before .before .put-plans .ensures,
-      b4 .before .before .put-place .ensures,
-      b8 .before .before .put-crew .ensures,
-    )
+    let plans = c .before .before in
+    let place = plans .before .before .before .before in
+    let crew = place .before .before .before .before in
+    simp (plans .put-plans .ensures, place .put-place .ensures, crew .put-crew .ensures)
 
 pub put-scalars-spec : {M : Type 1} → statement M
 put-scalars-spec =

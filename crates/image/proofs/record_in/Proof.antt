@@ -37,15 +37,22 @@ history-in-requires : tie.Need-history-in-requires
 history-in-requires c κs = search needs
 
 returns : tie.Need-returns
-returns c = rw (
-  c .before .before .before .before .before .before .before .before .before .before .crew-in .ensures,
-  c .before .before .before .before .before .before .before .before .run-in .ensures,
-  c .before .before .before .before .before .plan-at .ensures,
-  c .before .before .before .before .plan-at2 .ensures,
-  c .before .before .plan-at3 .ensures,
-  c .before .plan-at4 .ensures,
-  c .history-in .ensures,
-)
+returns c =
+    let result = c .before in
+    let select = result .before in
+    let base = select .before .before in
+    let vote = base .before in
+    let run = vote .before .before .before in
+    let crew = run .before .before in
+    rw (
+      crew .crew-in .ensures,
+      run .run-in .ensures,
+      vote .plan-at .ensures,
+      base .plan-at2 .ensures,
+      select .plan-at3 .ensures,
+      result .plan-at4 .ensures,
+      c .history-in .ensures,
+    )
 
 pub record-in-spec : {M : Type 1} → statement M
 record-in-spec =

@@ -18,20 +18,19 @@ same-length c = search needs
 
 returns : tie.Need-returns
 returns c =
-    let b4 = c .before .before .before .before in
-    let b8 = b4 .before .before .before .before in (
-      sym (eq-eqb _ _ (b8 .before .if1 .taken)),
-      rw (
-        eq-eqb _ _ (b8 .before .if1 .taken),
-        c .before .before .put-history .ensures .1,
-        b4 .before .before .before .put-scalars .ensures,
-      ) (image-laid
-          (b8 .before .before .before .args .node) (now (b8 .before .before .before .args .image))
-          (b8 .before .if1 .taken) (c .before .before .put-history .ensures .0)),
-    )
+    let history = c .before .before .put-history .ensures in
+    let scalars = c .before .before .before .before .before .before .before in
+    let tested = scalars .before .before in
+    let a = tested .before .before .args in
+    let fits = eq-eqb _ _ (tested .if1 .taken) in
+    record {
+      fits = sym fits;
+      left = rw (fits, history .laid, scalars .put-scalars .ensures)
+          (image-laid (a .node) (now (a .image)) (tested .if1 .taken) (history .long));
+    }
 
 returns-2 : tie.Need-returns-2
-returns-2 c = (rw (ne-eqb _ _ (c .if1 .left)), rw (ne-eqb _ _ (c .if1 .left)))
+returns-2 c = let unfit = ne-eqb _ _ (c .if1 .left) in record { fits = rw unfit; left = rw unfit }
 
 pub store-spec : {M : Type 1} → statement M
 store-spec =

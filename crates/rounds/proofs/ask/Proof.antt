@@ -1,18 +1,19 @@
 -- `ask` meets its contract.
-use mathlib.Core.Path.{_∙_, ap, refl}
+use mathlib.Core.Path.{sym, ap, _∙_, refl}
 use lib.Dec.{eqb}
 use lib.ListN.{length}
 use borrow.Author.Needs.{needs}
-use borrow.Author.Tests.{eqb-true, eq-eqb, ne-eqb, lt-ltb, le-ltb}
+use borrow.Author.Tests.{eqb-true}
 use denote.Ref.{now}
-use Rattle.ballot.specs.Selection.{selection}
-use Rattle.crew.specs.Thresholds.{classOf}
-use Rattle.node.specs.Soundness.{sound}
-use Rattle.rounds.proofs.Sizes.{sound-countable, heard-ballots}
-use Rattle.rounds.specs.Asking.{askOf}
-use Rattle.tally.proofs.Countable.{choice-rule}
 use Rattle.wire.proofs.Tests.{both-true}
 use Rattle.wire.specs.Outcome.{accepted}
+use Rattle.crew.specs.Thresholds.{classOf}
+use Rattle.ballot.specs.Selection.{selection}
+use Rattle.node.specs.Soundness.{sound}
+use Rattle.tally.proofs.Countable.{choice-rule}
+use Rattle.rounds.specs.declared.TakeRefusal.the-variants.{Unsound, Spent, Inbox}
+use Rattle.rounds.proofs.Refusals.{own-fails, spent, other-length, all-pass, ask-tested, ask-refused}
+use Rattle.rounds.proofs.Sizes.{sound-countable, heard-ballots}
 use Rattle.rounds.proofs.ask.Statement.{statement}
 use Rattle.rounds.proofs.ask.Tie as tie
 
@@ -32,58 +33,54 @@ to-asking-requires : tie.Need-to-asking-requires
 to-asking-requires c κs = search needs
 
 returns : tie.Need-returns
-unfolding askOf
 returns c =
-    let b4 = c .before .before .before .before in
-    let b8 = b4 .before .before .before .before in
-    let d = b8 .before .before .args .node in
-    let bytes = now (b8 .before .before .args .inbox) in
-    let tests = rw (b8 .is-sound .ensures) at (b4 .before .before .if1 .taken) in
-    let both = both-true (sound d) (eqb (d .round) 1) tests in
-    let whole = c .before .before .if3 .taken in
-    simp (tests, lt-ltb _ _ (b4 .if2 .taken), eq-eqb _ _ whole) (
-      c .to-asking .ensures
+    let sized = c .before .before in
+    let unspent = sized .before .before in
+    let asked = unspent .before .before in
+    let sounded = asked .before .before in
+    let d = sounded .before .before .args .node in
+    let bytes = now (sounded .before .before .args .inbox) in
+    let own = rw (sounded .is-sound .ensures) at (asked .if1 .taken) in
+    let both = both-true (sound d) (eqb (d .round) 1) own in
+    let whole = sized .if3 .taken in
+    let passes = ask-tested d bytes ∙ all-pass _ _ _ _ own (unspent .if2 .taken) whole in
+    record {
+      answer = c .to-asking .ensures
           ∙ ap accepted
           (c .before .choose .ensures
           ∙ choice-rule (d .crew) (d .run) (d .phase) bytes (sound-countable d (length bytes) (both .0) whole)
-          ∙ ap (selection (classOf (d .crew)) (d .crew)) (heard-ballots d bytes 1 (eqb-true _ _ (both .1)))),
-      refl,
-    )
+          ∙ ap (selection (classOf (d .crew)) (d .crew)) (heard-ballots d bytes 1 (eqb-true _ _ (both .1))))
+          ∙ sym passes;
+      node = refl;
+    }
 
 refuse-ask-requires : tie.Need-refuse-ask-requires
 refuse-ask-requires c κs = search needs
 
 returns-2 : tie.Need-returns-2
-unfolding askOf
 returns-2 c =
-    let b4 = c .before .before .before .before in
-    let tests = rw (b4 .before .before .before .is-sound .ensures) at (b4 .before .if1 .taken) in
-    simp (
-      tests,
-      lt-ltb _ _ (c .before .before .before .if2 .taken),
-      ne-eqb _ _ (c .before .if3 .left),
-      c .refuse-ask .ensures .0,
-      c .refuse-ask .ensures .1,
-    ) (refl, refl)
+    let unspent = c .before .before .before in
+    let asked = unspent .before .before in
+    let own = rw (asked .before .before .is-sound .ensures) at (asked .if1 .taken) in
+    rw (c .refuse-ask .ensures) (ask-refused _ _ Inbox
+    (other-length _ _ _ _ own (unspent .if2 .taken) (c .before .if3 .left)))
 
 refuse-ask-requires-2 : tie.Need-refuse-ask-requires-2
 refuse-ask-requires-2 c κs = search needs
 
 returns-3 : tie.Need-returns-3
-unfolding askOf
 returns-3 c =
-    let b4 = c .before .before .before .before in
-    let tests = rw (b4 .before .is-sound .ensures) at (c .before .before .before .if1 .taken) in
-    simp (tests, le-ltb _ _ (c .before .if2 .left), c .refuse-ask2 .ensures .0, c .refuse-ask2 .ensures .1)
-    (refl, refl)
+    let asked = c .before .before .before in
+    let own = rw (asked .before .before .is-sound .ensures) at (asked .if1 .taken) in
+    rw (c .refuse-ask2 .ensures) (ask-refused _ _ Spent (spent _ _ _ _ own (c .before .if2 .left)))
 
 refuse-ask-requires-3 : tie.Need-refuse-ask-requires-3
 refuse-ask-requires-3 c κs = search needs
 
 returns-4 : tie.Need-returns-4
-unfolding askOf
-returns-4 c = let tests = rw (c .before .before .before .is-sound .ensures) at (c .before .if1 .left) in
-    simp (tests, c .refuse-ask3 .ensures .0, c .refuse-ask3 .ensures .1) (refl, refl)
+returns-4 c =
+    let fails = rw (c .before .before .before .is-sound .ensures) at (c .before .if1 .left) in
+    rw (c .refuse-ask3 .ensures) (ask-refused _ _ Unsound (own-fails _ _ _ _ fails))
 
 pub ask-spec : {M : Type 1} → statement M
 ask-spec =

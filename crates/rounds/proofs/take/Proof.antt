@@ -1,10 +1,11 @@
 -- `take` meets its contract.
-use mathlib.Core.Path.{sym, ap, _∙_, refl}
+use mathlib.Core.Path.{sym, ap, _∙_}
 use borrow.Author.Needs.{needs}
-use borrow.Author.Tests.{eq-eqb, ne-eqb, lt-ltb, le-ltb}
 use denote.Ref.{now}
-use Rattle.rounds.specs.Taking.{takeOf}
+use Rattle.wire.specs.Outcome.{verdict, valueOr}
+use Rattle.rounds.specs.declared.TakeRefusal.the-variants.{Unsound, Spent, Inbox}
 use Rattle.rounds.specs.Steps.{afterPlan}
+use Rattle.rounds.proofs.Refusals.{own-fails, spent, other-length, all-pass, take-tested, take-refused}
 use Rattle.rounds.proofs.Sizes.{after-plan-round}
 use Rattle.rounds.proofs.take.Statement.{statement}
 use Rattle.rounds.proofs.take.Tie as tie
@@ -25,59 +26,49 @@ after-plan-requires : tie.Need-after-plan-requires
 after-plan-requires c κs = search needs
 
 returns : tie.Need-returns
-unfolding takeOf
 returns c =
-    let b4 = c .before .before .before .before in
-    let b7 = b4 .before .before .before in
-    let a = b7 .before .before .args in
-    let ok = sym (b7 .is-sound .ensures) ∙ b4 .before .before .if1 .taken in
-    let whole = c .before .before .if3 .taken in
-    simp (ok, lt-ltb _ _ (b4 .if2 .taken), eq-eqb _ _ whole) (
-      refl,
-      c .after-plan .ensures
+    let sized = c .before .before in
+    let unspent = sized .before .before in
+    let asked = unspent .before .before in
+    let a = asked .before .before .before .args in
+    let ok = sym (asked .before .is-sound .ensures) ∙ asked .if1 .taken in
+    let whole = sized .if3 .taken in
+    let passes = take-tested (a .node) (now (a .inbox)) ∙ all-pass _ _ _ _ ok (unspent .if2 .taken) whole in
+    record {
+      answer = ap verdict (sym passes);
+      node = c .after-plan .ensures
           ∙ ap (afterPlan (a .node)) (c .before .plan-of .ensures)
-          ∙ after-plan-round (a .node) (now (a .inbox)) ok whole,
-    )
+          ∙ after-plan-round (a .node) (now (a .inbox)) ok whole
+          ∙ ap (valueOr (a .node)) (sym passes);
+    }
 
 refuse-take-requires : tie.Need-refuse-take-requires
 refuse-take-requires c κs = search needs
 
 returns-2 : tie.Need-returns-2
-unfolding takeOf
 returns-2 c =
-    let b4 = c .before .before .before .before in
-    simp (
-      sym (b4 .before .before .is-sound .ensures) ∙ b4 .before .if1 .taken,
-      lt-ltb _ _ (c .before .before .before .if2 .taken),
-      ne-eqb _ _ (c .before .if3 .left),
-      c .refuse-take .ensures .0,
-      c .refuse-take .ensures .1,
-    ) (refl, refl)
+    let unspent = c .before .before .before in
+    let asked = unspent .before .before in
+    let ok = sym (asked .before .is-sound .ensures) ∙ asked .if1 .taken in
+    rw (c .refuse-take .ensures) (take-refused _ _ Inbox
+    (other-length _ _ _ _ ok (unspent .if2 .taken) (c .before .if3 .left)))
 
 refuse-take-requires-2 : tie.Need-refuse-take-requires-2
 refuse-take-requires-2 c κs = search needs
 
 returns-3 : tie.Need-returns-3
-unfolding takeOf
 returns-3 c =
-    let b4 = c .before .before .before .before in
-    simp (
-      sym (b4 .is-sound .ensures) ∙ c .before .before .before .if1 .taken,
-      le-ltb _ _ (c .before .if2 .left),
-      c .refuse-take2 .ensures .0,
-      c .refuse-take2 .ensures .1,
-    ) (refl, refl)
+    let asked = c .before .before .before in
+    let ok = sym (asked .before .is-sound .ensures) ∙ asked .if1 .taken in
+    rw (c .refuse-take2 .ensures) (take-refused _ _ Spent (spent _ _ _ _ ok (c .before .if2 .left)))
 
 refuse-take-requires-3 : tie.Need-refuse-take-requires-3
 refuse-take-requires-3 c κs = search needs
 
 returns-4 : tie.Need-returns-4
-unfolding takeOf
-returns-4 c = simp (
-  sym (c .before .before .is-sound .ensures) ∙ c .before .if1 .left,
-  c .refuse-take3 .ensures .0,
-  c .refuse-take3 .ensures .1,
-) (refl, refl)
+returns-4 c =
+    let fails = sym (c .before .before .is-sound .ensures) ∙ c .before .if1 .left in
+    rw (c .refuse-take3 .ensures) (take-refused _ _ Unsound (own-fails _ _ _ _ fails))
 
 pub take-spec : {M : Type 1} → statement M
 take-spec =
