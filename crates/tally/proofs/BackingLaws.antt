@@ -1,8 +1,8 @@
 -- Which votes the marked slots have, told by the least vote and by a count of those with another.
 use mathlib.Core.Path.{_≡_, refl, ap, sym, _∙_}
-use mathlib.Core.Bool.{Bool, true, false, not, cond, _&&_}
+use mathlib.Core.Bool.{Bool, true, false, not, cond, _&&_, false≢true}
 use mathlib.Core.Logic.{_≢_}
-use mathlib.Core.Option.{Option, none, some}
+use mathlib.Core.Option.{Option, none, some, Option·none-ne-some, Option·some-ne-none, Option·some-injective}
 use Prim.Native.Nat.{ℕ, zero, suc, _+_, _<_, min}
 use native.Mathlib.Numerals.{add-one}
 use native.Mathlib.Omega.{arith}
@@ -16,22 +16,13 @@ use Rattle.tally.specs.Marks.{leastMarked, besideIt, besidesMarked, back
 
 -- a vote that adds nothing leaves the votes as they are
 pub settled-joined : (votes : Backing) (v : ℕ) → settled votes v ≡ true → joined votes v ≡ votes
-settled-joined nobody v e = absurd (let z : _≡_ {A = ℕ} 0 1 = cc in omega arith)
+settled-joined nobody v e = absurd (false≢true e)
 settled-joined (sole u) v e = rw e
 settled-joined several v e = refl
 
 pub either-way : (test : Bool) (votes : Backing) → votes ≡ cond test votes votes
 either-way true votes = refl
 either-way false votes = refl
-
-same-vote : {u v : ℕ} → some u ≡ some v → u ≡ v
-same-vote e = cc
-
-not-none : {u : ℕ} → none ≡ some u → ⊥
-not-none e = let z : _≡_ {A = ℕ} 0 1 = cc in omega arith
-
-not-some : {u : ℕ} → some u ≡ none → ⊥
-not-some e = let z : _≡_ {A = ℕ} 0 1 = cc in omega arith
 
 -- The votes of the marked slots, told one slot after the other.
 module _ (test : ℕ → Bool) (vote : ℕ → ℕ) where
@@ -52,14 +43,14 @@ module _ (test : ℕ → Bool) (vote : ℕ → ℕ) where
       go : (here : Bool) (o : Option ℕ) → leastMarked test vote n ≡ o
           → (leastMarked test vote n ≡ none → beside v n ≡ 0)
           → cond here (lower (vote n) o) o ≡ none → bit (here && not (eqb (vote n) v)) + beside v n ≡ 0
-      go true none is earlier e = absurd (not-some e)
-      go true (some u) is earlier e = absurd (not-some e)
+      go true none is earlier e = absurd (Option·some-ne-none _ e)
+      go true (some u) is earlier e = absurd (Option·some-ne-none _ e)
       go false o is earlier e = omega (arith, earlier (is ∙ e))
 
   -- a slot with the least vote has another vote than any other plan
   least-beside : (u w n : ℕ) → leastMarked test vote n ≡ some u → w ≢ u → 0 < beside w n
   unfolding leastMarked tally
-  least-beside u w zero e other = absurd (not-none e)
+  least-beside u w zero e other = absurd (Option·none-ne-some _ e)
   least-beside u w (suc n) e other =
       go (test n) (leastMarked test vote n) refl (λ k. least-beside k w n) e
     where
@@ -69,10 +60,12 @@ module _ (test : ℕ → Bool) (vote : ℕ → ℕ) where
       go : (here : Bool) (o : Option ℕ) → leastMarked test vote n ≡ o
           → ((k : ℕ) → leastMarked test vote n ≡ some k → w ≢ k → 0 < beside w n)
           → cond here (lower (vote n) o) o ≡ some u → 0 < bit (here && not (eqb (vote n) w)) + beside w n
-      go true none is earlier e = differ (λ same. other (sym same ∙ same-vote e))
+      go true none is earlier e = differ (λ same. other (sym same ∙ Option·some-injective _ _ e))
       go true (some k) is earlier e =
           by-equality (vote n) w
-          (λ same. let found = earlier k is (λ z. other (omega (arith, same-vote e, same, z))) in omega (arith, found))
+          (λ same.
+          let found = earlier k is (λ z. other (omega (arith, Option·some-injective _ _ e, same, z))) in
+          omega (arith, found))
           differ
       go false o is earlier e = let found = earlier u (is ∙ e) other in omega (arith, found)
 

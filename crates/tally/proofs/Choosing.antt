@@ -1,17 +1,16 @@
 -- Selection from marks: marks for the backed slots, and how many slots 'any' counts, make selection's answer.
-use mathlib.Core.Path.{_≡_, refl, sym, ap, ap₂, _∙_}
-use mathlib.Core.Bool.{Bool, true, false}
+use mathlib.Core.Path.{_≡_, refl, sym, ap₂, _∙_}
+use mathlib.Core.Bool.{Bool, true, false, false≢true}
 use mathlib.Core.List.{List}
-use Prim.Native.Nat.{ℕ, _<_}
-use native.Mathlib.Omega.{arith}
+use Prim.Native.Nat.{ℕ, _+_, _*_, _<_}
 use lib.Dec.{ltb}
 use Rattle.crew.specs.declared.Crew.{Crew}
-use Rattle.crew.specs.Thresholds.{Class, one, two, three, anyAbove}
+use Rattle.crew.specs.Thresholds.{Class, one, two, three}
 use Rattle.wire.specs.Entry.{Entry}
-use Rattle.ballot.specs.Count.{tally}
 use Rattle.ballot.specs.Selection.{Backing, nobody, sole, several, Choice, backed, enough, answer, selection}
 use Rattle.inbox.specs.Columns.{Columns, polled}
 use Rattle.tally.specs.Marks.{Marks, marked, stampedWith, backingMarked, isBacked}
+use Rattle.tally.specs.Promises.{Counted, Bounded}
 use Rattle.tally.proofs.Tallies.{tally-same}
 use Rattle.tally.proofs.Polling.{voteAt, onSlot, backing-polled, backing-same}
 use Rattle.tally.proofs.Ruling.{counting, unstamped}
@@ -41,26 +40,29 @@ module _ (crew : Crew) (read : Columns) (h : ℕ → List Entry) (n : ℕ) where
       → choice ≡ selection class crew (polled read h n)
   selection-marked class marks = selection-tested class (marked marks)
 
-  pub enough-one : (count : ℕ) → count ≡ tally (marked (read .present)) n
-      → ltb (anyAbove one crew) count ≡ enough one crew (polled read h n)
+  -- whether there are enough slots for 'any', from the counts and the bound that the code goes by
+  pub enough-one : {count e : ℕ} → Counted (marked (read .present)) n count → Bounded crew e
+      → ltb (2 * e) count ≡ enough one crew (polled read h n)
   unfolding enough
-  enough-one count is = ap (ltb (anyAbove one crew)) (is ∙ sym (counting read h n))
+  enough-one counted bounded =
+      ap₂ (λ e count. ltb (2 * e) count) (bounded .bound) (counted .count ∙ sym (counting read h n))
 
-  pub enough-two : (count : ℕ) → count ≡ tally (marked (read .present)) n
-      → ltb (anyAbove two crew) count ≡ enough two crew (polled read h n)
+  pub enough-two : {count e : ℕ} → Counted (marked (read .present)) n count → Bounded crew e
+      → ltb (e + crew .b) count ≡ enough two crew (polled read h n)
   unfolding enough
-  enough-two count is = ap (ltb (anyAbove two crew)) (is ∙ sym (counting read h n))
+  enough-two counted bounded =
+      ap₂ (λ e count. ltb (e + crew .b) count) (bounded .bound) (counted .count ∙ sym (counting read h n))
 
-  pub enough-three : (count : ℕ) (marks : List Bool) → count ≡ tally (marked marks) n
+  pub enough-three : (marks : List Bool) {count e : ℕ} → Counted (marked marks) n count → Bounded crew e
       → Marks marks n (stampedWith (read .present) (read .stamps) 0)
-      → ltb (anyAbove three crew) count ≡ enough three crew (polled read h n)
+      → ltb e count ≡ enough three crew (polled read h n)
   unfolding enough
-  enough-three count marks is are =
-      ap (ltb (anyAbove three crew)) (is ∙ tally-same (marked marks) _ n are ∙ sym (unstamped read h n))
+  enough-three marks counted bounded are =
+      ap₂ ltb (bounded .bound) (counted .count ∙ tally-same (marked marks) _ n are ∙ sym (unstamped read h n))
 
 -- in class 3 the slots without a stamp play no part where a plan is backed
 pub backed-anyway : (votes : Backing) (slots : Bool) → isBacked votes ≡ true
     → answer three votes false ≡ answer three votes slots
-backed-anyway nobody slots e = absurd (let z : _≡_ {A = ℕ} 0 1 = cc in omega arith)
+backed-anyway nobody slots e = absurd (false≢true e)
 backed-anyway (sole u) slots e = refl
 backed-anyway several slots e = refl

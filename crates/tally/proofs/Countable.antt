@@ -1,6 +1,6 @@
 -- What is known of a crew and an inbox that can be counted with, and what the rules then answer.
-use mathlib.Core.Path.{_≡_, ap}
-use mathlib.Core.Bool.{true, _&&_}
+use mathlib.Core.Path.{_≡_, sym, ap, _∙_}
+use mathlib.Core.Bool.{Bool, true, _&&_}
 use mathlib.Core.List.{List}
 use Prim.Native.Nat.{ℕ, _*_, _≤_}
 use lib.Dec.{leb, eqb}
@@ -23,10 +23,12 @@ pub record Countable (crew : Crew) (size : ℕ) : Type 0 where
   pub within : crew .d ≤ crew .n
   pub whole : size ≡ slotSize * crew .n
 
-pub countable-facts : (crew : Crew) (size : ℕ) → countable crew size ≡ true → Countable crew size
-countable-facts crew size e =
+-- the test was passed
+pub countable-facts : {crew : Crew} {size : ℕ} (test : Bool) → test ≡ countable crew size → test ≡ true
+    → Countable crew size
+countable-facts {crew} {size} test is passed =
     let places = leb (crew .n) mostNodes && leb 1 (crew .d) in
-    let all = both-true (places && leb (crew .d) (crew .n)) (eqb size (slotSize * crew .n)) e in
+    let all = both-true (places && leb (crew .d) (crew .n)) (eqb size (slotSize * crew .n)) (sym is ∙ passed) in
     let parts = both-true places (leb (crew .d) (crew .n)) (all .0) in
     let sizes = both-true (leb (crew .n) mostNodes) (leb 1 (crew .d)) (parts .0) in
     record {

@@ -1,37 +1,75 @@
 -- What the loops that mark slots, and those that look for the least vote and the highest count, go by.
-use mathlib.Core.Path.{_≡_, refl, sym, ap, ap₂, _∙_}
-use mathlib.Core.Bool.{Bool, true, false, not, cond, _&&_}
+use mathlib.Core.Path.{_≡_, refl, sym, ap, ap₂, _∙_, subst}
+use mathlib.Core.Bool.{Bool, true, false, not, cond, _&&_, true≢false}
 use mathlib.Core.List.{List}
-use mathlib.Core.Option.{Option, none, some}
-use Prim.Native.Nat.{ℕ, zero, suc, _+_, _<_, max}
+use mathlib.Core.Option.{Option, none, some, Option·none-ne-some}
+use Prim.Native.Nat.{ℕ, zero, suc, _+_, _<_, _≤_, max}
 use native.Mathlib.Numerals.{add-one}
 use native.Mathlib.Omega.{arith}
 use lib.Dec.{ltb, eqb}
-use lib.ListN.{length, getD, set}
-use lib.Seq.{getD-set-same, getD-set-other}
+use lib.ListN.{length, getD, set, length-set}
 use borrow.Author.Tests.{ltb-true, ltb-false, ne-eqb}
+use Rattle.wire.proofs.Arrays.{Filled, filled-none, filled-more}
 use Rattle.wire.proofs.Tests.{by-equality}
+use Rattle.crew.specs.Parts.{mostNodes}
 use Rattle.ballot.specs.Count.{tally}
 use Rattle.ballot.specs.Least.{lower, orZero}
-use Rattle.tally.specs.Marks.{Marks, Counts, marked, supporting, over, above, leastMarked, foundAs, highest}
+use Rattle.tally.specs.Marks.{
+  marked,
+  supporting,
+  belowOf,
+  supporters,
+  over,
+  above,
+  leastMarked,
+  NoneMarked,
+  FirstMarked,
+  FirstOf,
+  foundAs,
+  highest,
+}
+use Rattle.tally.specs.Promises.{Counted}
+use Rattle.tally.specs.declared.First.{First}
+use Rattle.tally.specs.declared.First.the-variants.{Slot, NoSlot}
 
--- one slot more of a column is as it should be
-column-next : {A : Type 0} (column : List A) (q : ℕ) (is : ℕ → A) (here other : A) → q < length column
-    → ((k : ℕ) → k < q → getD column k other ≡ is k) → here ≡ is q → (k : ℕ) → k < q + 1
-    → getD (set column q here) k other ≡ is k
-column-next column q is here other room so-far e k less =
-    by-equality k q
-    (λ same. rw same (getD-set-same column q here other room ∙ e))
-    (λ apart. getD-set-other column q k here other apart ∙ so-far k (omega (arith, apart)))
+-- A loop that fills a column stands before slot q: the column has its places, and the first q slots hold what they
+-- should. `Marks` and `Counts` of specs/Marks say this of marks and counts.
+pub record Filling {A : Type 0} (other : A) (is : ℕ → A) (column : List A) (q : ℕ) : Type 0 where
+  pub inside : q ≤ mostNodes
+  pub long : length column ≡ mostNodes
+  pub so-far : Filled is other column q
 
--- one slot more is marked, or counted
-pub marks-next : (marks : List Bool) (q : ℕ) (test : ℕ → Bool) (mark : Bool) → q < length marks → Marks marks q test
-    → mark ≡ test q → Marks (set marks q mark) (q + 1) test
-marks-next marks q test mark = column-next marks q test mark false
+module _ {A : Type 0} {other : A} {is : ℕ → A} where
+  -- before the first slot, one slot more, and behind the last of n slots
+  pub filling-none : (column : List A) → length column ≡ mostNodes → Filling other is column 0
+  filling-none column long = record { inside = omega arith; long = long; so-far = filled-none is other column }
 
-pub counts-next : (counts : List ℕ) (q : ℕ) (number : ℕ → ℕ) (count : ℕ) → q < length counts
-    → Counts counts q number → count ≡ number q → Counts (set counts q count) (q + 1) number
-counts-next counts q number count = column-next counts q number count 0
+  pub filling-more : {column : List A} {q : ℕ} (a : A) → q < mostNodes → Filling other is column q → a ≡ is q
+      → Filling other is (set column q a) (q + 1)
+  filling-more {column} {q} a less filling e = record {
+    inside = omega arith;
+    long = length-set column q a ∙ filling .long;
+    so-far = filled-more is other column q a (omega (arith, filling .long)) (filling .so-far) e;
+  }
+
+  pub filling-all : {column : List A} {q n : ℕ} → Filling other is column q → n ≤ q → Filled is other column n
+  filling-all filling ended k less = filling .so-far k (omega arith)
+
+-- what the answer of a search for the first marked slot tells
+pub first-slot : (marks : List Bool) (n : ℕ) {first : First} {q : ℕ} → first ≡ Slot q → FirstOf marks n first
+    → FirstMarked marks n q
+first-slot marks n is = subst (FirstOf marks n) is
+
+pub first-none : (marks : List Bool) (n : ℕ) {first : First} → first ≡ NoSlot → FirstOf marks n first
+    → NoneMarked marks n
+first-none marks n is = subst (FirstOf marks n) is
+
+-- what was counted for slot q, with the bound on stamps that its stamp makes
+pub counted-supporters : (marks : List Bool) (votes stamps : List ℕ) (n : ℕ) (stamped : Bool) (q below r : ℕ)
+    → below ≡ belowOf stamped (getD stamps q 0) → Counted (supporting marks votes stamps (getD votes q 0) below) n r
+    → r ≡ supporters marks votes stamps n stamped q
+counted-supporters marks votes stamps n stamped q below r is counted =
+    counted .count ∙ ap (λ b. tally (supporting marks votes stamps (getD votes q 0) b) n) is
 
 -- a slot that is present was counted last, so that its mark goes by its own count
 pub over-next : (present : List Bool) (number : ℕ → ℕ) (threshold q last count : ℕ)
@@ -117,7 +155,7 @@ module _ (marks : List Bool) (votes stamps : List ℕ) (n threshold : ℕ) where
   settled-over v (some w) over = ap some (omega arith)
 
   settled-under : (v : ℕ) (least : Option ℕ) → isOver v ≡ false → Settled v least
-  settled-under v least under over = absurd (let z : _≡_ {A = ℕ} 0 1 = cc in omega arith)
+  settled-under v least under over = absurd (true≢false (sym over ∙ under))
 
   -- where the loop stands before slot q: what it has for the least vote, and which vote it counted last
   pub record Sought (last : ℕ) (least : Option ℕ) (q : ℕ) : Type 0 where
@@ -125,22 +163,20 @@ module _ (marks : List Bool) (votes stamps : List ℕ) (n threshold : ℕ) where
     pub last-settled : Settled last least
 
   -- where no slot is marked yet, none is over
-  pub none-over : (q : ℕ) → none ≡ leastMarked (marked marks) vote q → none ≡ leastOver q
+  none-over-yet : (q : ℕ) → none ≡ leastMarked (marked marks) vote q → none ≡ leastOver q
   unfolding leastMarked
-  none-over zero e = refl
-  none-over (suc q) e = go (marked marks q) refl (none-over q) e
+  none-over-yet zero e = refl
+  none-over-yet (suc q) e =
+      go (marked marks q) refl (leastMarked (marked marks) vote q) (none-over-yet q) e
     where
-      before : Option ℕ
-      before = leastMarked (marked marks) vote q
-
-      no-lower : (v : ℕ) (least : Option ℕ) → none ≡ lower v least → ⊥
-      no-lower v none e = let z : _≡_ {A = ℕ} 0 1 = cc in omega arith
-      no-lower v (some w) e = let z : _≡_ {A = ℕ} 0 1 = cc in omega arith
-
-      go : (here : Bool) → marked marks q ≡ here → (none ≡ before → none ≡ leastOver q)
+      go : (here : Bool) → marked marks q ≡ here → (before : Option ℕ) → (none ≡ before → none ≡ leastOver q)
           → none ≡ cond here (lower (vote q) before) before → none ≡ leastOver (suc q)
-      go true m earlier e = absurd (no-lower (vote q) before e)
-      go false m earlier e = rw m (earlier e)
+      go true m none earlier e = absurd (Option·none-ne-some _ e)
+      go true m (some w) earlier e = absurd (Option·none-ne-some _ e)
+      go false m before earlier e = rw m (earlier e)
+
+  pub none-over : (q : ℕ) → NoneMarked marks q → none ≡ leastOver q
+  none-over q absent = none-over-yet q (absent vote)
 
   -- one slot more that is marked, be its vote over or not
   pub sought-next : (q : ℕ) (least : Option ℕ) → marked marks q ≡ true → (over : Bool) → isOver (vote q) ≡ over
@@ -152,7 +188,7 @@ module _ (marks : List Bool) (votes stamps : List ℕ) (n threshold : ℕ) where
       record { least-so-far = rw (add-one q, here, under) is; last-settled = settled-under (vote q) least under }
 
   -- the first slot that is marked
-  pub sought-first : (q : ℕ) → marked marks q ≡ true → none ≡ leastMarked (marked marks) vote q
+  pub sought-first : (q : ℕ) → marked marks q ≡ true → NoneMarked marks q
       → (over : Bool) → isOver (vote q) ≡ over → Sought (vote q) (foundAs over (vote q)) (q + 1)
   sought-first q here first over is = sought-next q none here over is (none-over q first)
 
@@ -165,9 +201,6 @@ module _ (marks : List Bool) (votes stamps : List ℕ) (n threshold : ℕ) where
     last-settled = sought .last-settled;
   }
     where
-      apart : true ≡ false → ⊥
-      apart e = let z : _≡_ {A = ℕ} 0 1 = cc in omega arith
-
       held : (over : Bool) → isOver last ≡ over → least ≡ cond over (lower last least) least
       held true e = sym (sought .last-settled e)
       held false e = refl
@@ -177,12 +210,12 @@ module _ (marks : List Bool) (votes stamps : List ℕ) (n threshold : ℕ) where
       go false m = refl
       go true m = by-equality (vote q) last
           (λ e. rw e (held (isOver last) refl))
-          (λ differ. absurd (apart (simp (m, ne-eqb _ _ differ) at same)))
+          (λ differ. absurd (true≢false (simp (m, ne-eqb _ _ differ) at same)))
 
   -- the end of the loop
-  pub sought-done : (last : ℕ) (found : Bool) (least q : ℕ) → Sought last (foundAs found least) q → q ≡ n
+  pub sought-done : (last : ℕ) (found : Bool) (least : ℕ) → Sought last (foundAs found least) n
       → cond found least 0 ≡ orZero (leastOver n)
-  sought-done last found least q sought e = go found ∙ ap orZero (sought .least-so-far ∙ ap leastOver e)
+  sought-done last found least sought = go found ∙ ap orZero (sought .least-so-far)
     where
       go : (b : Bool) → cond b least 0 ≡ orZero (foundAs b least)
       go true = refl

@@ -43,6 +43,7 @@ use Rattle.tally.specs.Marks.{
   leastMarked,
   highest,
 }
+use Rattle.tally.specs.Promises.{Bounded}
 use Rattle.tally.proofs.Polling.{
   voteAt,
   onSlot,
@@ -205,23 +206,36 @@ module _ (read : Columns) (h : ℕ → List Entry) (n : ℕ) where
 
   -- the rules of a crew
   module _ (crew : Crew) where
-    pub possible-slot : (q : ℕ) → onSlot read h (possible crew ballots) q
+    possible-slot : (q : ℕ) → onSlot read h (possible crew ballots) q
         ≡ above (read .present) (read .present) (read .votes) (read .stamps) n (E crew) true q
     unfolding possible
     possible-slot q =
         on-slot read h (possible crew ballots) q
         ∙ ap (λ k. here q (ltb (E crew) k)) (supports-polled read h n (voteAt read h q) (getD (read .stamps) q 0))
 
-    pub backed-one-slot : (q : ℕ) → onSlot read h (backed one crew ballots) q
+    backed-one-slot : (q : ℕ) → onSlot read h (backed one crew ballots) q
         ≡ above (read .present) (read .present) (read .votes) (read .stamps) n (E crew) false q
     unfolding backed
     backed-one-slot q =
         on-slot read h (backed one crew ballots) q
         ∙ ap (λ k. here q (ltb (E crew) k)) (votes-polled read h n (voteAt read h q))
 
+    -- marks above the bound E single out the possible slots, and in class 1 the backed ones
+    pub possible-marks : (marks : List Bool) {e : ℕ} → Bounded crew e
+        → Marks marks n (above (read .present) (read .present) (read .votes) (read .stamps) n e true)
+        → Marks marks n (onSlot read h (possible crew ballots))
+    possible-marks marks bounded are q less =
+        rw (bounded .bound) at (are q less) ∙ sym (possible-slot q)
+
+    pub backed-one-marks : (marks : List Bool) {e : ℕ} → Bounded crew e
+        → Marks marks n (above (read .present) (read .present) (read .votes) (read .stamps) n e false)
+        → Marks marks n (onSlot read h (backed one crew ballots))
+    backed-one-marks marks bounded are q less =
+        rw (bounded .bound) at (are q less) ∙ sym (backed-one-slot q)
+
     -- with marks for the possible slots
     module _ (marks : List Bool) (are : Marks marks n (onSlot read h (possible crew ballots))) where
-      pub backed-two-slot : (q : ℕ) → onSlot read h (backed two crew ballots) q
+      backed-two-slot : (q : ℕ) → onSlot read h (backed two crew ballots) q
           ≡ above (read .present) marks (read .votes) (read .stamps) n (crew .b) false q
       unfolding backed
       backed-two-slot q =
@@ -229,19 +243,24 @@ module _ (read : Columns) (h : ℕ → List Entry) (n : ℕ) where
           ∙ ap (λ k. here q (ltb (crew .b) k))
           (marked-polled read h n (voteAt read h q) (possible crew ballots) marks are)
 
-      pub backed-three-slot : (bytes : List ℕ)
+      pub backed-two-marks : (backs : List Bool)
+          → Marks backs n (above (read .present) marks (read .votes) (read .stamps) n (crew .b) false)
+          → Marks backs n (onSlot read h (backed two crew ballots))
+      backed-two-marks backs above-b q less = above-b q less ∙ sym (backed-two-slot q)
+
+      pub backed-three-slots : (bytes : List ℕ)
           → ((v t k : ℕ) → k < n → here k (lists v t (rowOf read h k)) ≡ isLister (read .present) bytes v t k)
           → (q : ℕ) → q < n
-          → onSlot read h (backed three crew ballots) q
-          ≡ hasListersAbove marks (read .present) (read .votes) (read .stamps) bytes n (crew .b) q
+          → hasListersAbove marks (read .present) (read .votes) (read .stamps) bytes n (crew .b) q
+          ≡ onSlot read h (backed three crew ballots) q
       unfolding backed
-      backed-three-slot bytes listed q less =
+      backed-three-slots bytes listed q less =
           let v = voteAt read h q in
           let t = getD (read .stamps) q 0 in
           let listers = count-polled read h n (lists v t) (isLister (read .present) bytes v t) (listed v t) in
-          on-slot read h (backed three crew ballots) q
-          ∙ sym (and-assoc (marked (read .present) q) (possible crew ballots (rowOf read h q)) _)
-          ∙ ap₂ (λ a k. a && ltb (crew .b) k) (sym (are q less ∙ on-slot read h (possible crew ballots) q)) listers
+          ap₂ (λ a k. a && ltb (crew .b) k) (are q less ∙ on-slot read h (possible crew ballots) q) (sym listers)
+          ∙ and-assoc (marked (read .present) q) (possible crew ballots (rowOf read h q)) _
+          ∙ sym (on-slot read h (backed three crew ballots) q)
 
     pub valid-slot : (q : ℕ) → onSlot read h (λ m. valid crew ballots (m .vote)) q
         ≡ above (read .present) (read .present) (read .votes) (read .stamps) n (validAbove crew / 2) false q

@@ -1,15 +1,30 @@
--- What the loops that count slots go by.
-use mathlib.Core.Path.{_≡_, ap₂, refl}
+-- What the loops over slots go by, and among them those that count slots.
+use mathlib.Core.Path.{_≡_, ap₂, refl, subst}
 use mathlib.Core.Bool.{Bool}
-use Prim.Native.Nat.{ℕ, zero, suc, _+_, _<_}
+use Prim.Native.Nat.{ℕ, zero, suc, _+_, _<_, _≤_}
 use native.Mathlib.Numerals.{add-one}
 use native.Mathlib.Omega.{arith}
 use Rattle.ballot.specs.Count.{bit, tally}
+use Rattle.tally.specs.Promises.{OneIf, Counted}
 
--- one slot more
-pub tally-next : (test : ℕ → Bool) (q : ℕ) → tally test (q + 1) ≡ bit (test q) + tally test q
+-- A loop over n slots stands before slot q: what it says of the first q slots holds.
+pub record Through (n : ℕ) (Said : ℕ → Type 0) (q : ℕ) : Type 0 where
+  pub within : q ≤ n
+  pub so-far : Said q
+
+-- a loop that has ended has gone through all slots
+pub through-all : {n q : ℕ} {Said : ℕ → Type 0} → Through n Said q → n ≤ q → Said n
+through-all {Said = Said} at ended = subst Said (omega arith) (at .so-far)
+
+-- no slot is counted before the first one, and then one slot more
+pub counted-none : {test : ℕ → Bool} → Counted test 0 0
 unfolding tally
-tally-next test q = rw (add-one q)
+counted-none = record { count = refl; at-most-all = omega arith }
+
+pub counted-more : {test : ℕ → Bool} {q count one : ℕ} → Counted test q count → OneIf (test q) one
+    → Counted test (q + 1) (count + one)
+unfolding tally
+counted-more {q = q} counted here = record { count = rw (add-one q) (omega arith); at-most-all = omega arith }
 
 -- tests that agree below n count alike
 pub tally-same : (a b : ℕ → Bool) (n : ℕ) → ((q : ℕ) → q < n → a q ≡ b q) → tally a n ≡ tally b n

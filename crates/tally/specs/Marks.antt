@@ -111,11 +111,20 @@ unfoldable pub highest : (ℕ → Bool) → (ℕ → ℕ) → ℕ → ℕ
 highest test number zero = 0
 highest test number (suc n) = cond (test n) (max (number n) (highest test number n)) (highest test number n)
 
--- a first marked slot, or that there is none: no slot before it is marked, so that none has a least vote
+-- no slot below n is marked, so that none has a least vote
+abbrev pub NoneMarked : List Bool → ℕ → Type 0
+NoneMarked marks n = (vote : ℕ → ℕ) → none ≡ leastMarked (marked marks) vote n
+
+-- slot q is the first that is marked
+pub record FirstMarked (marks : List Bool) (n q : ℕ) : Type 0 where
+  pub inside : q < n
+  pub here : marked marks q ≡ true
+  pub none-before : NoneMarked marks q
+
+-- a first marked slot, or that there is none
 abbrev pub FirstOf : List Bool → ℕ → First → Type 0
-FirstOf marks n (Slot q) =
-    (q < n) × (marked marks q ≡ true) × ((vote : ℕ → ℕ) → none ≡ leastMarked (marked marks) vote q)
-FirstOf marks n NoSlot = (vote : ℕ → ℕ) → none ≡ leastMarked (marked marks) vote n
+FirstOf marks n (Slot q) = FirstMarked marks n q
+FirstOf marks n NoSlot = NoneMarked marks n
 
 -- what the code's answer stands for in crate ballot
 abbrev pub backingAs : DeclaredBacking → Backing

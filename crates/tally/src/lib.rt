@@ -15,13 +15,13 @@ ghost use lib.Dec.{ltb};
 ghost use Prim.Native.Nat.{ℕ, _+_, _-_, _<_, _≤_};
 ghost use lib.ListN.{length, getD};
 ghost use Rattle.wire.specs.Entry.{Entry};
-ghost use Rattle.ballot.specs.Count.{bit, tally};
+ghost use Rattle.ballot.specs.Count.{tally};
 ghost use Rattle.ballot.specs.Least.{lower, orZero};
 ghost use Rattle.ballot.specs.Selection.{anyIf, answer, selection, mostVoted, anyPlan, takenOn};
 ghost use Rattle.ballot.specs.Validation.{validated};
 ghost use Rattle.ballot.specs.Decision.{decision};
 ghost use Rattle.crew.specs.Parts.{mostNodes};
-ghost use Rattle.crew.specs.Thresholds.{one, two, three, classOf, E};
+ghost use Rattle.crew.specs.Thresholds.{one, two, three, classOf};
 ghost use Rattle.inbox.specs.Columns.{columns, slotsIn, historiesIn, polled, slotHasEntry};
 ghost use Rattle.tally.specs.Marks.{
   Marks,
@@ -47,10 +47,11 @@ ghost use Rattle.tally.specs.Marks.{
   isBacked,
   highest,
 };
+ghost use Rattle.tally.specs.Promises.{OneIf, Counted, Bounded, AnsweredAlike};
 ghost use Rattle.tally.specs.Rules.{countable, choiceAs, choiceOf, selected, validIn, decidedIn};
 
 fn one_if(test: bool) -> u16
-    ensures { λ r. ⌜ (r ≡ bit test) × (r ≤ 1) ⌝ }
+    ensures { λ r. ⌜ OneIf test r ⌝ }
 {
     if test { 1 } else { 0 }
 }
@@ -65,9 +66,8 @@ fn count_supporting(
     below: u8,
 ) -> u16
     requires { ⌜ n ≤ mostNodes ⌝ }
-    ensures { λ r. ⌜ (r ≡ tally
-        (supporting (now (marks .entry)) (now (votes .entry)) (now (stamps .entry)) vote below) n)
-        × (r ≤ n) ⌝ }
+    ensures { λ r. ⌜ Counted
+        (supporting (now (marks .entry)) (now (votes .entry)) (now (stamps .entry)) vote below) n r ⌝ }
 {
     let mut count: u16 = 0;
     let mut q = 0;
@@ -81,7 +81,7 @@ fn count_supporting(
 // How many slots are marked.
 fn count_marks(marks: &[bool; MOST_NODES], n: usize) -> u16
     requires { ⌜ n ≤ mostNodes ⌝ }
-    ensures { λ r. ⌜ (r ≡ tally (marked (now (marks .entry))) n) × (r ≤ n) ⌝ }
+    ensures { λ r. ⌜ Counted (marked (now (marks .entry))) n r ⌝ }
 {
     let mut count: u16 = 0;
     let mut q = 0;
@@ -106,7 +106,7 @@ fn is_listing(present: bool, inbox: &[u8], q: usize, plan: Plan, phase: u8) -> b
 // How many slots list the plan at a phase.
 fn count_listing(present: &[bool; MOST_NODES], inbox: &[u8], n: usize, plan: Plan, phase: u8) -> u16
     requires { ⌜ n ≤ mostNodes ⌝ }
-    ensures { λ r. ⌜ (r ≡ tally (isLister (now (present .entry)) (now (inbox .entry)) plan phase) n) × (r ≤ n) ⌝ }
+    ensures { λ r. ⌜ Counted (isLister (now (present .entry)) (now (inbox .entry)) plan phase) n r ⌝ }
 {
     let mut count: u16 = 0;
     let mut q = 0;
@@ -357,8 +357,8 @@ fn least_marked(marks: &[bool; MOST_NODES], votes: &[Plan; MOST_NODES], n: usize
 // How many marked slots have another vote.
 fn count_others(marks: &[bool; MOST_NODES], votes: &[Plan; MOST_NODES], n: usize, vote: Plan) -> u16
     requires { ⌜ n ≤ mostNodes ⌝ }
-    ensures { λ r. ⌜ (r ≡ tally (besideIt (marked (now (marks .entry))) (λ q. getD (now (votes .entry)) q 0) vote) n)
-        × (r ≤ n) ⌝ }
+    ensures { λ r. ⌜ Counted
+        (besideIt (marked (now (marks .entry))) (λ q. getD (now (votes .entry)) q 0) vote) n r ⌝ }
 {
     let mut count: u16 = 0;
     let mut q = 0;
@@ -528,8 +528,7 @@ fn any_if(enough: bool) -> Choice
 
 // 01, classes 1 and 2: "Exactly one: that plan. Otherwise 'any' if .., else 'none'."
 fn answer_below_three(backing: Backing, enough: bool) -> Choice
-    ensures { λ r. ⌜ (choiceAs r ≡ answer one (backingAs backing) enough)
-        × (choiceAs r ≡ answer two (backingAs backing) enough) ⌝ }
+    ensures { λ r. ⌜ AnsweredAlike (backingAs backing) enough (choiceAs r) ⌝ }
 {
     match backing {
         Backing::Sole(plan) => Choice::Plan(plan),
@@ -562,7 +561,7 @@ fn is_countable(crew: Crew, size: usize) -> bool
 // 01's E = n − D + b: the sum of two bytes, so that twice E and E + b have room in 16 bits.
 fn bound(crew: Crew) -> u16
     requires { ⌜ crew .d ≤ crew .n ⌝ }
-    ensures { λ r. ⌜ (r ≡ E crew) × (r ≤ 255 + 255) ⌝ }
+    ensures { λ r. ⌜ Bounded crew r ⌝ }
 {
     (crew.n - crew.d) as u16 + crew.b as u16
 }

@@ -19,7 +19,9 @@ any-if-requires-2 : tie.Need-any-if-requires-2
 any-if-requires-2 c κs = search needs
 
 returns : tie.Need-returns
-returns c = (simp (c .before .backing .given .1), simp (c .before .backing .given .1))
+returns c =
+    let told = c .before .backing .given .1 in
+    record { in-one = simp told; in-two = simp told }
 
 returns-2 : tie.Need-returns-2
 returns-2 c = search needs

@@ -1,27 +1,30 @@
 -- `backing_listed` meets its contract. The invariant: the votes are those of the first q slots.
-use mathlib.Core.Path.{_≡_, refl, sym, ap, _∙_}
-use Prim.Native.Nat.{ℕ, _≤_, _-_}
+use mathlib.Core.Path.{_≡_, refl, sym, _∙_}
+use Prim.Native.Nat.{_-_}
 use native.Mathlib.Omega.{arith}
 use lib.ListN.{getD}
 use borrow.Author.Needs.{needs}
 use denote.Ref.{now}
 use Rattle.tally.proofs.BackingLaws.{backing-next}
+use Rattle.tally.proofs.Tallies.{Through, through-all}
 use Rattle.tally.specs.Marks.{hasListersAbove, leastMarked, backingMarked, backingAs}
 use Rattle.tally.proofs.backing_listed.Statement.{statement}
 use Rattle.tally.proofs.backing_listed.Tie as tie
 
 abbrev Inv-loop : tie.InvT-loop
 Inv-loop marks present votes stamps inbox n threshold backing₀ q₀ backing q =
-    (q ≤ n)
-    × (backingAs backing
-    ≡ backingMarked (hasListersAbove marks present votes stamps inbox n threshold) (λ k. getD votes k 0) q)
+    Through n
+    (λ k.
+    backingAs backing
+    ≡ backingMarked (hasListersAbove marks present votes stamps inbox n threshold) (λ j. getD votes j 0) k)
+    q
 
 abbrev μ-loop : tie.MeasureT-loop
 μ-loop marks present votes stamps inbox n threshold backing₀ q₀ backing q = n - q
 
 loop-holds : tie.Need-loop-holds Inv-loop μ-loop
 unfolding leastMarked
-loop-holds c = (omega arith, refl)
+loop-holds c = record { within = omega arith; so-far = refl }
 
 element-copy-out-with-listed : tie.Need-element-copy-out-with-listed Inv-loop μ-loop
 element-copy-out-with-listed c = search needs
@@ -46,24 +49,17 @@ loop-less c = search needs
 
 loop-again : tie.Need-loop-again Inv-loop μ-loop
 loop-again c =
-    let b4 = c .before .before .before .before in
-    let a = b4 .before .before .before .args in
-    let l = b4 .before .loop in
+    let looped = c .before .before .before .before .before .loop in
+    let a = c .before .before .before .before .before .before .before .args in
     let test =
     hasListersAbove (now (a .marks)) (now (a .present)) (now (a .votes)) (now (a .stamps)) (now (a .inbox)) (a .n)
     (a .threshold) in
-    let vote : ℕ → ℕ = λ k. getD (now (a .votes)) k 0 in
-    (omega arith, (rw (l .inv .1) at (c .with-listed .ensures)) ∙ sym (backing-next test vote (l .q)))
+    let joined = rw (looped .inv .so-far) at (c .with-listed .ensures) in
+    let next = backing-next test (λ k. getD (now (a .votes)) k 0) (looped .q) in
+    record { within = omega arith; so-far = joined ∙ sym next }
 
 returns : tie.Need-returns Inv-loop μ-loop
-returns c =
-    let l = c .before .loop in
-    let a = c .before .before .before .args in
-    let done : l .q ≡ a .n = omega (arith, l .inv .0, c .loop-test .left) in
-    let test =
-    hasListersAbove (now (a .marks)) (now (a .present)) (now (a .votes)) (now (a .stamps)) (now (a .inbox)) (a .n)
-    (a .threshold) in
-    l .inv .1 ∙ ap (backingMarked test (λ k. getD (now (a .votes)) k 0)) done
+returns c = through-all (c .before .loop .inv) (c .loop-test .left)
 
 pub backing-listed-spec : {M : Type 1} → statement M
 backing-listed-spec =

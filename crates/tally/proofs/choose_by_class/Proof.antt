@@ -15,16 +15,16 @@ choose-two-requires c κs = search needs
 
 returns-2 : tie.Need-returns-2
 returns-2 c =
-    let b3 = c .before .before .before in
-    rw (ne-eqb _ _ (b3 .if1 .left), eq-eqb _ _ (c .before .if2 .taken)) (c .choose-two .ensures _)
+    let not-one = c .before .before .before .if1 .left in
+    rw (ne-eqb _ _ not-one, eq-eqb _ _ (c .before .if2 .taken)) (c .choose-two .ensures _)
 
 choose-three-requires : tie.Need-choose-three-requires
 choose-three-requires c κs = search needs
 
 returns-3 : tie.Need-returns-3
 returns-3 c =
-    let b3 = c .before .before .before in
-    rw (ne-eqb _ _ (b3 .if1 .left), ne-eqb _ _ (c .before .if2 .left)) (c .choose-three .ensures)
+    let not-one = c .before .before .before .if1 .left in
+    rw (ne-eqb _ _ not-one, ne-eqb _ _ (c .before .if2 .left)) (c .choose-three .ensures)
 
 pub choose-by-class-spec : {M : Type 1} → statement M
 choose-by-class-spec =

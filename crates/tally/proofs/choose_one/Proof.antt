@@ -1,13 +1,10 @@
 -- `choose_one` meets its contract.
-use mathlib.Core.Bool.{false}
-use mathlib.Core.Path.{sym, ap, _∙_}
 use borrow.Author.Needs.{needs}
 use denote.Ref.{now}
 use Rattle.crew.specs.Thresholds.{one}
-use Rattle.tally.proofs.Choosing.{selection-marked, enough-one}
-use Rattle.tally.proofs.Ruling.{backed-one-slot}
 use Rattle.inbox.specs.Columns.{columns}
-use Rattle.tally.specs.Marks.{above}
+use Rattle.tally.proofs.Choosing.{selection-marked, enough-one}
+use Rattle.tally.proofs.Ruling.{backed-one-marks}
 use Rattle.tally.proofs.choose_one.Statement.{statement}
 use Rattle.tally.proofs.choose_one.Tie as tie
 
@@ -35,20 +32,16 @@ answer-below-three-requires c κs = search needs
 returns : tie.Need-returns
 returns c =
     λ h.
-    let b3 = c .before .before .before in
-    let b6 = b3 .before .before .before in
-    let a = b6 .before .before .args in
-    let crew = a .crew in
+    let backs = c .before .before .before .mark-above in
+    let arrivals = c .before .before .before .before .before .count-marks in
+    let bounded = c .before .before .before .before .before .before .bound in
+    let a = c .before .before .before .before .before .before .before .before .args in
+    let n = a .crew .n in
     let read = columns (now (a .present)) (now (a .votes)) (now (a .stamps)) in
-    let count = b3 .before .before .count-marks in
-    let slots = rw (← b6 .bound .ensures .0)
-    at (enough-one crew read h (crew .n) (count .result) (count .ensures .0)) in
-    selection-marked crew read h (crew .n) one (b3 .mark-above .last .0) _ _ _
-    (λ q less. b3 .mark-above .ensures q less
-    ∙ ap (λ e. above (read .present) (read .present) (read .votes) (read .stamps) (crew .n) e false q)
-    (b6 .bound .ensures .0)
-    ∙ sym (backed-one-slot read h (crew .n) crew q))
-    (c .answer-below-three .ensures .0) (c .before .backing-of .ensures) slots
+    selection-marked (a .crew) read h n one (backs .last .0) _ _ _
+    (backed-one-marks read h n (a .crew) (backs .last .0) (bounded .ensures) (backs .ensures))
+    (c .answer-below-three .ensures .in-one) (c .before .backing-of .ensures)
+    (enough-one (a .crew) read h n (arrivals .ensures) (bounded .ensures))
 
 pub choose-one-spec : {M : Type 1} → statement M
 choose-one-spec =

@@ -1,12 +1,13 @@
 -- `choose_three` meets its contract.
-use mathlib.Core.Path.{refl, sym, _∙_}
+use mathlib.Core.Path.{_≡_, refl, sym, _∙_}
+use mathlib.Core.Bool.{Bool}
 use denote.Ref.{now}
 use Rattle.crew.specs.Thresholds.{three}
-use Rattle.ballot.specs.Selection.{enough}
-use Rattle.inbox.specs.Columns.{columns, historiesIn, polled}
+use Rattle.ballot.specs.Selection.{Choice, enough, answer, selection}
+use Rattle.inbox.specs.Columns.{Columns, columns, historiesIn, polled}
 use Rattle.tally.proofs.Choosing.{selection-tested, enough-three, backed-anyway}
 use Rattle.tally.proofs.Listing.{listing-rows}
-use Rattle.tally.proofs.Ruling.{possible-slot, backed-three-slot}
+use Rattle.tally.proofs.Ruling.{possible-marks, backed-three-slots}
 use Rattle.tally.specs.Marks.{hasListersAbove, backingAs}
 use borrow.Author.Needs.{needs}
 use Rattle.tally.proofs.choose_three.Statement.{statement}
@@ -33,27 +34,41 @@ is-backed-requires c κs = search needs
 answer-three-requires : tie.Need-answer-three-requires
 answer-three-requires c κs = search needs
 
+-- where the function starts, and the columns that it is given
+abbrev startOf : tie.After-backing-listed → tie.Start
+startOf c = c .before .before .before .before .before .before .before .before
+
+abbrev readOf : tie.Start → Columns
+readOf c = columns (now (c .args .present)) (now (c .args .votes)) (now (c .args .stamps))
+
+-- once the backed slots are told, selection's answer goes by how many slots have no stamp
+answered : (c : tie.After-backing-listed) (slots : Bool) (choice : Choice)
+    → let a = startOf c .args in
+    let ballots = polled (readOf (startOf c)) (historiesIn (now (a .inbox))) (a .crew .n) in
+    choice ≡ answer three (backingAs (c .backing-listed .result)) slots
+    → slots ≡ enough three (a .crew) ballots → choice ≡ selection three (a .crew) ballots
+answered c slots choice is is-enough =
+    let marks = c .before .before .mark-above in
+    let bounded = c .before .before .before .before .bound in
+    let start = startOf c in
+    let crew = start .args .crew in
+    let bytes = now (start .args .inbox) in
+    let read = readOf start in
+    let h = historiesIn bytes in
+    let possible = marks .last .0 in
+    let are = possible-marks read h (crew .n) crew possible (bounded .ensures) (marks .ensures) in
+    let rows = listing-rows read bytes (crew .n) (start .pre .2) (start .pre .3) in
+    selection-tested crew read h (crew .n) three
+    (hasListersAbove possible (read .present) (read .votes) (read .stamps) bytes (crew .n) (crew .b)) _ slots choice
+    (backed-three-slots read h (crew .n) crew possible are bytes rows)
+    is (c .backing-listed .ensures) is-enough
+
 returns : tie.Need-returns
 returns c =
     let listed = c .before .before .before in
-    let bounded = listed .before .before .before .before in
-    let start = bounded .before .before .before .before in
-    let a = start .args in
-    let crew = a .crew in
-    let bytes = now (a .inbox) in
-    let read = columns (now (a .present)) (now (a .votes)) (now (a .stamps)) in
-    let h = historiesIn bytes in
-    let possible = listed .before .before .mark-above .last .0 in
-    let above = rw (bounded .bound .ensures .0) at (listed .before .before .mark-above .ensures) in
-    let slots = enough three crew (polled read h (crew .n)) in
     let some = sym (c .before .before .is-backed .ensures) ∙ c .before .if1 .taken in
-    selection-tested crew read h (crew .n) three
-    (hasListersAbove possible (read .present) (read .votes) (read .stamps) bytes (crew .n) (crew .b)) _ _ _
-    (λ q less. sym (backed-three-slot read h (crew .n) crew possible
-    (λ k inside. above k inside ∙ sym (possible-slot read h (crew .n) crew k)) bytes
-    (listing-rows read bytes (crew .n) (start .pre .2) (start .pre .3)) q less))
-    (c .answer-three .ensures ∙ backed-anyway (backingAs (listed .backing-listed .result)) slots some)
-    (listed .backing-listed .ensures) refl
+    answered listed _ _ (c .answer-three .ensures ∙ backed-anyway (backingAs (listed .backing-listed .result)) _ some)
+    refl
 
 mark-stamped-requires : tie.Need-mark-stamped-requires
 mark-stamped-requires c κs = search needs
@@ -66,27 +81,14 @@ answer-three-requires-2 c κs = search needs
 
 returns-2 : tie.Need-returns-2
 returns-2 c =
+    let unstamped = c .before .before .before .mark-stamped in
     let listed = c .before .before .before .before .before .before .before in
-    let bounded = listed .before .before .before .before in
-    let start = bounded .before .before .before .before in
-    let a = start .args in
-    let crew = a .crew in
-    let bytes = now (a .inbox) in
-    let read = columns (now (a .present)) (now (a .votes)) (now (a .stamps)) in
-    let h = historiesIn bytes in
-    let possible = listed .before .before .mark-above .last .0 in
-    let above = rw (bounded .bound .ensures .0) at (listed .before .before .mark-above .ensures) in
-    let marks = c .before .before .before .mark-stamped in
-    let slots =
-    rw (← bounded .bound .ensures .0) at
-    (enough-three crew read h (crew .n) (c .before .count-marks .result) (marks .last .0)
-    (c .before .count-marks .ensures .0) (marks .ensures)) in
-    selection-tested crew read h (crew .n) three
-    (hasListersAbove possible (read .present) (read .votes) (read .stamps) bytes (crew .n) (crew .b)) _ _ _
-    (λ q less. sym (backed-three-slot read h (crew .n) crew possible
-    (λ k inside. above k inside ∙ sym (possible-slot read h (crew .n) crew k)) bytes
-    (listing-rows read bytes (crew .n) (start .pre .2) (start .pre .3)) q less))
-    (c .answer-three2 .ensures) (listed .backing-listed .ensures) slots
+    let bounded = listed .before .before .before .before .bound in
+    let start = startOf listed in
+    let crew = start .args .crew in
+    let slots = enough-three crew (readOf start) (historiesIn (now (start .args .inbox))) (crew .n)
+    (unstamped .last .0) (c .before .count-marks .ensures) (bounded .ensures) (unstamped .ensures) in
+    answered listed _ _ (c .answer-three2 .ensures) slots
 
 pub choose-three-spec : {M : Type 1} → statement M
 choose-three-spec =

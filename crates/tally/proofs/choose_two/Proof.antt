@@ -1,11 +1,10 @@
 -- `choose_two` meets its contract.
-use mathlib.Core.Path.{sym, _∙_}
 use borrow.Author.Needs.{needs}
 use denote.Ref.{now}
 use Rattle.crew.specs.Thresholds.{two}
-use Rattle.tally.proofs.Choosing.{selection-marked, enough-two}
-use Rattle.tally.proofs.Ruling.{possible-slot, backed-two-slot}
 use Rattle.inbox.specs.Columns.{columns}
+use Rattle.tally.proofs.Choosing.{selection-marked, enough-two}
+use Rattle.tally.proofs.Ruling.{possible-marks, backed-two-marks}
 use Rattle.tally.proofs.choose_two.Statement.{statement}
 use Rattle.tally.proofs.choose_two.Tie as tie
 
@@ -39,21 +38,18 @@ answer-below-three-requires c κs = search needs
 returns : tie.Need-returns
 returns c =
     λ h.
-    let b3 = c .before .before .before in
-    let b6 = b3 .before .before .before in
-    let b9 = b6 .before .before .before in
-    let a = b9 .before .before .before .args in
-    let crew = a .crew in
+    let backs = c .before .before .before .mark-above2 in
+    let possible = c .before .before .before .before .before .before .mark-above in
+    let arrivals = c .before .before .before .before .before .before .before .before .count-marks in
+    let bounded = c .before .before .before .before .before .before .before .before .before .bound in
+    let a = c .before .before .before .before .before .before .before .before .before .before .before .before .args in
+    let n = a .crew .n in
     let read = columns (now (a .present)) (now (a .votes)) (now (a .stamps)) in
-    let above = rw (b9 .bound .ensures .0) at (b6 .mark-above .ensures) in
-    let count = b6 .before .before .count-marks in
-    let slots = rw (← b9 .bound .ensures .0)
-    at (enough-two crew read h (crew .n) (count .result) (count .ensures .0)) in
-    selection-marked crew read h (crew .n) two (b3 .mark-above2 .last .0) _ _ _
-    (λ q less. b3 .mark-above2 .ensures q less
-    ∙ sym (backed-two-slot read h (crew .n) crew (b6 .mark-above .last .0)
-    (λ k inside. above k inside ∙ sym (possible-slot read h (crew .n) crew k)) q))
-    (c .answer-below-three .ensures .1) (c .before .backing-of .ensures) slots
+    let are = possible-marks read h n (a .crew) (possible .last .0) (bounded .ensures) (possible .ensures) in
+    selection-marked (a .crew) read h n two (backs .last .0) _ _ _
+    (backed-two-marks read h n (a .crew) (possible .last .0) are (backs .last .0) (backs .ensures))
+    (c .answer-below-three .ensures .in-two) (c .before .backing-of .ensures)
+    (enough-two (a .crew) read h n (arrivals .ensures) (bounded .ensures))
 
 pub choose-two-spec : {M : Type 1} → statement M
 choose-two-spec =

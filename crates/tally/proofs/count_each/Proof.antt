@@ -1,25 +1,24 @@
--- `count_each` meets its contract. The invariant: the first q slots are counted, slot 0 at least, and `count` is that
--- of the last of them.
+-- `count_each` meets its contract.
+use mathlib.Core.List.{List}
 use mathlib.Core.Path.{_≡_, sym, ap, _∙_}
-use Prim.Native.Nat.{_+_, _≤_, _-_}
+use Prim.Native.Nat.{ℕ, _+_, _-_, _≤_}
 use native.Mathlib.Omega.{arith}
-use lib.ListN.{length, length-set, getD}
 use borrow.Author.Needs.{needs}
 use denote.Ref.{now}
-use Rattle.crew.specs.Parts.{mostNodes}
-use Rattle.ballot.specs.Count.{tally}
-use Rattle.tally.proofs.Marking.{counts-next}
-use Rattle.tally.specs.Marks.{Counts, supporting, supporters}
+use Rattle.tally.proofs.Marking.{Filling, filling-none, filling-more, filling-all, counted-supporters}
+use Rattle.tally.specs.Marks.{supporters}
 use Rattle.tally.proofs.count_each.Statement.{statement}
 use Rattle.tally.proofs.count_each.Tie as tie
 
+-- The invariant: the first q slots are counted, slot 0 at least, and `count` is that of the last of them.
+record CountedTo (number : ℕ → ℕ) (counts : List ℕ) (count q : ℕ) : Type 0 where
+  started : 1 ≤ q
+  last-one : count ≡ number (q - 1)
+  column : Filling 0 number counts q
+
 abbrev Inv-loop : tie.InvT-loop
 Inv-loop counts₀ marks votes stamps n stamped below count₀ q₀ counts count q =
-    (1 ≤ q)
-    × (q ≤ mostNodes)
-    × (length counts ≡ mostNodes)
-    × (count ≡ supporters marks votes stamps n stamped (q - 1))
-    × Counts counts q (supporters marks votes stamps n stamped)
+    CountedTo (supporters marks votes stamps n stamped) counts count q
 
 abbrev μ-loop : tie.MeasureT-loop
 μ-loop counts₀ marks votes stamps n stamped below count₀ q₀ counts count q = n - q
@@ -41,26 +40,22 @@ element-write-counts c = search needs
 
 loop-holds : tie.Need-loop-holds Inv-loop μ-loop
 loop-holds c =
-    let b4 = c .before .before .before .before in
-    let a = b4 .args in
-    let long = b4 .pre .1 in
-    let number = supporters (now (a .marks)) (now (a .votes)) (now (a .stamps)) (a .n) (a .stamped) in
-    let first = c .count-supporting .ensures .0
-    ∙ ap (λ below. tally (supporting (now (a .marks)) (now (a .votes)) (now (a .stamps)) (getD (now
-    (a .votes)) 0 0) below) (a .n))
-    (c .before .before .below-of .ensures) in (
-      omega arith,
-      omega arith,
-      length-set (now (a .counts)) 0 _ ∙ long,
-      first,
-      counts-next (now (a .counts)) 0 number _ (omega (arith, long)) (λ k less. absurd (omega arith)) first,
-    )
+    let bounded = c .before .before .below-of in
+    let start = c .before .before .before .before in
+    let a = start .args in
+    let first = counted-supporters (now (a .marks)) (now (a .votes)) (now (a .stamps)) (a .n) (a .stamped) 0 _ _
+    (bounded .ensures) (c .count-supporting .ensures) in
+    record {
+      started = omega arith;
+      last-one = first;
+      column = filling-more _ (omega arith) (filling-none (now (a .counts)) (start .pre .1)) first;
+    }
 
 sub-count-next : tie.Need-sub-count-next Inv-loop μ-loop
 sub-count-next c = search needs
 
 count-next-requires : tie.Need-count-next-requires Inv-loop μ-loop
-count-next-requires c κs = (omega arith, omega arith, omega arith, c .before .loop .inv .3)
+count-next-requires c κs = (omega arith, omega arith, omega arith, c .before .loop .inv .last-one)
 
 mul-counts : tie.Need-mul-counts Inv-loop μ-loop
 mul-counts c = search needs
@@ -76,21 +71,18 @@ loop-less c = search needs
 
 loop-again : tie.Need-loop-again Inv-loop μ-loop
 loop-again c =
-    let b4 = c .before .before .before .before in
-    let a = b4 .before .before .before .args in
-    let l = c .before .before .loop in
+    let looped = c .before .before .loop in
+    let a = c .before .before .before .before .before .before .before .args in
     let number = supporters (now (a .marks)) (now (a .votes)) (now (a .stamps)) (a .n) (a .stamped) in
-    let same : l .q + 1 - 1 ≡ l .q = omega arith in (
-      omega arith,
-      omega arith,
-      length-set (l .counts) (l .q) _ ∙ l .inv .2,
-      c .count-next .ensures ∙ ap number (sym same),
-      counts-next (l .counts) (l .q) number _ (omega (arith, l .inv .2, c .before .loop-test .taken)) (l .inv .4)
-          (c .count-next .ensures),
-    )
+    let same : looped .q + 1 - 1 ≡ looped .q = omega arith in
+    record {
+      started = omega arith;
+      last-one = c .count-next .ensures ∙ ap number (sym same);
+      column = filling-more _ (omega arith) (looped .inv .column) (c .count-next .ensures);
+    }
 
 returns : tie.Need-returns Inv-loop μ-loop
-returns c = λ k less. c .before .loop .inv .4 k (omega (arith, c .loop-test .left, less))
+returns c = filling-all (c .before .loop .inv .column) (c .loop-test .left)
 
 pub count-each-spec : {M : Type 1} → statement M
 count-each-spec =

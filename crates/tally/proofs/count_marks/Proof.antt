@@ -1,24 +1,22 @@
 -- `count_marks` meets its contract. The invariant: the count is that of the first q slots.
-use mathlib.Core.Path.{_≡_}
-use Prim.Native.Nat.{_≤_, _-_}
+use Prim.Native.Nat.{_-_}
 use native.Mathlib.Omega.{arith}
 use borrow.Author.Needs.{needs}
-use denote.Ref.{now}
-use Rattle.ballot.specs.Count.{tally}
-use Rattle.tally.proofs.Tallies.{tally-next}
+use Rattle.tally.proofs.Tallies.{Through, through-all, counted-none, counted-more}
 use Rattle.tally.specs.Marks.{marked}
+use Rattle.tally.specs.Promises.{Counted}
 use Rattle.tally.proofs.count_marks.Statement.{statement}
 use Rattle.tally.proofs.count_marks.Tie as tie
 
 abbrev Inv-loop : tie.InvT-loop
-Inv-loop marks n count₀ q₀ count q = (q ≤ n) × (count ≡ tally (marked marks) q) × (count ≤ q)
+Inv-loop marks n count₀ q₀ count q =
+    Through n (λ k. Counted (marked marks) k count) q
 
 abbrev μ-loop : tie.MeasureT-loop
 μ-loop marks n count₀ q₀ count q = n - q
 
 loop-holds : tie.Need-loop-holds Inv-loop μ-loop
-unfolding tally
-loop-holds c = search needs
+loop-holds c = record { within = omega arith; so-far = counted-none }
 
 element-copy-out-one-if : tie.Need-element-copy-out-one-if Inv-loop μ-loop
 element-copy-out-one-if c = search needs
@@ -37,17 +35,11 @@ loop-less c = search needs
 
 loop-again : tie.Need-loop-again Inv-loop μ-loop
 loop-again c =
-    let b4 = c .before .before .before .before in
-    omega (arith, tally-next (marked (now (b4 .args .marks))) (c .before .before .before .loop .q), c .one-if .ensures)
+    let looped = c .before .before .before .loop in
+    record { within = omega arith; so-far = counted-more (looped .inv .so-far) (c .one-if .ensures) }
 
 returns : tie.Need-returns Inv-loop μ-loop
-returns c =
-    let done : c .before .loop .q ≡ c .before .before .args .n = omega (
-      arith,
-      c .before .loop .inv .0,
-      c .loop-test .left,
-    ) in
-    rw (← done) (c .before .loop .inv .1, c .before .loop .inv .2)
+returns c = through-all (c .before .loop .inv) (c .loop-test .left)
 
 pub count-marks-spec : {M : Type 1} → statement M
 count-marks-spec =

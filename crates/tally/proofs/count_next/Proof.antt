@@ -1,10 +1,10 @@
 -- `count_next` meets its contract.
-use mathlib.Core.Path.{sym, ap, ap₂, _∙_}
-use lib.ListN.{getD}
+use mathlib.Core.Path.{sym, ap₂, _∙_}
 use borrow.Author.Needs.{needs}
 use borrow.Author.Tests.{eqb-true}
 use denote.Ref.{now}
 use Rattle.ballot.specs.Count.{tally}
+use Rattle.tally.proofs.Marking.{counted-supporters}
 use Rattle.tally.specs.Marks.{supporting}
 use Rattle.wire.proofs.Tests.{both-true}
 use Rattle.tally.proofs.count_next.Statement.{statement}
@@ -36,13 +36,15 @@ element-copy-out-again-2 c = search needs
 
 returns : tie.Need-returns
 returns c =
-    let b4 = c .before .before .before .before in
-    let a = b4 .before .before .before .args in
     let same = both-true _ _ (c .if1 .taken) in
-    b4 .before .before .before .pre .3
-    ∙ ap₂ (λ v below. tally (supporting (now (a .marks)) (now (a .votes)) (now (a .stamps)) v below) (a .n))
-    (sym (eqb-true _ _ (same .0))) (sym (c .before .before .before .below-of2 .ensures) ∙ sym (eqb-true _ _
-    (same .1)) ∙ b4 .before .below-of .ensures)
+    let last-below = c .before .before .before .below-of2 in
+    let below = c .before .before .before .before .before .below-of in
+    let start = c .before .before .before .before .before .before .before in
+    let a = start .args in
+    start .pre .3
+    ∙ ap₂ (λ v b. tally (supporting (now (a .marks)) (now (a .votes)) (now (a .stamps)) v b) (a .n))
+    (sym (eqb-true _ _ (same .0)))
+    (sym (last-below .ensures) ∙ sym (eqb-true _ _ (same .1)) ∙ below .ensures)
 
 mul-count-supporting : tie.Need-mul-count-supporting
 mul-count-supporting c = search needs
@@ -55,13 +57,10 @@ count-supporting-requires c κs = search needs
 
 returns-2 : tie.Need-returns-2
 returns-2 c =
-    let b4 = c .before .before .before .before in
-    let b8 = b4 .before .before .before .before in
-    let a = b8 .before .args in
-    c .count-supporting .ensures .0
-    ∙ ap (λ below. tally (supporting (now (a .marks)) (now (a .votes)) (now (a .stamps)) (getD (now (a .votes))
-    (a .q) 0) below) (a .n))
-    (b4 .before .before .before .below-of .ensures)
+    let below = c .before .before .before .before .before .before .before .below-of in
+    let a = c .before .before .before .before .before .before .before .before .before .args in
+    counted-supporters (now (a .marks)) (now (a .votes)) (now (a .stamps)) (a .n) (a .stamped) (a .q) _ _
+    (below .ensures) (c .count-supporting .ensures)
 
 pub count-next-spec : {M : Type 1} → statement M
 count-next-spec =

@@ -1,27 +1,23 @@
 -- `count_others` meets its contract. The invariant: the count is that of the first q slots.
-use mathlib.Core.Bool.{Bool}
-use mathlib.Core.Path.{_≡_}
-use Prim.Native.Nat.{ℕ, _≤_, _-_}
+use Prim.Native.Nat.{_-_}
 use native.Mathlib.Omega.{arith}
 use lib.ListN.{getD}
 use borrow.Author.Needs.{needs}
-use denote.Ref.{now}
-use Rattle.ballot.specs.Count.{tally}
-use Rattle.tally.proofs.Tallies.{tally-next}
+use Rattle.tally.proofs.Tallies.{Through, through-all, counted-none, counted-more}
 use Rattle.tally.specs.Marks.{marked, besideIt}
+use Rattle.tally.specs.Promises.{Counted}
 use Rattle.tally.proofs.count_others.Statement.{statement}
 use Rattle.tally.proofs.count_others.Tie as tie
 
 abbrev Inv-loop : tie.InvT-loop
 Inv-loop marks votes n vote count₀ q₀ count q =
-    (q ≤ n) × (count ≡ tally (besideIt (marked marks) (λ k. getD votes k 0) vote) q) × (count ≤ q)
+    Through n (λ k. Counted (besideIt (marked marks) (λ j. getD votes j 0) vote) k count) q
 
 abbrev μ-loop : tie.MeasureT-loop
 μ-loop marks votes n vote count₀ q₀ count q = n - q
 
 loop-holds : tie.Need-loop-holds Inv-loop μ-loop
-unfolding tally
-loop-holds c = search needs
+loop-holds c = record { within = omega arith; so-far = counted-none }
 
 element-copy-out-one-if : tie.Need-element-copy-out-one-if Inv-loop μ-loop
 element-copy-out-one-if c = search needs
@@ -45,15 +41,12 @@ loop-less : tie.Need-loop-less Inv-loop μ-loop
 loop-less c = search needs
 
 loop-again : tie.Need-loop-again Inv-loop μ-loop
-loop-again c = let a = c .before .before .before .before .before .args in
-    let test : ℕ → Bool = besideIt (marked (now (a .marks))) (λ k. getD (now (a .votes)) k 0) (a .vote) in
-    omega (arith, tally-next test (c .before .before .before .before .loop .q), c .one-if .ensures)
+loop-again c =
+    let looped = c .before .before .before .before .loop in
+    record { within = omega arith; so-far = counted-more (looped .inv .so-far) (c .one-if .ensures) }
 
 returns : tie.Need-returns Inv-loop μ-loop
-returns c =
-    let l = c .before .loop in
-    let done : l .q ≡ c .before .before .args .n = omega (arith, l .inv .0, c .loop-test .left) in
-    rw (← done) (l .inv .1, l .inv .2)
+returns c = through-all (c .before .loop .inv) (c .loop-test .left)
 
 pub count-others-spec : {M : Type 1} → statement M
 count-others-spec =

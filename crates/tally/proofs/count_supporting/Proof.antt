@@ -1,25 +1,22 @@
 -- `count_supporting` meets its contract. The invariant: the count is that of the first q slots.
-use mathlib.Core.Path.{_≡_}
-use Prim.Native.Nat.{_≤_, _-_}
+use Prim.Native.Nat.{_-_}
 use native.Mathlib.Omega.{arith}
 use borrow.Author.Needs.{needs}
-use denote.Ref.{now}
-use Rattle.ballot.specs.Count.{tally}
-use Rattle.tally.proofs.Tallies.{tally-next}
+use Rattle.tally.proofs.Tallies.{Through, through-all, counted-none, counted-more}
 use Rattle.tally.specs.Marks.{supporting}
+use Rattle.tally.specs.Promises.{Counted}
 use Rattle.tally.proofs.count_supporting.Statement.{statement}
 use Rattle.tally.proofs.count_supporting.Tie as tie
 
 abbrev Inv-loop : tie.InvT-loop
-Inv-loop marks votes stamps n vote below count₀ q₀ count q = (q ≤ n)
-    × (count ≡ tally (supporting marks votes stamps vote below) q) × (count ≤ q)
+Inv-loop marks votes stamps n vote below count₀ q₀ count q =
+    Through n (λ k. Counted (supporting marks votes stamps vote below) k count) q
 
 abbrev μ-loop : tie.MeasureT-loop
 μ-loop marks votes stamps n vote below count₀ q₀ count q = n - q
 
 loop-holds : tie.Need-loop-holds Inv-loop μ-loop
-unfolding tally
-loop-holds c = search needs
+loop-holds c = record { within = omega arith; so-far = counted-none }
 
 element-copy-out-one-if : tie.Need-element-copy-out-one-if Inv-loop μ-loop
 element-copy-out-one-if c = search needs
@@ -46,18 +43,12 @@ loop-less : tie.Need-loop-less Inv-loop μ-loop
 loop-less c = search needs
 
 loop-again : tie.Need-loop-again Inv-loop μ-loop
-loop-again c = let a = c .before .before .before .before .before .before .args in
-    let test = supporting (now (a .marks)) (now (a .votes)) (now (a .stamps)) (a .vote) (a .below) in
-    omega (arith, tally-next test (c .before .before .before .before .before .loop .q), c .one-if .ensures)
+loop-again c =
+    let looped = c .before .before .before .before .before .loop in
+    record { within = omega arith; so-far = counted-more (looped .inv .so-far) (c .one-if .ensures) }
 
 returns : tie.Need-returns Inv-loop μ-loop
-returns c =
-    let done : c .before .loop .q ≡ c .before .before .args .n = omega (
-      arith,
-      c .before .loop .inv .0,
-      c .loop-test .left,
-    ) in
-    rw (← done) (c .before .loop .inv .1, c .before .loop .inv .2)
+returns c = through-all (c .before .loop .inv) (c .loop-test .left)
 
 pub count-supporting-spec : {M : Type 1} → statement M
 count-supporting-spec =

@@ -1,24 +1,26 @@
 -- `highest_count` meets its contract. The invariant: the highest count among the first q slots.
-use mathlib.Core.Path.{_≡_, ap, _∙_}
-use Prim.Native.Nat.{ℕ, _≤_, _-_}
+use mathlib.Core.Path.{_≡_, refl, _∙_}
+use Prim.Native.Nat.{_-_}
 use native.Mathlib.Omega.{arith}
 use lib.ListN.{getD}
 use borrow.Author.Needs.{needs}
 use denote.Ref.{now}
 use Rattle.tally.proofs.Marking.{highest-turn}
+use Rattle.tally.proofs.Tallies.{Through, through-all}
 use Rattle.tally.specs.Marks.{marked, highest}
 use Rattle.tally.proofs.highest_count.Statement.{statement}
 use Rattle.tally.proofs.highest_count.Tie as tie
 
 abbrev Inv-loop : tie.InvT-loop
-Inv-loop present counts n best₀ q₀ best q = (q ≤ n) × (best ≡ highest (marked present) (λ k. getD counts k 0) q)
+Inv-loop present counts n best₀ q₀ best q =
+    Through n (λ k. best ≡ highest (marked present) (λ j. getD counts j 0) k) q
 
 abbrev μ-loop : tie.MeasureT-loop
 μ-loop present counts n best₀ q₀ best q = n - q
 
 loop-holds : tie.Need-loop-holds Inv-loop μ-loop
 unfolding highest
-loop-holds c = search needs
+loop-holds c = record { within = omega arith; so-far = refl }
 
 element-copy-out-higher-of : tie.Need-element-copy-out-higher-of Inv-loop μ-loop
 element-copy-out-higher-of c = search needs
@@ -40,18 +42,14 @@ loop-less c = search needs
 
 loop-again : tie.Need-loop-again Inv-loop μ-loop
 loop-again c =
-    let b4 = c .before .before .before .before in
-    let a = b4 .before .args in
-    let number : ℕ → ℕ = λ k. getD (now (a .counts)) k 0 in
-    let turned = highest-turn (marked (now (a .present))) number (b4 .loop .q) (b4 .loop .best)
-    (b4 .loop .inv .1) in
-    (omega arith, c .higher-of .ensures ∙ turned)
+    let looped = c .before .before .before .before .loop in
+    let a = c .before .before .before .before .before .args in
+    let turned = highest-turn (marked (now (a .present))) (λ k. getD (now (a .counts)) k 0) (looped .q) (looped .best)
+    (looped .inv .so-far) in
+    record { within = omega arith; so-far = c .higher-of .ensures ∙ turned }
 
 returns : tie.Need-returns Inv-loop μ-loop
-returns c = let a = c .before .before .args in
-    let number : ℕ → ℕ = λ k. getD (now (a .counts)) k 0 in
-    let done : c .before .loop .q ≡ a .n = omega (arith, c .before .loop .inv .0, c .loop-test .left) in
-    c .before .loop .inv .1 ∙ ap (highest (marked (now (a .present))) number) done
+returns c = through-all (c .before .loop .inv) (c .loop-test .left)
 
 pub highest-count-spec : {M : Type 1} → statement M
 highest-count-spec =

@@ -7,7 +7,7 @@ count-listing-requires : tie.Need-count-listing-requires
 count-listing-requires c κs = search needs
 
 returns : tie.Need-returns
-returns c = simp (c .before .if1 .taken, c .count-listing .ensures .0)
+returns c = simp (c .before .if1 .taken, c .count-listing .ensures .count)
 
 returns-2 : tie.Need-returns-2
 returns-2 c = search needs

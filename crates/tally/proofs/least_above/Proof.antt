@@ -1,10 +1,9 @@
 -- `least_above` meets its contract.
-use mathlib.Core.Path.{ap, subst}
+use mathlib.Core.Path.{ap}
 use native.Mathlib.Omega.{arith}
 use denote.Ref.{now}
 use Rattle.ballot.specs.Least.{orZero}
-use Rattle.tally.specs.Marks.{FirstOf}
-use Rattle.tally.proofs.Marking.{none-over}
+use Rattle.tally.proofs.Marking.{first-slot, first-none, none-over}
 use borrow.Author.Needs.{needs}
 use Rattle.tally.proofs.least_above.Statement.{statement}
 use Rattle.tally.proofs.least_above.Tie as tie
@@ -18,10 +17,9 @@ enum-known-first c = search needs
 least-above-from-requires : tie.Need-least-above-from-requires
 least-above-from-requires c κs =
     let told = c .before in
-    let a = told .before .before .before .args in (
-      omega arith,
-      subst (FirstOf (now (a .marks)) (a .n)) (told .first .given .1) (told .before .before .first-marked .ensures),
-    )
+    let a = told .before .before .before .args in
+    let first = first-slot (now (a .marks)) (a .n) (told .first .given .1) (told .before .before .first-marked .ensures) in
+    (omega arith, first)
 
 enum-told : tie.Need-enum-told
 enum-told c = search needs
@@ -32,9 +30,8 @@ returns c = search needs
 returns-2 : tie.Need-returns-2
 returns-2 c =
     let a = c .before .before .before .args in
-    let is = subst (FirstOf (now (a .marks)) (a .n)) (c .enum-told .given .1)
-    (c .before .before .first-marked .ensures) in
-    ap orZero (none-over (now (a .marks)) (now (a .votes)) (now (a .stamps)) (a .n) (a .threshold) (a .n) (is _))
+    let none = first-none (now (a .marks)) (a .n) (c .enum-told .given .1) (c .before .before .first-marked .ensures) in
+    ap orZero (none-over (now (a .marks)) (now (a .votes)) (now (a .stamps)) (a .n) (a .threshold) (a .n) none)
 
 pub least-above-spec : {M : Type 1} → statement M
 least-above-spec =

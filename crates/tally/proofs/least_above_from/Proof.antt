@@ -3,20 +3,22 @@
 use mathlib.Core.Bool.{cond}
 use mathlib.Core.Logic.{inl, inr}
 use mathlib.Core.Path.{_≡_, sym, ap, _∙_}
-use Prim.Native.Nat.{_-_, _≤_}
+use Prim.Native.Nat.{_-_}
 use native.Mathlib.Omega.{arith}
 use lib.Dec.{ltb}
 use borrow.Author.Needs.{needs}
 use denote.Ref.{now}
 use Rattle.wire.proofs.Tests.{both-true}
-use Rattle.tally.proofs.Marking.{Sought, sought-first, sought-next, sought-same, sought-done}
+use Rattle.ballot.specs.Least.{orZero}
+use Rattle.tally.proofs.Marking.{Sought, leastOver, sought-first, sought-next, sought-same, sought-done}
+use Rattle.tally.proofs.Tallies.{Through, through-all}
 use Rattle.tally.specs.Marks.{foundAs}
 use Rattle.tally.proofs.least_above_from.Statement.{statement}
 use Rattle.tally.proofs.least_above_from.Tie as tie
 
 abbrev Inv-loop : tie.InvT-loop
 Inv-loop marks votes stamps n threshold first last₀ least₀ found₀ q₀ last least found q =
-    (q ≤ n) × Sought marks votes stamps n threshold last (foundAs found least) q
+    Through n (Sought marks votes stamps n threshold last (foundAs found least)) q
 
 abbrev μ-loop : tie.MeasureT-loop
 μ-loop marks votes stamps n threshold first last₀ least₀ found₀ q₀ last least found q = n - q
@@ -37,11 +39,14 @@ loop-holds : tie.Need-loop-holds Inv-loop μ-loop
 loop-holds c =
     let start = c .before .before in
     let a = start .args in
-    let over = ap (ltb (a .threshold)) (c .count-supporting .ensures .0) in (
-      omega arith,
-      sought-first (now (a .marks)) (now (a .votes)) (now (a .stamps)) (a .n) (a .threshold) (a .first)
-          (start .pre .1 .1) (start .pre .1 .2 _) _ (sym over),
-    )
+    let first = start .pre .1 in
+    let over = ap (ltb (a .threshold)) (c .count-supporting .ensures .count) in
+    record {
+      within = omega arith;
+      so-far =
+          sought-first (now (a .marks)) (now (a .votes)) (now (a .stamps)) (a .n) (a .threshold) (a .first)
+          (first .here) (first .none-before) _ (sym over);
+    }
 
 element-copy-out-other : tie.Need-element-copy-out-other Inv-loop μ-loop
 element-copy-out-other c = search needs
@@ -72,40 +77,41 @@ loop-less c = search needs
 
 loop-again : tie.Need-loop-again Inv-loop μ-loop
 loop-again c =
-    let l = c .before .before .before .before .loop in
+    let looped = c .before .before .before .before .loop in
     let a = c .before .before .before .before .before .before .before .args in
     let marks = now (a .marks) in
     let votes = now (a .votes) in
-    let stamps = now (a .stamps) in (
-      omega arith,
-      elim (c .if1 .came) [
+    let stamps = now (a .stamps) in
+    record {
+      within = omega arith;
+      so-far = elim (c .if1 .came) [
         | inl other ↦
             rw (other .4, other .5, other .6, other .3 .ensures)
-            (sought-next marks votes stamps (a .n) (a .threshold) (l .q) _ (both-true _ _ (other .0 .taken) .0) _
-            (ap (ltb (a .threshold)) (sym (other .2 .ensures .0))) (l .inv .1 .least-so-far))
+            (sought-next marks votes stamps (a .n) (a .threshold) (looped .q) _ (both-true _ _ (other .0 .taken) .0) _
+            (ap (ltb (a .threshold)) (sym (other .2 .ensures .count))) (looped .inv .so-far .least-so-far))
         | inr same ↦
             rw (same .1, same .2, same .3)
-            (sought-same marks votes stamps (a .n) (a .threshold) (l .q) (l .last) _ (same .0 .left) (l .inv .1))
-      ],
-    )
+            (sought-same marks votes stamps (a .n) (a .threshold) (looped .q) (looped .last) _ (same .0 .left)
+            (looped .inv .so-far))
+      ];
+    }
+
+-- behind the loop: what was found is the least vote that is over
+found : (c : tie.After-loop Inv-loop μ-loop)
+    → let a = c .before .before .before .before .args in
+    cond (c .before .loop .found) (c .before .loop .least) 0
+    ≡ orZero (leastOver (now (a .marks)) (now (a .votes)) (now (a .stamps)) (a .n) (a .threshold) (a .n))
+found c =
+    let looped = c .before .loop in
+    let a = c .before .before .before .before .args in
+    sought-done (now (a .marks)) (now (a .votes)) (now (a .stamps)) (a .n) (a .threshold) (looped .last)
+    (looped .found) (looped .least) (through-all (looped .inv) (c .loop-test .left))
 
 returns : tie.Need-returns Inv-loop μ-loop
-returns c =
-    let l = c .before .before .loop in
-    let a = c .before .before .before .before .before .args in
-    let done : l .q ≡ a .n = omega (arith, l .inv .0, c .before .loop-test .left) in
-    ap (λ b. cond b (l .least) 0) (sym (c .if2 .taken))
-    ∙ sought-done (now (a .marks)) (now (a .votes)) (now (a .stamps)) (a .n) (a .threshold) (l .last) (l .found)
-    (l .least) (l .q) (l .inv .1) done
+returns c = ap (λ b. cond b (c .before .before .loop .least) 0) (sym (c .if2 .taken)) ∙ found (c .before)
 
 returns-2 : tie.Need-returns-2 Inv-loop μ-loop
-returns-2 c =
-    let l = c .before .before .loop in
-    let a = c .before .before .before .before .before .args in
-    let done : l .q ≡ a .n = omega (arith, l .inv .0, c .before .loop-test .left) in
-    ap (λ b. cond b (l .least) 0) (sym (c .if2 .left))
-    ∙ sought-done (now (a .marks)) (now (a .votes)) (now (a .stamps)) (a .n) (a .threshold) (l .last) (l .found)
-    (l .least) (l .q) (l .inv .1) done
+returns-2 c = ap (λ b. cond b (c .before .before .loop .least) 0) (sym (c .if2 .left)) ∙ found (c .before)
 
 pub least-above-from-spec : {M : Type 1} → statement M
 least-above-from-spec =

@@ -26,12 +26,12 @@ least-above-requires c κs = search needs
 returns : tie.Need-returns
 returns c =
     λ h.
-    let one-taken = c .before in
-    let start = one-taken .before .before .before .before in
+    let tested = c .before in
+    let start = tested .before .before .before .before in
     let a = start .args in
     let crew = a .crew in
     let read = columns (now (a .present)) (now (a .votes)) (now (a .stamps)) in
-    rw (eq-eqb _ _ (one-taken .if1 .taken))
+    rw (eq-eqb _ _ (tested .if1 .taken))
     (c .least-above .ensures
     ∙ sym (decided-least read h (crew .n) crew one (a .phase) (read .present) (start .pre .1)
     (fresh-one read h (crew .n) (a .phase))))
@@ -45,14 +45,14 @@ least-above-requires-2 c κs = search needs
 returns-2 : tie.Need-returns-2
 returns-2 c =
     λ h.
-    let b4 = c .before .before .before .before in
-    let start = b4 .before .before .before .before in
+    let tested = c .before .before .before .before in
+    let start = tested .before .before .before .before in
     let a = start .args in
     let crew = a .crew in
     let read = columns (now (a .present)) (now (a .votes)) (now (a .stamps)) in
     let second = eqb (crew .class) 2 in
     let marks = c .before .before .mark-stamped in
-    rw (ne-eqb _ _ (b4 .if1 .left))
+    rw (ne-eqb _ _ (tested .if1 .left))
     (c .least-above2 .ensures
     ∙ sym (decided-least read h (crew .n) crew (cond second two three) (a .phase) (marks .last .0) (start .pre .1)
     (fresh-later read h (crew .n) second (a .phase) (marks .last .0) (marks .ensures))))

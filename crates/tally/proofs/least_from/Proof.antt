@@ -1,19 +1,20 @@
 -- `least_from` meets its contract. The invariant: the least vote of the first q slots that are marked.
 use mathlib.Core.Option.{some}
 use mathlib.Core.Path.{_≡_, ap, _∙_}
-use Prim.Native.Nat.{ℕ, _≤_, _-_}
+use Prim.Native.Nat.{_-_}
 use native.Mathlib.Omega.{arith}
 use lib.ListN.{getD}
 use borrow.Author.Needs.{needs}
 use denote.Ref.{now}
 use Rattle.tally.proofs.Marking.{least-turn}
+use Rattle.tally.proofs.Tallies.{Through, through-all}
 use Rattle.tally.specs.Marks.{marked, leastMarked}
 use Rattle.tally.proofs.least_from.Statement.{statement}
 use Rattle.tally.proofs.least_from.Tie as tie
 
 abbrev Inv-loop : tie.InvT-loop
 Inv-loop marks votes n first least₀ q₀ least q =
-    (q ≤ n) × (some least ≡ leastMarked (marked marks) (λ k. getD votes k 0) q)
+    Through n (λ k. some least ≡ leastMarked (marked marks) (λ j. getD votes j 0) k) q
 
 abbrev μ-loop : tie.MeasureT-loop
 μ-loop marks votes n first least₀ q₀ least q = n - q
@@ -50,18 +51,14 @@ loop-less c = search needs
 
 loop-again : tie.Need-loop-again Inv-loop μ-loop
 loop-again c =
-    let b4 = c .before .before .before .before in
-    let a = b4 .before .before .args in
-    let l = b4 .loop in
-    let vote : ℕ → ℕ = λ k. getD (now (a .votes)) k 0 in
-    let turned = least-turn (marked (now (a .marks))) vote (l .q) (l .least) (l .inv .1) in
-    (omega arith, ap some (c .lower-of .ensures) ∙ turned)
+    let looped = c .before .before .before .before .loop in
+    let a = c .before .before .before .before .before .before .args in
+    let turned = least-turn (marked (now (a .marks))) (λ k. getD (now (a .votes)) k 0) (looped .q) (looped .least)
+    (looped .inv .so-far) in
+    record { within = omega arith; so-far = ap some (c .lower-of .ensures) ∙ turned }
 
 returns : tie.Need-returns Inv-loop μ-loop
-returns c = let a = c .before .before .before .args in
-    let l = c .before .loop in
-    let done : l .q ≡ a .n = omega (arith, l .inv .0, c .loop-test .left) in
-    l .inv .1 ∙ ap (leastMarked (marked (now (a .marks))) (λ k. getD (now (a .votes)) k 0)) done
+returns c = through-all (c .before .loop .inv) (c .loop-test .left)
 
 pub least-from-spec : {M : Type 1} → statement M
 least-from-spec =

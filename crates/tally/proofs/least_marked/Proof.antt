@@ -1,12 +1,12 @@
 -- `least_marked` meets its contract.
-use mathlib.Core.Path.{ap, subst}
+use mathlib.Core.Path.{ap}
 use Prim.Native.Nat.{ℕ}
 use native.Mathlib.Omega.{arith}
 use lib.ListN.{getD}
 use denote.Ref.{now}
 use Rattle.ballot.specs.Least.{orZero}
-use Rattle.tally.specs.Marks.{marked, FirstOf}
-use Rattle.tally.proofs.Marking.{least-first}
+use Rattle.tally.specs.Marks.{marked}
+use Rattle.tally.proofs.Marking.{first-slot, first-none, least-first}
 use borrow.Author.Needs.{needs}
 use Rattle.tally.proofs.least_marked.Statement.{statement}
 use Rattle.tally.proofs.least_marked.Tie as tie
@@ -21,10 +21,9 @@ least-from-requires : tie.Need-least-from-requires
 least-from-requires c κs =
     let told = c .before in
     let a = told .before .before .before .args in
-    let marks = now (a .marks) in
     let vote : ℕ → ℕ = λ k. getD (now (a .votes)) k 0 in
-    let is = subst (FirstOf marks (a .n)) (told .first .given .1) (told .before .before .first-marked .ensures) in
-    (omega arith, is .0, least-first (marked marks) vote _ (is .1) (is .2 vote))
+    let first = first-slot (now (a .marks)) (a .n) (told .first .given .1) (told .before .before .first-marked .ensures) in
+    (omega arith, first .inside, least-first (marked (now (a .marks))) vote _ (first .here) (first .none-before vote))
 
 enum-told : tie.Need-enum-told
 enum-told c = search needs
@@ -35,9 +34,8 @@ returns c = ap orZero (c .least-from .ensures)
 returns-2 : tie.Need-returns-2
 returns-2 c =
     let a = c .before .before .before .args in
-    let is = subst (FirstOf (now (a .marks)) (a .n)) (c .enum-told .given .1)
-    (c .before .before .first-marked .ensures) in
-    ap orZero (is (λ k. getD (now (a .votes)) k 0))
+    let none = first-none (now (a .marks)) (a .n) (c .enum-told .given .1) (c .before .before .first-marked .ensures) in
+    ap orZero (none (λ k. getD (now (a .votes)) k 0))
 
 pub least-marked-spec : {M : Type 1} → statement M
 least-marked-spec =

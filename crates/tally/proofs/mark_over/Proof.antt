@@ -1,25 +1,23 @@
 -- `mark_over` meets its contract. The invariant: the first q slots are marked as they should be.
-use mathlib.Core.Path.{_≡_, refl, _∙_}
-use Prim.Native.Nat.{_≤_, _-_}
+use mathlib.Core.Bool.{false}
+use mathlib.Core.Path.{refl}
+use Prim.Native.Nat.{_-_}
 use native.Mathlib.Omega.{arith}
-use lib.ListN.{length, length-set, getD}
+use lib.ListN.{getD}
 use borrow.Author.Needs.{needs}
-use denote.Ref.{now}
-use Rattle.crew.specs.Parts.{mostNodes}
-use Rattle.tally.proofs.Marking.{marks-next}
-use Rattle.tally.specs.Marks.{Marks, over}
+use Rattle.tally.proofs.Marking.{Filling, filling-none, filling-more, filling-all}
+use Rattle.tally.specs.Marks.{over}
 use Rattle.tally.proofs.mark_over.Statement.{statement}
 use Rattle.tally.proofs.mark_over.Tie as tie
 
 abbrev Inv-loop : tie.InvT-loop
-Inv-loop out₀ present counts n threshold q₀ out q = (q ≤ n) × (length out ≡ mostNodes) × Marks out q (over present
-    (λ k. getD counts k 0) threshold)
+Inv-loop out₀ present counts n threshold q₀ out q = Filling false (over present (λ k. getD counts k 0) threshold) out q
 
 abbrev μ-loop : tie.MeasureT-loop
 μ-loop out₀ present counts n threshold q₀ out q = n - q
 
 loop-holds : tie.Need-loop-holds Inv-loop μ-loop
-loop-holds c = (omega arith, c .pre .1, λ k less. absurd (omega arith))
+loop-holds c = filling-none _ (c .pre .1)
 
 element-copy-out-out : tie.Need-element-copy-out-out Inv-loop μ-loop
 element-copy-out-out c = search needs
@@ -40,19 +38,10 @@ loop-less : tie.Need-loop-less Inv-loop μ-loop
 loop-less c = search needs
 
 loop-again : tie.Need-loop-again Inv-loop μ-loop
-loop-again c =
-    let b4 = c .before .before .before .before in
-    let a = b4 .args in
-    let l = c .before .before .before .loop in
-    let test = over (now (a .present)) (λ k. getD (now (a .counts)) k 0) (a .threshold) in (
-      omega arith,
-      length-set (l .out) (l .q) _ ∙ l .inv .1,
-      marks-next (l .out) (l .q) test _ (omega (arith, l .inv .1, c .before .before .loop-test .taken))
-          (l .inv .2) refl,
-    )
+loop-again c = filling-more _ (omega arith) (c .before .before .before .loop .inv) refl
 
 returns : tie.Need-returns Inv-loop μ-loop
-returns c = λ k less. c .before .loop .inv .2 k (omega (arith, c .loop-test .left, less))
+returns c = filling-all (c .before .loop .inv) (c .loop-test .left)
 
 pub mark-over-spec : {M : Type 1} → statement M
 mark-over-spec =

@@ -1,27 +1,22 @@
 -- `mark_stamped` meets its contract. The invariant: the first q slots are marked as they should be.
-use mathlib.Core.Path.{_≡_, refl, _∙_}
-use Prim.Native.Nat.{_≤_, _-_}
+use mathlib.Core.Bool.{false}
+use mathlib.Core.Path.{refl}
+use Prim.Native.Nat.{_-_}
 use native.Mathlib.Omega.{arith}
-use lib.ListN.{length, length-set}
 use borrow.Author.Needs.{needs}
-use denote.Ref.{now}
-use Rattle.crew.specs.Parts.{mostNodes}
-use Rattle.tally.proofs.Marking.{marks-next}
-use Rattle.tally.specs.Marks.{Marks, stampedWith}
+use Rattle.tally.proofs.Marking.{Filling, filling-none, filling-more, filling-all}
+use Rattle.tally.specs.Marks.{stampedWith}
 use Rattle.tally.proofs.mark_stamped.Statement.{statement}
 use Rattle.tally.proofs.mark_stamped.Tie as tie
 
 abbrev Inv-loop : tie.InvT-loop
-Inv-loop out₀ present stamps n stamp q₀ out q =
-    (q ≤ n)
-    × (length out ≡ mostNodes)
-    × Marks out q (stampedWith present stamps stamp)
+Inv-loop out₀ present stamps n stamp q₀ out q = Filling false (stampedWith present stamps stamp) out q
 
 abbrev μ-loop : tie.MeasureT-loop
 μ-loop out₀ present stamps n stamp q₀ out q = n - q
 
 loop-holds : tie.Need-loop-holds Inv-loop μ-loop
-loop-holds c = (omega arith, c .pre .1, λ k less. absurd (omega arith))
+loop-holds c = filling-none _ (c .pre .1)
 
 element-copy-out-out : tie.Need-element-copy-out-out Inv-loop μ-loop
 element-copy-out-out c = search needs
@@ -39,22 +34,10 @@ loop-less : tie.Need-loop-less Inv-loop μ-loop
 loop-less c = search needs
 
 loop-again : tie.Need-loop-again Inv-loop μ-loop
-loop-again c = let a = c .before .before .before .before .args in
-    let l = c .before .before .before .loop in (
-      omega arith,
-      length-set (l .out) (l .q) _ ∙ l .inv .1,
-      marks-next (l .out) (l .q) (stampedWith (now (a .present)) (now (a .stamps)) (a .stamp)) _
-          (omega (arith, l .inv .1, c .before .before .loop-test .taken)) (l .inv .2) refl,
-    )
+loop-again c = filling-more _ (omega arith) (c .before .before .before .loop .inv) refl
 
 returns : tie.Need-returns Inv-loop μ-loop
-returns c =
-    let done : c .before .loop .q ≡ c .before .before .args .n = omega (
-      arith,
-      c .before .loop .inv .0,
-      c .loop-test .left,
-    ) in
-    rw (← done) (c .before .loop .inv .2)
+returns c = filling-all (c .before .loop .inv) (c .loop-test .left)
 
 pub mark-stamped-spec : {M : Type 1} → statement M
 mark-stamped-spec =

@@ -1,14 +1,16 @@
 -- `most_voted` meets its contract.
 use mathlib.Core.Bool.{_&&_}
+use mathlib.Core.List.{List}
 use mathlib.Core.Path.{_≡_, sym, ap, _∙_}
-use Prim.Native.Nat.{_≤_, _-_}
+use Prim.Native.Nat.{ℕ, _≤_, _-_}
 use native.Mathlib.Omega.{arith}
 use lib.Dec.{ltb}
 use lib.ListN.{getD}
 use borrow.Author.Needs.{needs}
 use denote.Ref.{now}
+use Rattle.wire.specs.Entry.{Entry}
 use Rattle.ballot.specs.Selection.{mostVoted, leading}
-use Rattle.inbox.specs.Columns.{columns, polled}
+use Rattle.inbox.specs.Columns.{Columns, columns, polled}
 use Rattle.tally.proofs.Marking.{highest-same}
 use Rattle.tally.proofs.Ruling.{most, votesFor, no-votes, least-of, leading-slot}
 use Rattle.tally.specs.Marks.{marked}
@@ -21,16 +23,23 @@ count-each-requires c κs = search needs
 highest-count-requires : tie.Need-highest-count-requires
 highest-count-requires c κs = search needs
 
+abbrev readOf : tie.Start → Columns
+readOf c = columns (now (c .args .present)) (now (c .args .votes)) (now (c .args .stamps))
+
+-- the highest of the counts is how many slots vote for the plan of most votes
+highest : (c : tie.After-highest-count) (h : ℕ → List Entry)
+    → let start = c .before .before .before .before in
+    c .highest-count .result ≡ most (readOf start) h (start .args .n)
+highest c h =
+    let counts = c .before .before .count-each in
+    let a = c .before .before .before .before .args in
+    c .highest-count .ensures ∙ highest-same (marked (now (a .present))) _ _ (a .n) (counts .ensures)
+
 returns : tie.Need-returns
 returns c =
     λ h.
-    let b3 = c .before .before .before in
-    let a = b3 .before .before .args in
-    let read = columns (now (a .present)) (now (a .votes)) (now (a .stamps)) in
-    let highest : c .before .highest-count .result ≡ most read h (a .n) =
-    c .before .highest-count .ensures ∙ highest-same (marked (now (a .present))) _ _ (a .n)
-    (b3 .count-each .ensures) in
-    sym (no-votes read h (a .n) (sym highest ∙ c .if1 .taken))
+    let start = c .before .before .before .before .before in
+    sym (no-votes (readOf start) h (start .args .n) (sym (highest (c .before) h) ∙ c .if1 .taken))
 
 sub-mark-over : tie.Need-sub-mark-over
 sub-mark-over c = search needs
@@ -45,23 +54,22 @@ returns-2 : tie.Need-returns-2
 unfolding mostVoted
 returns-2 c =
     λ h.
-    let b2 = c .before .before in
-    let b5 = b2 .before .before .before in
-    let b8 = b5 .before .before .before in
-    let a = b8 .before .before .args in
-    let read = columns (now (a .present)) (now (a .votes)) (now (a .stamps)) in
-    let best = b5 .before .highest-count .result in
-    let highest : best ≡ most read h (a .n) =
-    b5 .before .highest-count .ensures ∙ highest-same (marked (now (a .present))) _ _ (a .n)
-    (b8 .count-each .ensures) in
-    let voted : 1 ≤ most read h (a .n) = omega (arith, b5 .if1 .left, highest) in
+    let leaders = c .before .before .mark-over in
+    let some = c .before .before .before .before .before .if1 in
+    let found = c .before .before .before .before .before .before in
+    let counts = found .before .before .count-each in
+    let start = found .before .before .before .before in
+    let n = start .args .n in
+    let read = readOf start in
+    let best = found .highest-count .result in
+    let here = marked (read .present) in
+    let voted : 1 ≤ most read h n = omega (arith, some .left, highest found h) in
     c .least-marked .ensures
-    ∙ sym (least-of read h (a .n) (leading (polled read h (a .n))) (marked (b2 .mark-over .last .0))
-    (λ q less. b2 .mark-over .ensures q less
-    ∙ ap (λ count. marked (now (a .present)) q && ltb (best - 1) count) (b8 .count-each .ensures q less)
-    ∙ ap (λ top. marked (now (a .present)) q && ltb (top - 1) (votesFor read h (a .n) (getD (now (a .votes)) q 0)))
-    highest
-    ∙ sym (leading-slot read h (a .n) voted q)))
+    ∙ sym (least-of read h n (leading (polled read h n)) (marked (leaders .last .0))
+    (λ q less. leaders .ensures q less
+    ∙ ap (λ count. here q && ltb (best - 1) count) (counts .ensures q less)
+    ∙ ap (λ top. here q && ltb (top - 1) (votesFor read h n (getD (read .votes) q 0))) (highest found h)
+    ∙ sym (leading-slot read h n voted q)))
 
 pub most-voted-spec : {M : Type 1} → statement M
 most-voted-spec =

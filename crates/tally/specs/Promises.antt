@@ -1,0 +1,29 @@
+-- What functions promise in several parts, each part under its name.
+-- Promises of private functions: no public contract cites this file.
+use Prim.Native.Nat.{ℕ, _+_, _≤_}
+use mathlib.Core.Path.{_≡_}
+use mathlib.Core.Bool.{Bool}
+use Rattle.crew.specs.declared.Crew.{Crew}
+use Rattle.crew.specs.Thresholds.{one, two, E}
+use Rattle.ballot.specs.Count.{bit, tally}
+use Rattle.ballot.specs.Selection.{Backing, Choice, answer}
+
+-- 1 where the test passes, else 0
+pub record OneIf (test : Bool) (r : ℕ) : Type 0 where
+  pub worth : r ≡ bit test
+  pub at-most-one : r ≤ 1
+
+-- so many of the first n slots pass the test
+pub record Counted (test : ℕ → Bool) (n r : ℕ) : Type 0 where
+  pub count : r ≡ tally test n
+  pub at-most-all : r ≤ n
+
+-- 01's E; twice E and E + b have room in 16 bits
+pub record Bounded (crew : Crew) (r : ℕ) : Type 0 where
+  pub bound : r ≡ E crew
+  pub room : r ≤ 255 + 255
+
+-- classes 1 and 2 answer alike
+pub record AnsweredAlike (votes : Backing) (slots : Bool) (r : Choice) : Type 0 where
+  pub in-one : r ≡ answer one votes slots
+  pub in-two : r ≡ answer two votes slots
