@@ -3,11 +3,10 @@ use mathlib.Core.Path.{_≡_, sym, ap, ap₂, _∙_}
 use mathlib.Core.Bool.{true}
 use mathlib.Core.List.{List}
 use mathlib.Core.Option.{Option}
-use Prim.Native.Nat.{ℕ, _≤_}
+use Prim.Native.Nat.{ℕ}
 use native.Mathlib.Omega.{arith}
 use lib.ListN.{length}
 use Rattle.crew.specs.declared.Crew.{Crew}
-use Rattle.crew.specs.Parts.{mostNodes}
 use Rattle.crew.specs.Thresholds.{classOf}
 use Rattle.ballot.specs.Ballot.{Ballot}
 use Rattle.ballot.specs.Selection.{Choice, selection, takenOn}
@@ -17,7 +16,7 @@ use Rattle.wire.specs.Entry.{Entry}
 use Rattle.inbox.specs.Inbox.{ballotIn, ballotsFor}
 use Rattle.inbox.specs.Columns.{Columns, empty, slotsIn, filled, entriesOf, historiesIn, polled}
 use Rattle.inbox.proofs.Inboxes.{polled-slots, own-histories, selections-list, selections-listable}
-use Rattle.tally.specs.Marks.{AllListable}
+use Rattle.tally.specs.Promises.{Choosable}
 use Rattle.tally.specs.Rules.{countable, choiceOf, selected, validIn, decidedIn}
 use Rattle.tally.proofs.Countable.{Countable, facts-countable, choice-rule, valid-rule, decided-rule}
 
@@ -40,15 +39,13 @@ module _ (crew : Crew) (run phase : ℕ) (bytes : List ℕ) (read : Columns) (fa
       polled-slots (slots 1) bytes (crew .n) read (facts .places) (facts .whole) is _ (selections-list run phase bytes)
 
   -- what selection asks of the columns and the inbox
-  pub ready : ReadTo 1
-      → (crew .n ≤ mostNodes) × (crew .d ≤ crew .n) × (crew .n ≤ slotsIn (length bytes))
-      × AllListable (read .present) bytes (crew .n)
-  ready is = (
-    facts .places,
-    facts .within,
-    omega (arith, facts .places, facts .whole),
-    selections-listable run phase bytes (crew .n) read (facts .places) (facts .whole) is,
-  )
+  pub ready : ReadTo 1 → Choosable crew (read .present) bytes
+  ready is = record {
+    places = facts .places;
+    within = facts .within;
+    slots = omega (arith, facts .places, facts .whole);
+    listable = selections-listable run phase bytes (crew .n) read (facts .places) (facts .whole) is;
+  }
 
   passes : countable crew (length bytes) ≡ true
   passes = facts-countable crew (length bytes) facts

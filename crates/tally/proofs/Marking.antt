@@ -55,6 +55,12 @@ module _ {A : Type 0} {other : A} {is : ℕ → A} where
   pub filling-all : {column : List A} {q n : ℕ} → Filling other is column q → n ≤ q → Filled is other column n
   filling-all filling ended k less = filling .so-far k (omega arith)
 
+-- one slot more is not marked
+pub none-marked-more : (marks : List Bool) (q : ℕ) → marked marks q ≡ false → NoneMarked marks q
+    → NoneMarked marks (q + 1)
+unfolding leastMarked
+none-marked-more marks q absent none-yet vote = rw (add-one q, absent) (none-yet vote)
+
 -- what the answer of a search for the first marked slot tells
 pub first-slot : (marks : List Bool) (n : ℕ) {first : First} {q : ℕ} → first ≡ Slot q → FirstOf marks n first
     → FirstMarked marks n q
@@ -92,11 +98,6 @@ module _ (test : ℕ → Bool) (number : ℕ → ℕ) where
       → some (number q) ≡ leastMarked test number (q + 1)
   unfolding leastMarked
   least-first q here is = rw (add-one q, here, ← is)
-
-  pub least-passed : (q : ℕ) → test q ≡ false → none ≡ leastMarked test number q
-      → none ≡ leastMarked test number (q + 1)
-  unfolding leastMarked
-  least-passed q absent is = rw (add-one q, absent) is
 
   pub least-turn : (q least : ℕ) → some least ≡ leastMarked test number q
       → some (cond (test q && ltb (number q) least) (number q) least) ≡ leastMarked test number (q + 1)

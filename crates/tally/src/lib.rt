@@ -22,7 +22,7 @@ ghost use Rattle.ballot.specs.Validation.{validated};
 ghost use Rattle.ballot.specs.Decision.{decision};
 ghost use Rattle.crew.specs.Parts.{mostNodes};
 ghost use Rattle.crew.specs.Thresholds.{one, two, three, classOf};
-ghost use Rattle.inbox.specs.Columns.{columns, slotsIn, historiesIn, polled, slotHasEntry};
+ghost use Rattle.inbox.specs.Columns.{columns, historiesIn, polled, slotHasEntry};
 ghost use Rattle.tally.specs.Marks.{
   Marks,
   Counts,
@@ -34,7 +34,6 @@ ghost use Rattle.tally.specs.Marks.{
   above,
   stampedWith,
   isLister,
-  AllListable,
   hasListersAbove,
   leastMarked,
   foundAs,
@@ -47,7 +46,7 @@ ghost use Rattle.tally.specs.Marks.{
   isBacked,
   highest,
 };
-ghost use Rattle.tally.specs.Promises.{OneIf, Counted, Bounded, AnsweredAlike};
+ghost use Rattle.tally.specs.Promises.{OneIf, Counted, CountedLast, Choosable, Bounded, AnsweredAlike};
 ghost use Rattle.tally.specs.Rules.{countable, choiceAs, choiceOf, selected, validIn, decidedIn};
 
 fn one_if(test: bool) -> u16
@@ -136,8 +135,7 @@ fn count_next(
     last: usize,
     before: u16,
 ) -> u16
-    requires { ⌜ (n ≤ mostNodes) × (q < mostNodes) × (last < mostNodes)
-        × (before ≡ supporters (now marks) (now votes) (now stamps) n stamped last) ⌝ }
+    requires { ⌜ CountedLast (now marks) (now votes) (now stamps) n stamped q last before ⌝ }
     ensures { λ r. ⌜ r ≡ supporters (now (marks .entry)) (now (votes .entry)) (now (stamps .entry)) n stamped q ⌝ }
 {
     let below = below_of(stamped, stamps[q]);
@@ -168,8 +166,7 @@ fn count_present(
     last: usize,
     before: u16,
 ) -> u16
-    requires { ⌜ (n ≤ mostNodes) × (q < mostNodes) × (last < mostNodes)
-        × (before ≡ supporters (now marks) (now votes) (now stamps) n stamped last) ⌝ }
+    requires { ⌜ CountedLast (now marks) (now votes) (now stamps) n stamped q last before ⌝ }
     ensures { λ r. ⌜ r ≡ supporters (now (marks .entry)) (now (votes .entry)) (now (stamps .entry)) n stamped
         (cond present q last) ⌝ }
 {
@@ -619,8 +616,7 @@ fn choose_three(
     votes: &[Plan; MOST_NODES],
     stamps: &[u8; MOST_NODES],
 ) -> Choice
-    requires { ⌜ (crew .n ≤ mostNodes) × (crew .d ≤ crew .n) × (crew .n ≤ slotsIn (length (now inbox)))
-        × AllListable (now present) (now inbox) (crew .n) ⌝ }
+    requires { ⌜ Choosable crew (now present) (now inbox) ⌝ }
     ensures { λ r. ⌜ choiceAs r ≡ selection three crew
         (polled (columns (now (present .entry)) (now (votes .entry)) (now (stamps .entry)))
         (historiesIn (now (inbox .entry))) (crew .n)) ⌝ }
@@ -648,8 +644,7 @@ fn choose_by_class(
     votes: &[Plan; MOST_NODES],
     stamps: &[u8; MOST_NODES],
 ) -> Choice
-    requires { ⌜ (crew .n ≤ mostNodes) × (crew .d ≤ crew .n) × (crew .n ≤ slotsIn (length (now inbox)))
-        × AllListable (now present) (now inbox) (crew .n) ⌝ }
+    requires { ⌜ Choosable crew (now present) (now inbox) ⌝ }
     ensures { λ r. ⌜ choiceAs r ≡ selection (classOf crew) crew
         (polled (columns (now (present .entry)) (now (votes .entry)) (now (stamps .entry)))
         (historiesIn (now (inbox .entry))) (crew .n)) ⌝ }

@@ -49,13 +49,13 @@ loop-less c = search needs
 
 loop-again : tie.Need-loop-again Inv-loop μ-loop
 loop-again c =
-    let looped = c .before .before .before .before .before .loop in
-    let a = c .before .before .before .before .before .before .before .args in
+    let looped = c .before .before .before .before .before in
+    let a = looped .before .before .args in
     let test =
     hasListersAbove (now (a .marks)) (now (a .present)) (now (a .votes)) (now (a .stamps)) (now (a .inbox)) (a .n)
     (a .threshold) in
-    let joined = rw (looped .inv .so-far) at (c .with-listed .ensures) in
-    let next = backing-next test (λ k. getD (now (a .votes)) k 0) (looped .q) in
+    let joined = rw (looped .loop .inv .so-far) at (c .with-listed .ensures) in
+    let next = backing-next test (λ k. getD (now (a .votes)) k 0) (looped .loop .q) in
     record { within = omega arith; so-far = joined ∙ sym next }
 
 returns : tie.Need-returns Inv-loop μ-loop

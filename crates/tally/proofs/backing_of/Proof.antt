@@ -33,8 +33,9 @@ count-others-requires c κs = search needs
 
 returns : tie.Need-returns
 returns c =
-    let first = found (c .before .before .before .before) in
-    let a = c .before .before .before .before .before .before .before .args in
+    let told = c .before .before .before .before in
+    let first = found told in
+    let a = told .before .before .before .args in
     one-backed (marked (now (a .marks))) (λ k. getD (now (a .votes)) k 0) (a .n) _ (first .inside) (first .here)
     (sym (c .before .count-others .ensures .count) ∙ c .if1 .taken)
 
@@ -43,15 +44,17 @@ enum-told c = search needs
 
 returns-2 : tie.Need-returns-2
 returns-2 c =
-    let first = found (c .before .before .before .before) in
-    let a = c .before .before .before .before .before .before .before .args in
+    let told = c .before .before .before .before in
+    let first = found told in
+    let a = told .before .before .before .args in
     more-backed (marked (now (a .marks))) (λ k. getD (now (a .votes)) k 0) (a .n) _ (first .inside) (first .here)
     (λ e. c .if1 .left (c .before .count-others .ensures .count ∙ e))
 
 returns-3 : tie.Need-returns-3
 returns-3 c =
-    let a = c .before .before .before .args in
-    let none = first-none (now (a .marks)) (a .n) (c .enum-told .given .1) (c .before .before .first-marked .ensures) in
+    let searched = c .before .before in
+    let a = searched .before .args in
+    let none = first-none (now (a .marks)) (a .n) (c .enum-told .given .1) (searched .first-marked .ensures) in
     rw (← none (λ k. getD (now (a .votes)) k 0))
 
 pub backing-of-spec : {M : Type 1} → statement M

@@ -23,17 +23,17 @@ facts c = countable-facts _ (c .before .is-countable .ensures) (c .if1 .taken)
 
 choose-by-class-requires : tie.Need-choose-by-class-requires
 choose-by-class-requires c κs =
-    let slots = c .before .before .before .read-slots in
-    let tested = c .before .before .before .before .before .before .before in
+    let slots = c .before .before .before in
+    let tested = slots .before .before .before .before in
     let a = tested .before .before .before .args in
-    ready (a .crew) (a .run) (a .phase) (now (a .inbox)) _ (facts tested) (slots .ensures)
+    ready (a .crew) (a .run) (a .phase) (now (a .inbox)) _ (facts tested) (slots .read-slots .ensures)
 
 returns : tie.Need-returns
 returns c =
-    let slots = c .before .before .before .before .read-slots in
-    let tested = c .before .before .before .before .before .before .before .before in
+    let slots = c .before .before .before .before in
+    let tested = slots .before .before .before .before in
     let a = tested .before .before .before .args in
-    chosen (a .crew) (a .run) (a .phase) (now (a .inbox)) _ (facts tested) (slots .ensures) _
+    chosen (a .crew) (a .run) (a .phase) (now (a .inbox)) _ (facts tested) (slots .read-slots .ensures) _
     (c .choose-by-class .ensures)
 
 returns-2 : tie.Need-returns-2

@@ -32,16 +32,17 @@ answer-below-three-requires c κs = search needs
 returns : tie.Need-returns
 returns c =
     λ h.
-    let backs = c .before .before .before .mark-above in
-    let arrivals = c .before .before .before .before .before .count-marks in
-    let bounded = c .before .before .before .before .before .before .bound in
-    let a = c .before .before .before .before .before .before .before .before .args in
+    let backed = c .before .before .before in
+    let counted = backed .before .before in
+    let bounded = counted .before in
+    let a = bounded .before .before .args in
+    let backs = backed .mark-above .last .0 in
     let n = a .crew .n in
     let read = columns (now (a .present)) (now (a .votes)) (now (a .stamps)) in
-    selection-marked (a .crew) read h n one (backs .last .0) _ _ _
-    (backed-one-marks read h n (a .crew) (backs .last .0) (bounded .ensures) (backs .ensures))
+    selection-marked (a .crew) read h n one backs _ _ _
+    (backed-one-marks read h n (a .crew) backs (bounded .bound .ensures) (backed .mark-above .ensures))
     (c .answer-below-three .ensures .in-one) (c .before .backing-of .ensures)
-    (enough-one (a .crew) read h n (arrivals .ensures) (bounded .ensures))
+    (enough-one (a .crew) read h n (counted .count-marks .ensures) (bounded .bound .ensures))
 
 pub choose-one-spec : {M : Type 1} → statement M
 choose-one-spec =

@@ -36,7 +36,9 @@ answer-three-requires c κs = search needs
 
 -- where the function starts, and the columns that it is given
 abbrev startOf : tie.After-backing-listed → tie.Start
-startOf c = c .before .before .before .before .before .before .before .before
+startOf c =
+    let bounded = c .before .before .before .before in
+    bounded .before .before .before .before
 
 abbrev readOf : tie.Start → Columns
 readOf c = columns (now (c .args .present)) (now (c .args .votes)) (now (c .args .stamps))
@@ -57,7 +59,7 @@ answered c slots choice is is-enough =
     let h = historiesIn bytes in
     let possible = marks .last .0 in
     let are = possible-marks read h (crew .n) crew possible (bounded .ensures) (marks .ensures) in
-    let rows = listing-rows read bytes (crew .n) (start .pre .2) (start .pre .3) in
+    let rows = listing-rows read bytes (crew .n) (start .pre .slots) (start .pre .listable) in
     selection-tested crew read h (crew .n) three
     (hasListersAbove possible (read .present) (read .votes) (read .stamps) bytes (crew .n) (crew .b)) _ slots choice
     (backed-three-slots read h (crew .n) crew possible are bytes rows)
@@ -81,8 +83,9 @@ answer-three-requires-2 c κs = search needs
 
 returns-2 : tie.Need-returns-2
 returns-2 c =
-    let unstamped = c .before .before .before .mark-stamped in
-    let listed = c .before .before .before .before .before .before .before in
+    let marked = c .before .before .before in
+    let listed = marked .before .before .before .before in
+    let unstamped = marked .mark-stamped in
     let bounded = listed .before .before .before .before .bound in
     let start = startOf listed in
     let crew = start .args .crew in

@@ -38,18 +38,20 @@ answer-below-three-requires c κs = search needs
 returns : tie.Need-returns
 returns c =
     λ h.
-    let backs = c .before .before .before .mark-above2 in
-    let possible = c .before .before .before .before .before .before .mark-above in
-    let arrivals = c .before .before .before .before .before .before .before .before .count-marks in
-    let bounded = c .before .before .before .before .before .before .before .before .before .bound in
-    let a = c .before .before .before .before .before .before .before .before .before .before .before .before .args in
+    let backed = c .before .before .before in
+    let possible = backed .before .before .before in
+    let counted = possible .before .before in
+    let bounded = counted .before in
+    let a = bounded .before .before .before .args in
+    let marks = possible .mark-above .last .0 in
+    let backs = backed .mark-above2 .last .0 in
     let n = a .crew .n in
     let read = columns (now (a .present)) (now (a .votes)) (now (a .stamps)) in
-    let are = possible-marks read h n (a .crew) (possible .last .0) (bounded .ensures) (possible .ensures) in
-    selection-marked (a .crew) read h n two (backs .last .0) _ _ _
-    (backed-two-marks read h n (a .crew) (possible .last .0) are (backs .last .0) (backs .ensures))
+    let are = possible-marks read h n (a .crew) marks (bounded .bound .ensures) (possible .mark-above .ensures) in
+    selection-marked (a .crew) read h n two backs _ _ _
+    (backed-two-marks read h n (a .crew) marks are backs (backed .mark-above2 .ensures))
     (c .answer-below-three .ensures .in-two) (c .before .backing-of .ensures)
-    (enough-two (a .crew) read h n (arrivals .ensures) (bounded .ensures))
+    (enough-two (a .crew) read h n (counted .count-marks .ensures) (bounded .bound .ensures))
 
 pub choose-two-spec : {M : Type 1} → statement M
 choose-two-spec =

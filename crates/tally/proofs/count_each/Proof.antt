@@ -23,6 +23,10 @@ Inv-loop counts₀ marks votes stamps n stamped below count₀ q₀ counts count
 abbrev μ-loop : tie.MeasureT-loop
 μ-loop counts₀ marks votes stamps n stamped below count₀ q₀ counts count q = n - q
 
+-- where the function starts, from where it comes to the loop
+abbrev startOf : tie.After-count-supporting Inv-loop μ-loop → tie.Start Inv-loop μ-loop
+startOf c = c .before .before .before .before
+
 element-copy-out-below-of : tie.Need-element-copy-out-below-of Inv-loop μ-loop
 element-copy-out-below-of c = search needs
 
@@ -41,7 +45,7 @@ element-write-counts c = search needs
 loop-holds : tie.Need-loop-holds Inv-loop μ-loop
 loop-holds c =
     let bounded = c .before .before .below-of in
-    let start = c .before .before .before .before in
+    let start = startOf c in
     let a = start .args in
     let first = counted-supporters (now (a .marks)) (now (a .votes)) (now (a .stamps)) (a .n) (a .stamped) 0 _ _
     (bounded .ensures) (c .count-supporting .ensures) in
@@ -55,7 +59,12 @@ sub-count-next : tie.Need-sub-count-next Inv-loop μ-loop
 sub-count-next c = search needs
 
 count-next-requires : tie.Need-count-next-requires Inv-loop μ-loop
-count-next-requires c κs = (omega arith, omega arith, omega arith, c .before .loop .inv .last-one)
+count-next-requires c κs = record {
+  nodes = omega arith;
+  slot-inside = omega arith;
+  last-inside = omega arith;
+  last-count = c .before .loop .inv .last-one;
+}
 
 mul-counts : tie.Need-mul-counts Inv-loop μ-loop
 mul-counts c = search needs
@@ -71,14 +80,14 @@ loop-less c = search needs
 
 loop-again : tie.Need-loop-again Inv-loop μ-loop
 loop-again c =
-    let looped = c .before .before .loop in
-    let a = c .before .before .before .before .before .before .before .args in
+    let looped = c .before .before in
+    let a = startOf (looped .before) .args in
     let number = supporters (now (a .marks)) (now (a .votes)) (now (a .stamps)) (a .n) (a .stamped) in
-    let same : looped .q + 1 - 1 ≡ looped .q = omega arith in
+    let same : looped .loop .q + 1 - 1 ≡ looped .loop .q = omega arith in
     record {
       started = omega arith;
       last-one = c .count-next .ensures ∙ ap number (sym same);
-      column = filling-more _ (omega arith) (looped .inv .column) (c .count-next .ensures);
+      column = filling-more _ (omega arith) (looped .loop .inv .column) (c .count-next .ensures);
     }
 
 returns : tie.Need-returns Inv-loop μ-loop

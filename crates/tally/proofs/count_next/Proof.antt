@@ -37,14 +37,14 @@ element-copy-out-again-2 c = search needs
 returns : tie.Need-returns
 returns c =
     let same = both-true _ _ (c .if1 .taken) in
-    let last-below = c .before .before .before .below-of2 in
-    let below = c .before .before .before .before .before .below-of in
-    let start = c .before .before .before .before .before .before .before in
+    let last-below = c .before .before .before in
+    let below = last-below .before .before in
+    let start = below .before .before in
     let a = start .args in
-    start .pre .3
+    start .pre .last-count
     ∙ ap₂ (λ v b. tally (supporting (now (a .marks)) (now (a .votes)) (now (a .stamps)) v b) (a .n))
     (sym (eqb-true _ _ (same .0)))
-    (sym (last-below .ensures) ∙ sym (eqb-true _ _ (same .1)) ∙ below .ensures)
+    (sym (last-below .below-of2 .ensures) ∙ sym (eqb-true _ _ (same .1)) ∙ below .below-of .ensures)
 
 mul-count-supporting : tie.Need-mul-count-supporting
 mul-count-supporting c = search needs
@@ -57,10 +57,12 @@ count-supporting-requires c κs = search needs
 
 returns-2 : tie.Need-returns-2
 returns-2 c =
-    let below = c .before .before .before .before .before .before .before .below-of in
-    let a = c .before .before .before .before .before .before .before .before .before .args in
+    let tested = c .before .before in
+    let last-below = tested .before .before .before in
+    let below = last-below .before .before in
+    let a = below .before .before .args in
     counted-supporters (now (a .marks)) (now (a .votes)) (now (a .stamps)) (a .n) (a .stamped) (a .q) _ _
-    (below .ensures) (c .count-supporting .ensures)
+    (below .below-of .ensures) (c .count-supporting .ensures)
 
 pub count-next-spec : {M : Type 1} → statement M
 count-next-spec =

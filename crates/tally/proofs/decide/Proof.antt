@@ -23,15 +23,17 @@ facts c = countable-facts _ (c .before .is-countable .ensures) (c .if1 .taken)
 
 least-deciding-requires : tie.Need-least-deciding-requires
 least-deciding-requires c κs =
-    let counted = facts (c .before .before .before .before .before .before .before) in
+    let slots = c .before .before .before in
+    let counted = facts (slots .before .before .before .before) in
     (counted .places, counted .some)
 
 returns : tie.Need-returns
 returns c =
-    let slots = c .before .before .before .before .read-slots in
-    let tested = c .before .before .before .before .before .before .before .before in
+    let slots = c .before .before .before .before in
+    let tested = slots .before .before .before .before in
     let a = tested .before .before .before .args in
-    decided-heard (a .crew) (a .run) (a .phase) (now (a .inbox)) _ (facts tested) (slots .ensures) _ (c .least-deciding .ensures)
+    decided-heard (a .crew) (a .run) (a .phase) (now (a .inbox)) _ (facts tested) (slots .read-slots .ensures) _
+    (c .least-deciding .ensures)
 
 returns-2 : tie.Need-returns-2
 unfolding decidedIn

@@ -4,9 +4,9 @@ use Prim.Native.Nat.{_-_}
 use native.Mathlib.Omega.{arith}
 use borrow.Author.Needs.{needs}
 use denote.Ref.{now}
-use Rattle.tally.proofs.Marking.{least-passed}
+use Rattle.tally.proofs.Marking.{none-marked-more}
 use Rattle.tally.proofs.Tallies.{Through, through-all}
-use Rattle.tally.specs.Marks.{marked, leastMarked, NoneMarked}
+use Rattle.tally.specs.Marks.{leastMarked, NoneMarked}
 use Rattle.tally.proofs.first_marked.Statement.{statement}
 use Rattle.tally.proofs.first_marked.Tie as tie
 
@@ -36,11 +36,11 @@ loop-less c = search needs
 
 loop-again : tie.Need-loop-again Inv-loop μ-loop
 loop-again c =
-    let looped = c .before .before .before .loop in
-    let marks = now (c .before .before .before .before .args .marks) in
+    let looped = c .before .before .before in
+    let marks = now (looped .before .args .marks) in
     record {
       within = omega arith;
-      so-far = λ vote. least-passed (marked marks) vote (looped .q) (c .if1 .left) (looped .inv .so-far vote);
+      so-far = none-marked-more marks (looped .loop .q) (c .if1 .left) (looped .loop .inv .so-far);
     }
 
 returns-2 : tie.Need-returns-2 Inv-loop μ-loop

@@ -42,10 +42,10 @@ loop-less c = search needs
 
 loop-again : tie.Need-loop-again Inv-loop μ-loop
 loop-again c =
-    let looped = c .before .before .before .before .loop in
-    let a = c .before .before .before .before .before .args in
-    let turned = highest-turn (marked (now (a .present))) (λ k. getD (now (a .counts)) k 0) (looped .q) (looped .best)
-    (looped .inv .so-far) in
+    let looped = c .before .before .before .before in
+    let a = looped .before .args in
+    let turned = highest-turn (marked (now (a .present))) (λ k. getD (now (a .counts)) k 0) (looped .loop .q)
+    (looped .loop .best) (looped .loop .inv .so-far) in
     record { within = omega arith; so-far = c .higher-of .ensures ∙ turned }
 
 returns : tie.Need-returns Inv-loop μ-loop

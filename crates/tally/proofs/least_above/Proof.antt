@@ -18,7 +18,8 @@ least-above-from-requires : tie.Need-least-above-from-requires
 least-above-from-requires c κs =
     let told = c .before in
     let a = told .before .before .before .args in
-    let first = first-slot (now (a .marks)) (a .n) (told .first .given .1) (told .before .before .first-marked .ensures) in
+    let searched = told .before .before .first-marked in
+    let first = first-slot (now (a .marks)) (a .n) (told .first .given .1) (searched .ensures) in
     (omega arith, first)
 
 enum-told : tie.Need-enum-told
@@ -29,8 +30,9 @@ returns c = search needs
 
 returns-2 : tie.Need-returns-2
 returns-2 c =
-    let a = c .before .before .before .args in
-    let none = first-none (now (a .marks)) (a .n) (c .enum-told .given .1) (c .before .before .first-marked .ensures) in
+    let searched = c .before .before in
+    let a = searched .before .args in
+    let none = first-none (now (a .marks)) (a .n) (c .enum-told .given .1) (searched .first-marked .ensures) in
     ap orZero (none-over (now (a .marks)) (now (a .votes)) (now (a .stamps)) (a .n) (a .threshold) (a .n) none)
 
 pub least-above-spec : {M : Type 1} → statement M

@@ -77,8 +77,9 @@ loop-less c = search needs
 
 loop-again : tie.Need-loop-again Inv-loop μ-loop
 loop-again c =
-    let looped = c .before .before .before .before .loop in
-    let a = c .before .before .before .before .before .before .before .args in
+    let looped = c .before .before .before .before in
+    let a = looped .before .before .before .args in
+    let q = looped .loop .q in
     let marks = now (a .marks) in
     let votes = now (a .votes) in
     let stamps = now (a .stamps) in
@@ -87,25 +88,26 @@ loop-again c =
       so-far = elim (c .if1 .came) [
         | inl other ↦
             rw (other .4, other .5, other .6, other .3 .ensures)
-            (sought-next marks votes stamps (a .n) (a .threshold) (looped .q) _ (both-true _ _ (other .0 .taken) .0) _
-            (ap (ltb (a .threshold)) (sym (other .2 .ensures .count))) (looped .inv .so-far .least-so-far))
+            (sought-next marks votes stamps (a .n) (a .threshold) q _ (both-true _ _ (other .0 .taken) .0) _
+            (ap (ltb (a .threshold)) (sym (other .2 .ensures .count))) (looped .loop .inv .so-far .least-so-far))
         | inr same ↦
             rw (same .1, same .2, same .3)
-            (sought-same marks votes stamps (a .n) (a .threshold) (looped .q) (looped .last) _ (same .0 .left)
-            (looped .inv .so-far))
+            (sought-same marks votes stamps (a .n) (a .threshold) q (looped .loop .last) _ (same .0 .left)
+            (looped .loop .inv .so-far))
       ];
     }
 
 -- behind the loop: what was found is the least vote that is over
 found : (c : tie.After-loop Inv-loop μ-loop)
-    → let a = c .before .before .before .before .args in
-    cond (c .before .loop .found) (c .before .loop .least) 0
+    → let looped = c .before in
+    let a = looped .before .before .before .args in
+    cond (looped .loop .found) (looped .loop .least) 0
     ≡ orZero (leastOver (now (a .marks)) (now (a .votes)) (now (a .stamps)) (a .n) (a .threshold) (a .n))
 found c =
-    let looped = c .before .loop in
-    let a = c .before .before .before .before .args in
-    sought-done (now (a .marks)) (now (a .votes)) (now (a .stamps)) (a .n) (a .threshold) (looped .last)
-    (looped .found) (looped .least) (through-all (looped .inv) (c .loop-test .left))
+    let looped = c .before in
+    let a = looped .before .before .before .args in
+    sought-done (now (a .marks)) (now (a .votes)) (now (a .stamps)) (a .n) (a .threshold) (looped .loop .last)
+    (looped .loop .found) (looped .loop .least) (through-all (looped .loop .inv) (c .loop-test .left))
 
 returns : tie.Need-returns Inv-loop μ-loop
 returns c = ap (λ b. cond b (c .before .before .loop .least) 0) (sym (c .if2 .taken)) ∙ found (c .before)

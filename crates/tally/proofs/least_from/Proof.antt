@@ -51,10 +51,10 @@ loop-less c = search needs
 
 loop-again : tie.Need-loop-again Inv-loop μ-loop
 loop-again c =
-    let looped = c .before .before .before .before .loop in
-    let a = c .before .before .before .before .before .before .args in
-    let turned = least-turn (marked (now (a .marks))) (λ k. getD (now (a .votes)) k 0) (looped .q) (looped .least)
-    (looped .inv .so-far) in
+    let looped = c .before .before .before .before in
+    let a = looped .before .before .args in
+    let turned = least-turn (marked (now (a .marks))) (λ k. getD (now (a .votes)) k 0) (looped .loop .q)
+    (looped .loop .least) (looped .loop .inv .so-far) in
     record { within = omega arith; so-far = ap some (c .lower-of .ensures) ∙ turned }
 
 returns : tie.Need-returns Inv-loop μ-loop

@@ -22,7 +22,8 @@ least-from-requires c κs =
     let told = c .before in
     let a = told .before .before .before .args in
     let vote : ℕ → ℕ = λ k. getD (now (a .votes)) k 0 in
-    let first = first-slot (now (a .marks)) (a .n) (told .first .given .1) (told .before .before .first-marked .ensures) in
+    let searched = told .before .before .first-marked in
+    let first = first-slot (now (a .marks)) (a .n) (told .first .given .1) (searched .ensures) in
     (omega arith, first .inside, least-first (marked (now (a .marks))) vote _ (first .here) (first .none-before vote))
 
 enum-told : tie.Need-enum-told
@@ -33,8 +34,9 @@ returns c = ap orZero (c .least-from .ensures)
 
 returns-2 : tie.Need-returns-2
 returns-2 c =
-    let a = c .before .before .before .args in
-    let none = first-none (now (a .marks)) (a .n) (c .enum-told .given .1) (c .before .before .first-marked .ensures) in
+    let searched = c .before .before in
+    let a = searched .before .args in
+    let none = first-none (now (a .marks)) (a .n) (c .enum-told .given .1) (searched .first-marked .ensures) in
     ap orZero (none (λ k. getD (now (a .votes)) k 0))
 
 pub least-marked-spec : {M : Type 1} → statement M

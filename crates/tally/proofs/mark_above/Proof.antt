@@ -17,22 +17,27 @@ use Rattle.tally.proofs.Marking.{
   over-next,
   either-below,
 }
-use Rattle.tally.specs.Marks.{marked, supporters, over}
+use Rattle.tally.specs.Marks.{marked, supporters, above}
 use Rattle.tally.proofs.mark_above.Statement.{statement}
 use Rattle.tally.proofs.mark_above.Tie as tie
 
 -- The invariant: the first q slots are marked as they should be, and `count` is that of the slot that was counted last.
-record MarkedTo (present : List Bool) (number : ℕ → ℕ) (threshold : ℕ) (out : List Bool) (count last q : ℕ) : Type 0 where
+record MarkedTo (test : ℕ → Bool) (number : ℕ → ℕ) (out : List Bool) (count last q : ℕ) : Type 0 where
   last-inside : last < mostNodes
   last-count : count ≡ number last
-  column : Filling false (over present number threshold) out q
+  column : Filling false test out q
 
 abbrev Inv-loop : tie.InvT-loop
 Inv-loop out₀ present marks votes stamps n threshold stamped below count₀ last₀ q₀ out count last q =
-    MarkedTo present (supporters marks votes stamps n stamped) threshold out count last q
+    MarkedTo (above present marks votes stamps n threshold stamped) (supporters marks votes stamps n stamped) out count
+    last q
 
 abbrev μ-loop : tie.MeasureT-loop
 μ-loop out₀ present marks votes stamps n threshold stamped below count₀ last₀ q₀ out count last q = n - q
+
+-- where the function starts, from where it comes to the loop
+abbrev startOf : tie.After-out Inv-loop μ-loop → tie.Start Inv-loop μ-loop
+startOf c = c .before .before .before .before .before
 
 element-copy-out-below-of : tie.Need-element-copy-out-below-of Inv-loop μ-loop
 element-copy-out-below-of c = search needs
@@ -54,12 +59,12 @@ element-write-out c = search needs
 
 loop-holds : tie.Need-loop-holds Inv-loop μ-loop
 loop-holds c =
-    let counted = c .before .count-supporting in
-    let bounded = c .before .before .before .below-of in
-    let start = c .before .before .before .before .before in
+    let counted = c .before in
+    let bounded = counted .before .before in
+    let start = startOf c in
     let a = start .args in
     let first = counted-supporters (now (a .marks)) (now (a .votes)) (now (a .stamps)) (a .n) (a .stamped) 0 _ _
-    (bounded .ensures) (counted .ensures) in
+    (bounded .below-of .ensures) (counted .count-supporting .ensures) in
     let over-first = ap (λ count. marked (now (a .present)) 0 && ltb (a .threshold) count) first in
     record {
       last-inside = omega arith;
@@ -73,7 +78,12 @@ element-copy-out-count-present c = search needs
 count-present-requires : tie.Need-count-present-requires Inv-loop μ-loop
 count-present-requires c κs =
     let looped = c .before .before .loop in
-    (omega arith, omega arith, looped .inv .last-inside, looped .inv .last-count)
+    record {
+      nodes = omega arith;
+      slot-inside = omega arith;
+      last-inside = looped .inv .last-inside;
+      last-count = looped .inv .last-count;
+    }
 
 element-copy-out-last-counted : tie.Need-element-copy-out-last-counted Inv-loop μ-loop
 element-copy-out-last-counted c = search needs
@@ -95,21 +105,25 @@ loop-less c = search needs
 
 loop-again : tie.Need-loop-again Inv-loop μ-loop
 loop-again c =
-    let last = c .before .last-counted in
-    let counted = c .before .before .before .count-present in
-    let looped = c .before .before .before .before .before .before .loop in
-    let a = c .before .before .before .before .before .before .before .before .before .before .before .before .args in
+    let moved = c .before in
+    let counted = moved .before .before in
+    let turned = counted .before .before in
+    let looped = turned .before in
+    let start = startOf (looped .before) in
+    let a = start .args in
     let number = supporters (now (a .marks)) (now (a .votes)) (now (a .stamps)) (a .n) (a .stamped) in
-    let here = marked (now (a .present)) (looped .q) in
+    let q = looped .loop .q in
+    let last = looped .loop .last in
+    let count = counted .count-present in
+    let inside : q < mostNodes = omega (arith, turned .loop-test .taken, start .pre .0) in
     record {
       last-inside =
-          rw (last .ensures)
-          (either-below here (looped .q) (looped .last) mostNodes (omega arith) (looped .inv .last-inside));
-      last-count = counted .ensures ∙ ap number (sym (last .ensures));
+          rw (moved .last-counted .ensures)
+          (either-below (marked (now (a .present)) q) q last mostNodes inside (looped .loop .inv .last-inside));
+      last-count = count .ensures ∙ ap number (sym (moved .last-counted .ensures));
       column =
-          filling-more _ (omega arith) (looped .inv .column)
-          (over-next (now (a .present)) number (a .threshold) (looped .q) (looped .last) (counted .result)
-          (counted .ensures));
+          filling-more _ inside (looped .loop .inv .column)
+          (over-next (now (a .present)) number (a .threshold) q last (count .result) (count .ensures));
     }
 
 returns : tie.Need-returns Inv-loop μ-loop

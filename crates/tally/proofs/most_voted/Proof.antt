@@ -54,20 +54,21 @@ returns-2 : tie.Need-returns-2
 unfolding mostVoted
 returns-2 c =
     λ h.
-    let leaders = c .before .before .mark-over in
-    let some = c .before .before .before .before .before .if1 in
-    let found = c .before .before .before .before .before .before in
-    let counts = found .before .before .count-each in
-    let start = found .before .before .before .before in
+    let marked-over = c .before .before in
+    let tested = marked-over .before .before .before in
+    let found = tested .before in
+    let counted = found .before .before in
+    let start = counted .before .before in
+    let leaders = marked-over .mark-over in
     let n = start .args .n in
     let read = readOf start in
     let best = found .highest-count .result in
     let here = marked (read .present) in
-    let voted : 1 ≤ most read h n = omega (arith, some .left, highest found h) in
+    let voted : 1 ≤ most read h n = omega (arith, tested .if1 .left, highest found h) in
     c .least-marked .ensures
     ∙ sym (least-of read h n (leading (polled read h n)) (marked (leaders .last .0))
     (λ q less. leaders .ensures q less
-    ∙ ap (λ count. here q && ltb (best - 1) count) (counts .ensures q less)
+    ∙ ap (λ count. here q && ltb (best - 1) count) (counted .count-each .ensures q less)
     ∙ ap (λ top. here q && ltb (top - 1) (votesFor read h n (getD (read .votes) q 0))) (highest found h)
     ∙ sym (leading-slot read h n voted q)))
 

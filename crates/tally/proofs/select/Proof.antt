@@ -23,22 +23,25 @@ facts c = countable-facts _ (c .before .is-countable .ensures) (c .if1 .taken)
 
 choose-by-class-requires : tie.Need-choose-by-class-requires
 choose-by-class-requires c κs =
-    let slots = c .before .before .before .read-slots in
-    let tested = c .before .before .before .before .before .before .before in
+    let slots = c .before .before .before in
+    let tested = slots .before .before .before .before in
     let a = tested .before .before .before .args in
-    ready (a .crew) (a .run) (a .phase) (now (a .inbox)) _ (facts tested) (slots .ensures)
+    ready (a .crew) (a .run) (a .phase) (now (a .inbox)) _ (facts tested) (slots .read-slots .ensures)
 
 take-on-requires : tie.Need-take-on-requires
-take-on-requires c κs = facts (c .before .before .before .before .before .before .before .before .before .before .before) .places
+take-on-requires c κs =
+    let chosen = c .before .before .before in
+    let slots = chosen .before .before .before .before in
+    facts (slots .before .before .before .before) .places
 
 returns : tie.Need-returns
 returns c =
-    let choice = c .before .before .before .before .choose-by-class in
-    let slots = c .before .before .before .before .before .before .before .before .read-slots in
-    let tested = c .before .before .before .before .before .before .before .before .before .before .before .before in
+    let chosen = c .before .before .before .before in
+    let slots = chosen .before .before .before .before in
+    let tested = slots .before .before .before .before in
     let a = tested .before .before .before .args in
-    taken-heard (a .crew) (a .run) (a .phase) (now (a .inbox)) _ (facts tested) (slots .ensures) _ _
-    (choice .ensures) (c .take-on .ensures)
+    taken-heard (a .crew) (a .run) (a .phase) (now (a .inbox)) _ (facts tested) (slots .read-slots .ensures) _ _
+    (chosen .choose-by-class .ensures) (c .take-on .ensures)
 
 returns-2 : tie.Need-returns-2
 unfolding choiceOf

@@ -22,14 +22,18 @@ facts : (c : tie.Then1)
 facts c = countable-facts _ (c .before .is-countable .ensures) (c .if1 .taken)
 
 least-valid-requires : tie.Need-least-valid-requires
-least-valid-requires c κs = facts (c .before .before .before .before .before .before .before) .places
+least-valid-requires c κs =
+    let slots = c .before .before .before in
+    let tested = slots .before .before .before .before in
+    facts tested .places
 
 returns : tie.Need-returns
 returns c =
-    let slots = c .before .before .before .before .read-slots in
-    let tested = c .before .before .before .before .before .before .before .before in
+    let slots = c .before .before .before .before in
+    let tested = slots .before .before .before .before in
     let a = tested .before .before .before .args in
-    valid-heard (a .crew) (a .run) (a .phase) (now (a .inbox)) _ (facts tested) (slots .ensures) _ (c .least-valid .ensures)
+    valid-heard (a .crew) (a .run) (a .phase) (now (a .inbox)) _ (facts tested) (slots .read-slots .ensures) _
+    (c .least-valid .ensures)
 
 returns-2 : tie.Need-returns-2
 unfolding validIn
