@@ -31,7 +31,8 @@ pub record CountedLast (marks : List Bool) (votes stamps : List ℕ) (n : ℕ) (
   pub last-inside : last < mostNodes
   pub last-count : before ≡ supporters marks votes stamps n stamped last
 
--- what selection asks: every node has a place in the columns and a slot in the inbox, and histories can be looked up
+-- what selection asks: every node has a place in the columns and a slot in the inbox, D is at most n, and histories
+-- can be looked up
 pub record Choosable (crew : Crew) (present : List Bool) (bytes : List ℕ) : Type 0 where
   pub places : crew .n ≤ mostNodes
   pub within : crew .d ≤ crew .n

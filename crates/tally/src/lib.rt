@@ -1,7 +1,8 @@
 // The three rules on an inbox's bytes: selection, validation and decision. Crate inbox reads the bytes into columns;
 // the rules go by counts of marked slots over these. Only selection in class 3 looks at histories: what the others
 // answer holds whatever these are.
-// What each answers stands in specs/Rules.antt, the counts in specs/Marks.antt. Crate rounds acts on the answers.
+// What each answers stands in specs/Rules.antt, the counts in specs/Marks.antt, what private functions ask and promise
+// in several parts in specs/Promises.antt. Crate rounds acts on the answers.
 use crew::Crew;
 use crew::MOST_NODES;
 use message::SLOT;

@@ -23,22 +23,25 @@ count-each-requires c κs = search needs
 highest-count-requires : tie.Need-highest-count-requires
 highest-count-requires c κs = search needs
 
+-- where the function starts, from where the highest count is known, and the columns that it is given
+abbrev startOf : tie.After-highest-count → tie.Start
+startOf c = c .before .before .before .before
+
 abbrev readOf : tie.Start → Columns
 readOf c = columns (now (c .args .present)) (now (c .args .votes)) (now (c .args .stamps))
 
 -- the highest of the counts is how many slots vote for the plan of most votes
 highest : (c : tie.After-highest-count) (h : ℕ → List Entry)
-    → let start = c .before .before .before .before in
-    c .highest-count .result ≡ most (readOf start) h (start .args .n)
+    → c .highest-count .result ≡ most (readOf (startOf c)) h (startOf c .args .n)
 highest c h =
     let counts = c .before .before .count-each in
-    let a = c .before .before .before .before .args in
+    let a = startOf c .args in
     c .highest-count .ensures ∙ highest-same (marked (now (a .present))) _ _ (a .n) (counts .ensures)
 
 returns : tie.Need-returns
 returns c =
     λ h.
-    let start = c .before .before .before .before .before in
+    let start = startOf (c .before) in
     sym (no-votes (readOf start) h (start .args .n) (sym (highest (c .before) h) ∙ c .if1 .taken))
 
 sub-mark-over : tie.Need-sub-mark-over
@@ -58,7 +61,7 @@ returns-2 c =
     let tested = marked-over .before .before .before in
     let found = tested .before in
     let counted = found .before .before in
-    let start = counted .before .before in
+    let start = startOf found in
     let leaders = marked-over .mark-over in
     let n = start .args .n in
     let read = readOf start in
