@@ -31,6 +31,11 @@ pub record CountedLast (marks : List Bool) (votes stamps : List ℕ) (n : ℕ) (
   pub last-inside : last < mostNodes
   pub last-count : before ≡ supporters marks votes stamps n stamped last
 
+-- what is asked where a column is to be filled for n slots
+pub record Fillable {A : Type 0} (n : ℕ) (column : List A) : Type 0 where
+  pub nodes : n ≤ mostNodes
+  pub long : length column ≡ mostNodes
+
 -- what selection asks: every node has a place in the columns and a slot in the inbox, D is at most n, and histories
 -- can be looked up
 pub record Choosable (crew : Crew) (present : List Bool) (bytes : List ℕ) : Type 0 where

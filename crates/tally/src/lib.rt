@@ -14,7 +14,7 @@ ghost use mathlib.Core.List.{List};
 ghost use mathlib.Core.Option.{some};
 ghost use lib.Dec.{ltb};
 ghost use Prim.Native.Nat.{ℕ, _+_, _-_, _<_, _≤_};
-ghost use lib.ListN.{length, getD};
+ghost use lib.ListN.{getD};
 ghost use Rattle.wire.specs.Entry.{Entry};
 ghost use Rattle.ballot.specs.Count.{tally};
 ghost use Rattle.ballot.specs.Least.{lower, orZero};
@@ -47,7 +47,15 @@ ghost use Rattle.tally.specs.Marks.{
   isBacked,
   highest,
 };
-ghost use Rattle.tally.specs.Promises.{OneIf, Counted, CountedLast, Choosable, Bounded, AnsweredAlike};
+ghost use Rattle.tally.specs.Promises.{
+  OneIf,
+  Counted,
+  CountedLast,
+  Fillable,
+  Choosable,
+  Bounded,
+  AnsweredAlike,
+};
 ghost use Rattle.tally.specs.Rules.{countable, choiceAs, choiceOf, selected, validIn, decidedIn};
 
 fn one_if(test: bool) -> u16
@@ -187,7 +195,7 @@ fn count_each(
     n: usize,
     stamped: bool,
 )
-    requires { ⌜ (n ≤ mostNodes) × (length (now counts) ≡ mostNodes) ⌝ }
+    requires { ⌜ Fillable n (now counts) ⌝ }
     ensures { λ _. ⌜ Counts (now (counts .exit)) n
         (supporters (now (marks .entry)) (now (votes .entry)) (now (stamps .entry)) n stamped) ⌝ }
 {
@@ -210,7 +218,7 @@ fn mark_over(
     n: usize,
     threshold: u16,
 )
-    requires { ⌜ (n ≤ mostNodes) × (length (now out) ≡ mostNodes) ⌝ }
+    requires { ⌜ Fillable n (now out) ⌝ }
     ensures { λ _. ⌜ Marks (now (out .exit)) n
         (over (now (present .entry)) (λ q. getD (now (counts .entry)) q 0) threshold) ⌝ }
 {
@@ -232,7 +240,7 @@ fn mark_above(
     threshold: u16,
     stamped: bool,
 )
-    requires { ⌜ (n ≤ mostNodes) × (length (now out) ≡ mostNodes) ⌝ }
+    requires { ⌜ Fillable n (now out) ⌝ }
     ensures { λ _. ⌜ Marks (now (out .exit)) n
         (above (now (present .entry)) (now (marks .entry)) (now (votes .entry)) (now (stamps .entry)) n threshold
         stamped) ⌝ }
@@ -258,7 +266,7 @@ fn mark_stamped(
     n: usize,
     stamp: u8,
 )
-    requires { ⌜ (n ≤ mostNodes) × (length (now out) ≡ mostNodes) ⌝ }
+    requires { ⌜ Fillable n (now out) ⌝ }
     ensures { λ _. ⌜ Marks (now (out .exit)) n (stampedWith (now (present .entry)) (now (stamps .entry)) stamp) ⌝ }
 {
     let mut q = 0;

@@ -52,7 +52,7 @@ loop-holds c =
     record {
       started = omega arith;
       last-one = first;
-      column = filling-more _ (omega arith) (filling-none (now (a .counts)) (start .pre .1)) first;
+      column = filling-more _ (omega arith) (filling-none (now (a .counts)) (start .pre .long)) first;
     }
 
 sub-count-next : tie.Need-sub-count-next Inv-loop μ-loop

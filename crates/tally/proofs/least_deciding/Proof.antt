@@ -29,11 +29,12 @@ returns c =
     let tested = c .before in
     let start = tested .before .before .before .before in
     let a = start .args in
+    let some = start .pre .1 in
     let crew = a .crew in
     let read = columns (now (a .present)) (now (a .votes)) (now (a .stamps)) in
     rw (eq-eqb _ _ (tested .if1 .taken))
     (c .least-above .ensures
-    ∙ sym (decided-least read h (crew .n) crew one (a .phase) (read .present) (start .pre .1)
+    ∙ sym (decided-least read h (crew .n) crew one (a .phase) (read .present) some
     (fresh-one read h (crew .n) (a .phase))))
 
 mark-stamped-requires : tie.Need-mark-stamped-requires
@@ -48,13 +49,14 @@ returns-2 c =
     let tested = c .before .before .before .before in
     let start = tested .before .before .before .before in
     let a = start .args in
+    let some = start .pre .1 in
     let crew = a .crew in
     let read = columns (now (a .present)) (now (a .votes)) (now (a .stamps)) in
     let second = eqb (crew .class) 2 in
     let marks = c .before .before .mark-stamped in
     rw (ne-eqb _ _ (tested .if1 .left))
     (c .least-above2 .ensures
-    ∙ sym (decided-least read h (crew .n) crew (cond second two three) (a .phase) (marks .last .0) (start .pre .1)
+    ∙ sym (decided-least read h (crew .n) crew (cond second two three) (a .phase) (marks .last .0) some
     (fresh-later read h (crew .n) second (a .phase) (marks .last .0) (marks .ensures))))
 
 pub least-deciding-spec : {M : Type 1} → statement M

@@ -69,7 +69,7 @@ loop-holds c =
     record {
       last-inside = omega arith;
       last-count = first;
-      column = filling-more _ (omega arith) (filling-none (now (a .out)) (start .pre .1)) over-first;
+      column = filling-more _ (omega arith) (filling-none (now (a .out)) (start .pre .long)) over-first;
     }
 
 element-copy-out-count-present : tie.Need-element-copy-out-count-present Inv-loop μ-loop
@@ -115,7 +115,7 @@ loop-again c =
     let q = looped .loop .q in
     let last = looped .loop .last in
     let count = counted .count-present in
-    let inside : q < mostNodes = omega (arith, turned .loop-test .taken, start .pre .0) in
+    let inside : q < mostNodes = omega (arith, turned .loop-test .taken, start .pre .nodes) in
     record {
       last-inside =
           rw (moved .last-counted .ensures)
