@@ -15,25 +15,29 @@ use Rattle.script.specs.Fields.{largest, digitOf, valueFrom, starts}
 use Rattle.script.specs.declared.Number.{Number}
 use Rattle.script.specs.declared.Number.the-variants.{Value, Bad}
 
-module _ (b i : ℕ) (s : List ℕ) where
-  pub until-here : i < length s → getD s i 0 ≡ b → until b (drop i s) ≡ 0
+-- a turn of the search for b, which from place i on comes to r
+module _ (b i : ℕ) (s : List ℕ) (r : ℕ) (inv : i + until b (drop i s) ≡ r) where
+  pub found-here : i < length s → getD s i 0 ≡ b → i ≡ r
   unfolding until
-  until-here h e = rw (drop-cons s i 0 h, eq-eqb _ _ e)
+  found-here h e = let none : until b (drop i s) ≡ 0 = rw (drop-cons s i 0 h, eq-eqb _ _ e) in omega arith
 
-  pub until-more : i < length s → (getD s i 0 ≡ b → ⊥) → until b (drop i s) ≡ suc (until b (drop (i + 1) s))
+  pub found-later : i < length s → (getD s i 0 ≡ b → ⊥) → i + 1 + until b (drop (i + 1) s) ≡ r
   unfolding until
-  until-more h e = rw (drop-cons s i 0 h, add-one i, ne-eqb _ _ e)
+  found-later h e =
+      let more : until b (drop i s) ≡ suc (until b (drop (i + 1) s)) =
+      rw (drop-cons s i 0 h, add-one i, ne-eqb _ _ e) in
+      omega arith
 
-  pub until-end : length s ≤ i → until b (drop i s) ≡ 0
+  pub found-none : length s ≤ i → i ≡ r
   unfolding until
-  until-end h = rw (drop-of-length-le s h)
+  found-none h = let none : until b (drop i s) ≡ 0 = rw (drop-of-length-le s h) in omega arith
 
 module _ (s : List ℕ) (v i : ℕ) where
   -- what the digit at the place is worth
   abbrev here : ℕ
   here = digitOf (getD s i 0)
 
-  pub value-step : i < length s
+  value-step : i < length s
       → valueFrom v (drop i s)
       ≡ cond (ltb here 10 && leb (10 * v + here) largest)
       (valueFrom (10 * v + here) (drop (i + 1) s)) Bad

@@ -91,30 +91,36 @@ numbers-none k vs r e = e
 abbrev after : ℕ → ℕ → List ℕ → List (List ℕ)
 after b e s = cond (ltb e (length s)) (split b (drop (e + 1) s)) []
 
-module _ (at e k : ℕ) (s vs : List ℕ) (r : Numbers) (inside : at ≤ length s)
-    (found : e ≡ at + until space (drop at s))
-    (inv : numbersFrom (split space (drop at s)) k vs ≡ r)
-    (m : Number) (read : m ≡ numberOf (take (e - at) (drop at s))) where
+-- A turn of the loop over the fields: k numbers are laid in vs, the field from `at` to e reads m, and the fields from
+-- that one on, laid after those numbers, give r.
+pub record Turn (s vs : List ℕ) (k at e : ℕ) (m : Number) (r : Numbers) : Type 0 where
+  pub inside : at ≤ length s
+  pub found : e ≡ at + until space (drop at s)
+  pub read : m ≡ numberOf (take (e - at) (drop at s))
+  pub gives : numbersFrom (split space (drop at s)) k vs ≡ r
+
+module _ {s vs : List ℕ} {k at e : ℕ} {m : Number} {r : Numbers} (turn : Turn s vs k at e m r) where
   piece : (t : Bool) → ltb e (length s) ≡ t
       → split space (drop at s) ≡ take (e - at) (drop at s) ∷ cond t (split space (drop (e + 1) s)) []
-  piece true h = piece-first space at e s inside found (ltb-true _ _ h)
-  piece false h = piece-last space at e s inside found (ltb-false _ _ h)
+  piece true h = piece-first space at e s (turn .inside) (turn .found) (ltb-true _ _ h)
+  piece false h = piece-last space at e s (turn .inside) (turn .found) (ltb-false _ _ h)
 
   whole : numbersFrom (take (e - at) (drop at s) ∷ after space e s) k vs ≡ r
-  whole = rw (← piece (ltb e (length s)) refl) inv
+  whole = rw (← piece (ltb e (length s)) refl) (turn .gives)
 
   pub turn-bad : m ≡ Bad → noNumbers ≡ r
-  turn-bad h = numbers-bad _ _ k vs r whole (sym read ∙ h)
+  turn-bad h = numbers-bad _ _ k vs r whole (sym (turn .read) ∙ h)
 
-  pub turn-full : (v : ℕ) → m ≡ Value v → mostNumbers ≤ k → noNumbers ≡ r
-  turn-full v h = numbers-full _ _ k vs r whole v (sym read ∙ h)
+  module _ (v : ℕ) (value : m ≡ Value v) where
+    pub turn-full : mostNumbers ≤ k → noNumbers ≡ r
+    turn-full = numbers-full _ _ k vs r whole v (sym (turn .read) ∙ value)
 
-  pub turn-more : (v : ℕ) → m ≡ Value v → k < mostNumbers → e < length s
-      → numbersFrom (split space (drop (e + 1) s)) (k + 1) (set vs k v) ≡ r
-  turn-more v h l f = rw (lt-ltb _ _ f) at (numbers-more _ _ k vs r whole v (sym read ∙ h) l)
+    next : k < mostNumbers → numbersFrom (after space e s) (k + 1) (set vs k v) ≡ r
+    next = numbers-more _ _ k vs r whole v (sym (turn .read) ∙ value)
 
-  pub turn-last : (v : ℕ) → m ≡ Value v → k < mostNumbers → length s ≤ e
-      → record { good = true; count = k + 1; values = set vs k v } ≡ r
-  turn-last v h l f =
-      numbers-none (k + 1) (set vs k v) r
-      (rw (le-ltb _ _ f) at (numbers-more _ _ k vs r whole v (sym read ∙ h) l))
+    pub turn-more : k < mostNumbers → e < length s
+        → numbersFrom (split space (drop (e + 1) s)) (k + 1) (set vs k v) ≡ r
+    turn-more room ended = rw (lt-ltb _ _ ended) at (next room)
+
+    pub turn-last : k < mostNumbers → length s ≤ e → record { good = true; count = k + 1; values = set vs k v } ≡ r
+    turn-last room last = numbers-none (k + 1) (set vs k v) r (rw (le-ltb _ _ last) at (next room))

@@ -1,5 +1,6 @@
 -- Decimal fields: document 01, 'The drill'.
-use Prim.Native.Nat.{ℕ, _+_, _*_, _-_}
+use Prim.Native.Nat.{ℕ, _+_, _*_, _-_, _≤_}
+use mathlib.Core.Path.{_≡_}
 use mathlib.Core.Bool.{Bool, true, false, cond, _&&_}
 use mathlib.Core.List.{List, [], _∷_}
 use lib.ListN.{length, getD, set, replicate}
@@ -22,6 +23,11 @@ mostNumbers = mostNodes
 -- a digit's value; 10 for a byte that is none
 abbrev pub digitOf : ℕ → ℕ
 digitOf c = cond (ltb c 48) 10 (cond (ltb 57 c) 10 (c - 48))
+
+-- r is that value. A promise of a private function: no public contract cites it.
+pub record Digit (c r : ℕ) : Type 0 where
+  pub value : r ≡ digitOf c
+  pub within : r ≤ 10
 
 -- the number whose first digits have the value a: bad at a byte that is no digit, and beyond the largest
 unfoldable pub valueFrom : ℕ → List ℕ → Number

@@ -5,10 +5,10 @@ use crew::MOST_NODES;
 use wire::PLAN_SIZE;
 use wire::Plan;
 ghost use mathlib.Core.Path.{_≡_};
-ghost use Prim.Native.Nat.{_+_, _≤_};
+ghost use Prim.Native.Nat.{_+_};
 ghost use lib.ListN.{drop};
 ghost use Rattle.script.specs.Lines.{until};
-ghost use Rattle.script.specs.Fields.{digitOf, numberOf, noNumbers, numbersOn, starts};
+ghost use Rattle.script.specs.Fields.{Digit, numberOf, noNumbers, numbersOn, starts};
 ghost use Rattle.script.specs.Commands.{crewLineOf, plansOf, cutOf, sayOf, commandOf};
 
 // Ends each line.
@@ -86,7 +86,7 @@ pub fn find(s: &[u8], byte: u8, from: usize) -> usize
 
 // A digit's value.
 fn digit(c: u8) -> u32
-    ensures { λ r. ⌜ (r ≡ digitOf c) × (r ≤ 10) ⌝ }
+    ensures { λ r. ⌜ Digit c r ⌝ }
 {
     if c < ZERO {
         return NO_DIGIT;

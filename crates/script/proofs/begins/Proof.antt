@@ -1,7 +1,7 @@
--- `begins` meets its contract. The invariant: the rest of the slice begins with the rest of the word exactly where all
--- of it does.
+-- `begins` meets its contract.
 use mathlib.Core.Path.{_≡_, sym}
-use Prim.Native.Nat.{_≤_, _-_}
+use mathlib.Core.List.{List}
+use Prim.Native.Nat.{ℕ, _≤_, _-_}
 use lib.ListN.{length, drop}
 use Rattle.script.proofs.Walk.{starts-short, starts-more, starts-stop, starts-end}
 use Rattle.script.specs.Fields.{starts}
@@ -9,11 +9,17 @@ use borrow.Author.Needs.{needs}
 use Rattle.script.proofs.begins.Statement.{statement}
 use Rattle.script.proofs.begins.Tie as tie
 
+-- up to place i the slice has the word: its rest begins with the word's rest exactly where all of it does
+record Compared (s word : List ℕ) (i : ℕ) : Type 0 where
+  within : i ≤ length word
+  room : length word ≤ length s
+  rest : starts (drop i word) (drop i s) ≡ starts word s
+
 abbrev Inv-loop : tie.InvT-loop
-Inv-loop s w i₀ i = (i ≤ length w) × (length w ≤ length s) × (starts (drop i w) (drop i s) ≡ starts w s)
+Inv-loop s word i₀ i = Compared s word i
 
 abbrev μ-loop : tie.MeasureT-loop
-μ-loop s w i₀ i = length w - i
+μ-loop s word i₀ i = length word - i
 
 returns : tie.Need-returns Inv-loop μ-loop
 returns c = sym (starts-short _ _ (c .if1 .taken))
@@ -35,21 +41,21 @@ loop-less c = search needs
 
 loop-again : tie.Need-loop-again Inv-loop μ-loop
 loop-again c =
-    let b3 = c .before .before .before in
-    let b4 = b3 .before in (
-      search needs,
-      search needs,
-      starts-more _ _ _ _ (b3 .loop-test .taken) (search needs) (b4 .loop .inv .2) (c .if2 .taken),
-    )
+    let turn = c .before .before .before in
+    let compared = turn .before .loop .inv in
+    record {
+      within = search needs;
+      room = search needs;
+      rest = starts-more _ _ _ _ (turn .loop-test .taken) (search needs) (compared .rest) (c .if2 .taken);
+    }
 
 returns-2 : tie.Need-returns-2 Inv-loop μ-loop
 returns-2 c =
-    let b3 = c .before .before .before in
-    let b4 = b3 .before in
-    starts-stop _ _ _ _ (b3 .loop-test .taken) (search needs) (b4 .loop .inv .2) (c .if2 .left)
+    let turn = c .before .before .before in
+    starts-stop _ _ _ _ (turn .loop-test .taken) (search needs) (turn .before .loop .inv .rest) (c .if2 .left)
 
 returns-3 : tie.Need-returns-3 Inv-loop μ-loop
-returns-3 c = starts-end _ _ _ _ (c .loop-test .left) (c .before .loop .inv .2)
+returns-3 c = starts-end _ _ _ _ (c .loop-test .left) (c .before .loop .inv .rest)
 
 pub begins-spec : {M : Type 1} → statement M
 begins-spec =

@@ -1,8 +1,8 @@
--- `decimal` meets its contract. The invariant: the digits left, after the value so far, give the number of the whole
--- field.
+-- `decimal` meets its contract.
 use Rattle.script.proofs.Walk.{value-low, value-more, value-stop, value-end}
 use mathlib.Core.Path.{_≡_, refl}
-use Prim.Native.Nat.{_≤_, _-_}
+use mathlib.Core.List.{List}
+use Prim.Native.Nat.{ℕ, _≤_, _-_}
 use lib.ListN.{length, drop}
 use borrow.Author.Tests.{eq-eqb, ne-eqb}
 use Rattle.script.specs.Fields.{largest, valueFrom, numberOf}
@@ -10,8 +10,14 @@ use borrow.Author.Needs.{needs}
 use Rattle.script.proofs.decimal.Statement.{statement}
 use Rattle.script.proofs.decimal.Tie as tie
 
+-- the digits before place i have the value v, and with those left they give the number of the whole field
+record Read (s : List ℕ) (v i : ℕ) : Type 0 where
+  low : v ≤ largest
+  within : i ≤ length s
+  rest : valueFrom v (drop i s) ≡ numberOf s
+
 abbrev Inv-loop : tie.InvT-loop
-Inv-loop s v₀ i₀ v i = (v ≤ largest) × (i ≤ length s) × (valueFrom v (drop i s) ≡ numberOf s)
+Inv-loop s v₀ i₀ v i = Read s v i
 
 abbrev μ-loop : tie.MeasureT-loop
 μ-loop s v₀ i₀ v i = length s - i
@@ -30,7 +36,11 @@ returns-2 c = simp (numberOf, ne-eqb _ _ (c .before .before .if1 .left), c .if2 
 loop-holds : tie.Need-loop-holds Inv-loop μ-loop
 unfolding numberOf
 loop-holds c =
-    (search needs, search needs, simp (numberOf, ne-eqb _ _ (c .before .before .if1 .left), c .if2 .left))
+    record {
+      low = search needs;
+      within = search needs;
+      rest = simp (numberOf, ne-eqb _ _ (c .before .before .if1 .left), c .if2 .left);
+    }
 
 shared-slice-read-digit : tie.Need-shared-slice-read-digit Inv-loop μ-loop
 shared-slice-read-digit c = search needs
@@ -52,26 +62,28 @@ loop-less c = search needs
 
 loop-again : tie.Need-loop-again Inv-loop μ-loop
 loop-again c =
-    let b3 = c .before .before .before in
-    let b4 = b3 .before in (
-      value-low (c .before .digit .result) _ (c .if3 .taken),
-      search needs,
-      value-more _ _ _ _ _ _ (b3 .loop-test .taken) (c .before .digit .ensures .0) refl (c .if3 .taken)
-          (b4 .loop .inv .2),
-    )
+    let digit = c .before .digit in
+    let turn = c .before .before .before in
+    record {
+      low = value-low (digit .result) _ (c .if3 .taken);
+      within = search needs;
+      rest =
+          value-more _ _ _ _ _ _ (turn .loop-test .taken) (digit .ensures .value) refl (c .if3 .taken)
+          (turn .before .loop .inv .rest);
+    }
 
 returns-3 : tie.Need-returns-3 Inv-loop μ-loop
 returns-3 c =
-    let b3 = c .before .before .before in
-    let b4 = b3 .before in
-    value-stop _ _ _ _ _ _ (b3 .loop-test .taken) (c .before .digit .ensures .0) refl (c .if3 .left)
-    (b4 .loop .inv .2)
+    let digit = c .before .digit in
+    let turn = c .before .before .before in
+    value-stop _ _ _ _ _ _ (turn .loop-test .taken) (digit .ensures .value) refl (c .if3 .left)
+    (turn .before .loop .inv .rest)
 
 cast-t19 : tie.Need-cast-t19 Inv-loop μ-loop
 cast-t19 c = search needs
 
 returns-4 : tie.Need-returns-4 Inv-loop μ-loop
-returns-4 c = value-end _ _ _ _ (c .loop-test .left) (c .before .loop .inv .2)
+returns-4 c = value-end _ _ _ _ (c .loop-test .left) (c .before .loop .inv .rest)
 
 pub decimal-spec : {M : Type 1} → statement M
 decimal-spec =

@@ -1,11 +1,9 @@
 -- `find` meets its contract. The invariant: the first such place from i on is the first from the start on.
-use denote.Ref.{now}
 use mathlib.Core.Path.{_≡_}
 use Prim.Native.Nat.{_+_, _-_}
-use native.Mathlib.Omega.{arith}
 use lib.ListN.{length, drop}
 use Rattle.script.specs.Lines.{until}
-use Rattle.script.proofs.Walk.{until-here, until-more, until-end}
+use Rattle.script.proofs.Walk.{found-here, found-later, found-none}
 use borrow.Author.Needs.{needs}
 use Rattle.script.proofs.find.Statement.{statement}
 use Rattle.script.proofs.find.Tie as tie
@@ -24,14 +22,8 @@ shared-slice-read-if1 c = search needs
 
 returns : tie.Need-returns Inv-loop μ-loop
 returns c =
-    let b3 = c .before .before .before in
-    let b4 = b3 .before in
-    let a = b4 .args in
-    omega (
-      arith,
-      until-here (a .byte) (b3 .loop .i) (now (a .s)) (c .before .before .loop-test .taken) (c .if1 .taken),
-      b3 .loop .inv,
-    )
+    let turn = c .before .before in
+    found-here _ _ _ _ (turn .before .loop .inv) (turn .loop-test .taken) (c .if1 .taken)
 
 add-i : tie.Need-add-i Inv-loop μ-loop
 add-i c = search needs
@@ -41,19 +33,11 @@ loop-less c = search needs
 
 loop-again : tie.Need-loop-again Inv-loop μ-loop
 loop-again c =
-    let b3 = c .before .before .before in
-    let b4 = b3 .before in
-    let a = b4 .args in
-    omega (
-      arith,
-      until-more (a .byte) (b3 .loop .i) (now (a .s)) (c .before .before .loop-test .taken) (c .if1 .left),
-      b3 .loop .inv,
-    )
+    let turn = c .before .before in
+    found-later _ _ _ _ (turn .before .loop .inv) (turn .loop-test .taken) (c .if1 .left)
 
 returns-2 : tie.Need-returns-2 Inv-loop μ-loop
-returns-2 c =
-    let a = c .before .before .args in
-    omega (arith, until-end (a .byte) (c .before .loop .i) (now (a .s)) (c .loop-test .left), c .before .loop .inv)
+returns-2 c = found-none _ _ _ _ (c .before .loop .inv) (c .loop-test .left)
 
 pub find-spec : {M : Type 1} → statement M
 find-spec =

@@ -1,24 +1,45 @@
--- `numbers_on` meets its contract. The invariant: the fields from this one on, laid after the numbers so far, give the
--- numbers of the whole slice.
+-- `numbers_on` meets its contract.
 use mathlib.Core.Path.{_∙_, _≡_}
 use lib.ListN.{length-set, length, drop}
-use Rattle.script.proofs.Words.{piece-within, turn-bad, turn-full, turn-more, turn-last}
-use Prim.Native.Nat.{_≤_, _-_}
+use Rattle.script.proofs.Words.{piece-within, Turn, turn-bad, turn-full, turn-more, turn-last}
+use mathlib.Core.List.{List}
+use Prim.Native.Nat.{ℕ, _≤_, _-_}
+use denote.Ref.{now}
 use Rattle.script.specs.Fields.{mostNumbers, numbersFrom, numbersOn}
 use Rattle.script.specs.Lines.{space, split}
 use borrow.Author.Needs.{needs}
 use Rattle.script.proofs.numbers_on.Statement.{statement}
 use Rattle.script.proofs.numbers_on.Tie as tie
 
+-- the fields before place `at` are laid in values, and with those left they give the numbers of the whole slice
+record Laid (s values : List ℕ) (count at : ℕ) : Type 0 where
+  within : at ≤ length s
+  room : count ≤ mostNumbers
+  long : length values ≡ mostNumbers
+  rest : numbersFrom (split space (drop at s)) count values ≡ numbersOn s
+
 abbrev Inv-loop : tie.InvT-loop
-Inv-loop s values₀ count₀ at₀ values count at =
-    (at ≤ length s)
-    × (count ≤ mostNumbers)
-    × (length values ≡ mostNumbers)
-    × (numbersFrom (split space (drop at s)) count values ≡ numbersOn s)
+Inv-loop s values₀ count₀ at₀ values count at = Laid s values count at
 
 abbrev μ-loop : tie.MeasureT-loop
 μ-loop s values₀ count₀ at₀ values count at = length s - at
+
+-- a turn, once its field is read
+turn : (c : tie.After-decimal Inv-loop μ-loop)
+    → let found = c .before .before in
+    let looped = found .before in
+    let s = now (looped .before .before .args .s) in
+    Turn s (looped .loop .values) (looped .loop .count) (looped .loop .at) (found .find .result) (c .decimal .result)
+    (numbersOn s)
+turn c =
+    let found = c .before .before in
+    let laid = found .before .loop .inv in
+    record {
+      inside = laid .within;
+      found = found .find .ensures;
+      read = c .decimal .ensures;
+      gives = laid .rest;
+    }
 
 loop-holds : tie.Need-loop-holds Inv-loop μ-loop
 loop-holds c = search needs
@@ -33,7 +54,7 @@ part-decimal-start : tie.Need-part-decimal-start Inv-loop μ-loop
 part-decimal-start c = search needs
 
 part-decimal-end : tie.Need-part-decimal-end Inv-loop μ-loop
-part-decimal-end c = piece-within _ _ _ _ (c .before .loop .inv .0) (c .find .ensures)
+part-decimal-end c = piece-within _ _ _ _ (c .before .loop .inv .within) (c .find .ensures)
 
 decimal-requires : tie.Need-decimal-requires Inv-loop μ-loop
 decimal-requires c κs = search needs
@@ -46,13 +67,9 @@ no-numbers-requires c κs = search needs
 
 returns : tie.Need-returns Inv-loop μ-loop
 returns c =
-    let b3 = c .before .before .before in
-    let b5 = b3 .before .before in
-    let b7 = b5 .before .before in
-    let b8 = b7 .before in
+    let valued = c .before .before .before in
     c .no-numbers .ensures
-    ∙ turn-full _ _ _ _ _ _ (b8 .loop .inv .0) (b7 .find .ensures) (b8 .loop .inv .3) _ (b5 .decimal .ensures) _
-    (b3 .value .given .1) (c .before .if1 .taken)
+    ∙ turn-full (turn (valued .before .before)) _ (valued .value .given .1) (c .before .if1 .taken)
 
 mul-values : tie.Need-mul-values Inv-loop μ-loop
 mul-values c = search needs
@@ -65,12 +82,8 @@ add-count c = search needs
 
 returns-2 : tie.Need-returns-2 Inv-loop μ-loop
 returns-2 c =
-    let b3 = c .before .before .before in
-    let b5 = b3 .before .before in
-    let b7 = b5 .before .before in
-    let b8 = b7 .before in
-    turn-last _ _ _ _ _ _ (b8 .loop .inv .0) (b7 .find .ensures) (b8 .loop .inv .3) _ (b5 .decimal .ensures) _
-    (b3 .value .given .1) (c .before .if1 .left) (c .if2 .taken)
+    let valued = c .before .before .before in
+    turn-last (turn (valued .before .before)) _ (valued .value .given .1) (c .before .if1 .left) (c .if2 .taken)
 
 add-at : tie.Need-add-at Inv-loop μ-loop
 add-at c = search needs
@@ -80,16 +93,14 @@ loop-less c = search needs
 
 loop-again : tie.Need-loop-again Inv-loop μ-loop
 loop-again c =
-    let b3 = c .before .before .before in
-    let b5 = b3 .before .before in
-    let b7 = b5 .before .before in
-    let b8 = b7 .before in (
-      search needs,
-      search needs,
-      simp length-set (b8 .loop .inv .2),
-      turn-more _ _ _ _ _ _ (b8 .loop .inv .0) (b7 .find .ensures) (b8 .loop .inv .3) _ (b5 .decimal .ensures) _
-          (b3 .value .given .1) (c .before .if1 .left) (c .if2 .left),
-    )
+    let valued = c .before .before .before in
+    let read = valued .before .before in
+    record {
+      within = search needs;
+      room = search needs;
+      long = simp length-set (read .before .before .before .loop .inv .long);
+      rest = turn-more (turn read) _ (valued .value .given .1) (c .before .if1 .left) (c .if2 .left);
+    }
 
 enum-told : tie.Need-enum-told Inv-loop μ-loop
 enum-told c = search needs
@@ -99,12 +110,7 @@ no-numbers-requires-2 c κs = search needs
 
 returns-3 : tie.Need-returns-3 Inv-loop μ-loop
 returns-3 c =
-    let b3 = c .before .before .before in
-    let b5 = b3 .before .before in
-    let b6 = b5 .before in
-    c .no-numbers2 .ensures
-    ∙ turn-bad _ _ _ _ _ _ (b6 .loop .inv .0) (b5 .find .ensures) (b6 .loop .inv .3) _ (b3 .decimal .ensures)
-    (c .before .enum-told .given .1)
+    c .no-numbers2 .ensures ∙ turn-bad (turn (c .before .before .before)) (c .before .enum-told .given .1)
 
 pub numbers-on-spec : {M : Type 1} → statement M
 numbers-on-spec =

@@ -1,9 +1,20 @@
 -- `to_cut` meets its contract.
-use Rattle.script.proofs.Bytes.{passed, cut-bytes}
+use Rattle.script.proofs.Bytes.{passed, among, is-byte}
+use mathlib.Core.List.{[], _∷_}
+use Prim.Native.Nat.{ℕ, _≤_}
 use native.Mathlib.Omega.{arith}
+use lib.Dec.{T}
+use Rattle.script.specs.Commands.{nth, has}
 use borrow.Author.Needs.{needs}
 use Rattle.script.proofs.to_cut.Statement.{statement}
 use Rattle.script.proofs.to_cut.Tie as tie
+
+-- both numbers are bytes
+bytes : (c : tie.Then1) (i : ℕ) → T (among i (0 ∷ 1 ∷ []))
+    → nth (c .before .before .before .before .args .w) i ≤ 255
+bytes c =
+    let w = c .before .before .before .before .args .w in
+    is-byte w (has w 2) (0 ∷ 1 ∷ []) (c .if1 .taken)
 
 array-read-good : tie.Need-array-read-good
 array-read-good c = search needs
@@ -15,13 +26,13 @@ array-read-t17 : tie.Need-array-read-t17
 array-read-t17 c = search needs
 
 cast-t18 : tie.Need-cast-t18
-cast-t18 c = omega (arith, cut-bytes (c .before .before .before .before .args .w) (c .if1 .taken) .0)
+cast-t18 c = omega (arith, bytes c 0 tt)
 
 array-read-t21 : tie.Need-array-read-t21
 array-read-t21 c = search needs
 
 cast-t22 : tie.Need-cast-t22
-cast-t22 c = omega (arith, cut-bytes (c .before .before .before .before .args .w) (c .if1 .taken) .1)
+cast-t22 c = omega (arith, bytes c 1 tt)
 
 returns : tie.Need-returns
 returns c = passed _ _ _ (c .if1 .taken)

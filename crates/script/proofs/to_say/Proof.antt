@@ -1,9 +1,20 @@
 -- `to_say` meets its contract.
-use Rattle.script.proofs.Bytes.{passed, say-bytes}
+use Rattle.script.proofs.Bytes.{passed, among, is-byte}
+use mathlib.Core.List.{[], _∷_}
+use Prim.Native.Nat.{ℕ, _≤_}
 use native.Mathlib.Omega.{arith}
+use lib.Dec.{T}
+use Rattle.script.specs.Commands.{nth, has}
 use borrow.Author.Needs.{needs}
 use Rattle.script.proofs.to_say.Statement.{statement}
 use Rattle.script.proofs.to_say.Tie as tie
+
+-- all numbers but the plan are bytes
+bytes : (c : tie.Then1) (i : ℕ) → T (among i (0 ∷ 1 ∷ 3 ∷ []))
+    → nth (c .before .before .before .before .args .w) i ≤ 255
+bytes c =
+    let w = c .before .before .before .before .args .w in
+    is-byte w (has w 4) (0 ∷ 1 ∷ 3 ∷ []) (c .if1 .taken)
 
 array-read-good : tie.Need-array-read-good
 array-read-good c = search needs
@@ -18,13 +29,13 @@ array-read-t22 : tie.Need-array-read-t22
 array-read-t22 c = search needs
 
 cast-t23 : tie.Need-cast-t23
-cast-t23 c = omega (arith, say-bytes (c .before .before .before .before .args .w) (c .if1 .taken) .0)
+cast-t23 c = omega (arith, bytes c 0 tt)
 
 array-read-t26 : tie.Need-array-read-t26
 array-read-t26 c = search needs
 
 cast-t27 : tie.Need-cast-t27
-cast-t27 c = omega (arith, say-bytes (c .before .before .before .before .args .w) (c .if1 .taken) .1)
+cast-t27 c = omega (arith, bytes c 1 tt)
 
 array-read-t30 : tie.Need-array-read-t30
 array-read-t30 c = search needs
@@ -33,7 +44,7 @@ array-read-t33 : tie.Need-array-read-t33
 array-read-t33 c = search needs
 
 cast-t34 : tie.Need-cast-t34
-cast-t34 c = omega (arith, say-bytes (c .before .before .before .before .args .w) (c .if1 .taken) .2)
+cast-t34 c = omega (arith, bytes c 3 tt)
 
 returns : tie.Need-returns
 returns c = passed _ _ _ (c .if1 .taken)
