@@ -1,44 +1,48 @@
--- Loops that fill an array place by place: after i turns its first i elements are the table's.
-use mathlib.Core.Path.{_≡_, refl, sym, _∙_}
-use mathlib.Core.List.{List}
-use Prim.Native.Nat.{ℕ, _+_, _<_, _≤_}
-use native.Mathlib.Numerals.{add-one}
+-- Loops that fill an array place by place: at their end it is a table.
+use mathlib.Core.Path.{_≡_, refl, _∙_}
+use mathlib.Core.List.{List, [], _∷_}
+use Prim.Native.Nat.{ℕ, zero, suc, _+_, _<_, _≤_}
 use native.Mathlib.Omega.{arith}
-use lib.ListN.{length, take, set, length-set}
-use lib.Seq.{take-suc, take-all, take-set-le, getD-set-same}
+use lib.ListN.{length, set, length-set, length-append, List·getD-append}
+use lib.Seq.{getD-at}
+use Rattle.wire.proofs.Tests.{by-equality}
+use Rattle.wire.proofs.Arrays.{Filled, filled-none, filled-more, filled-all}
 use Rattle.aisle.specs.Round.{table}
 
--- i places of n are filled
-pub record Filled {A : Type 0} (f : ℕ → A) (n : ℕ) (l : List A) (i : ℕ) : Type 0 where
-  pub within : i ≤ n
+module _ {A : Type 0} (f : ℕ → A) where
+  table-long : (n : ℕ) → length (table f n) ≡ n
+  unfolding table
+  table-long zero = refl
+  table-long (suc n) = omega (arith, length-append (table f n) (f n ∷ []), table-long n)
+
+  -- place k of a table holds f k
+  table-filled : (other : A) (n : ℕ) → Filled f other (table f n) n
+  unfolding table
+  table-filled other zero k less = absurd (omega arith)
+  table-filled other (suc n) k less =
+      by-equality k n
+      (λ same. rw same (getD-at (table f n) (f n) [] other n (table-long n)))
+      (λ apart.
+      let before : k < length (table f n) = omega (arith, apart, table-long n) in
+      List·getD-append (table f n) (f n ∷ []) other k before
+      ∙ table-filled other n k (omega (arith, apart)))
+
+-- i places of an array of n hold what the table has there
+pub record Filling {A : Type 0} (f : ℕ → A) (n : ℕ) (l : List A) (i : ℕ) : Type 0 where
   pub long : length l ≡ n
-  pub done : take i l ≡ table f i
+  pub so-far : Filled f (f 0) l i
 
 module _ {A : Type 0} (f : ℕ → A) (n : ℕ) (l : List A) where
-  pub filled-none : length l ≡ n → Filled f n l 0
-  unfolding table
-  filled-none long = record { within = omega arith; long = long; done = refl }
+  pub filling-none : length l ≡ n → Filling f n l 0
+  filling-none long = record { long = long; so-far = filled-none f (f 0) l }
 
-  pub filled-more : (i : ℕ) (y : A) → i < n → y ≡ f i → Filled f n l i → Filled f n (set l i y) (i + 1)
-  unfolding table
-  filled-more i y h e inv =
-      let within : i < length l = omega (arith, inv .long) in
-      let stored : i < length (set l i y) = rw (length-set l i y) within in
-      record {
-        within = omega arith;
-        long = length-set l i y ∙ inv .long;
-        done =
-            rw (
-              add-one i,
-              take-suc (set l i y) i y stored,
-              take-set-le i l i y (omega arith),
-              getD-set-same l i y y within,
-              inv .done,
-              e,
-            );
-      }
+  pub filling-more : (i : ℕ) (y : A) → i < n → y ≡ f i → Filling f n l i → Filling f n (set l i y) (i + 1)
+  filling-more i y h e inv =
+      let room : i < length l = omega (arith, inv .long) in
+      record { long = length-set l i y ∙ inv .long; so-far = filled-more f (f 0) l i y room (inv .so-far) e }
 
-  pub filled-all : (i : ℕ) → n ≤ i → Filled f n l i → l ≡ table f n
-  filled-all i h inv =
-      let same : i ≡ n = omega (arith, inv .within) in
-      sym (take-all i l (omega (arith, inv .long))) ∙ rw (← same) (inv .done)
+  pub filling-all : (i : ℕ) → n ≤ i → Filling f n l i → l ≡ table f n
+  filling-all i h inv =
+      let same : length l ≡ length (table f n) = omega (arith, inv .long, table-long f n) in
+      filled-all f (f 0) l (table f n) i same (omega (arith, inv .long)) (inv .so-far)
+      (rw (table-long f n) (table-filled f (f 0) n))

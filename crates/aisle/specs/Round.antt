@@ -1,17 +1,19 @@
 -- What a go does among the nodes: document 01, 'The drill' and 'The list in demand 3'. Every honest node writes its
 -- coming message, then every honest node takes the round, with an inbox of what reaches it.
-use Prim.Native.Nat.{ℕ, zero, suc, _+_, _*_}
+use mathlib.Core.Path.{_≡_}
+use Prim.Native.Nat.{ℕ, zero, suc, _+_, _*_, _<_, _≤_}
 use mathlib.Core.Bool.{Bool, false, cond, _&&_}
 use mathlib.Core.List.{List, [], _∷_, _++_}
-use lib.ListN.{getD, replicate}
+use lib.ListN.{length, getD, take, replicate}
 use lib.Dec.{leb, ltb, eqb}
 use Rattle.wire.specs.Outcome.{valueOr}
 use Rattle.wire.specs.Sizes.{spentPhase}
-use Rattle.crew.specs.Parts.{blankCrew, mostNodes}
+use Rattle.crew.specs.Parts.{mostNodes}
 use Rattle.message.specs.Layout.{slotSize}
 use Rattle.message.specs.Fields.{Body, selection, validation, decision, Message}
 use Rattle.writer.specs.Writing.{messageBufferOf}
 use Rattle.node.specs.declared.Node.{Node}
+use Rattle.node.specs.Record.{zeroed}
 use Rattle.node.specs.Place.{roundAfter, phaseAfter}
 use Rattle.node.specs.Sending.{comingBufferOf}
 use Rattle.rounds.specs.Taking.{takeOf}
@@ -25,19 +27,7 @@ table f (suc n) = table f n ++ (f n ∷ [])
 
 -- what stands at no place of an array of records
 abbrev pub nowhere : Node
-nowhere = record {
-  crew = blankCrew;
-  own = 0;
-  run = 0;
-  phase = 0;
-  round = 0;
-  vote = 0;
-  base = 0;
-  stamp = 0;
-  select = 0;
-  result = 0;
-  history = [];
-}
+nowhere = zeroed []
 
 abbrev pub nodeAt : State → ℕ → Node
 nodeAt st i = getD (st .nodes) i nowhere
@@ -82,6 +72,12 @@ inboxSize = slotSize * mostNodes
 abbrev pub inboxOf : State → ℕ → List ℕ
 inboxOf st receiver = slotsOf st receiver (st .crew .n)
 
+-- r is as long as the largest inbox, and at its front stands the receiver's.
+-- A promise of a private function: no public contract cites it.
+pub record InboxFor (st : State) (receiver : ℕ) (r : List ℕ) : Type 0 where
+  pub size : length r ≡ inboxSize
+  pub front : take (slotSize * st .crew .n) r ≡ inboxOf st receiver
+
 -- A node's record after the round. That of a node that is not honest is not sound, so its take is refused and it stays.
 unfoldable pub nodeAfter : State → ℕ → Node
 nodeAfter st receiver = valueOr (nodeAt st receiver) (takeOf (nodeAt st receiver) (inboxOf st receiver))
@@ -103,6 +99,11 @@ goOf st = record {
 -- Whether a round can be run: every node has its place, and the phases are not spent.
 abbrev pub ready : State → Bool
 ready st = leb (st .crew .n) mostNodes && ltb (st .phase) spentPhase
+
+-- The same as facts: what functions require that run a round.
+pub record Ready (st : State) : Type 0 where
+  pub small : st .crew .n ≤ mostNodes
+  pub unspent : st .phase < spentPhase
 
 -- a go where no round can be run leaves all as it was
 unfoldable pub gone : State → State

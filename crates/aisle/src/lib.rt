@@ -8,13 +8,12 @@ use pending::Pending;
 use wire::PHASES;
 use wire::Plan;
 ghost use mathlib.Core.Path.{_≡_};
-ghost use Prim.Native.Nat.{_*_, _<_, _≤_};
-ghost use lib.ListN.{length, getD, take};
+ghost use Prim.Native.Nat.{_<_, _≤_};
+ghost use lib.ListN.{getD};
 ghost use lib.Dec.{leb};
 ghost use Rattle.wire.specs.Outcome.{valueOr};
 ghost use Rattle.wire.specs.Sizes.{spentPhase};
 ghost use Rattle.crew.specs.Parts.{mostNodes};
-ghost use Rattle.message.specs.Layout.{slotSize};
 ghost use Rattle.node.specs.Record.{blank};
 ghost use Rattle.node.specs.Place.{roundAfter, phaseAfter};
 ghost use Rattle.node.specs.Starting.{startOf};
@@ -22,11 +21,11 @@ ghost use Rattle.aisle.specs.Round.{
   table,
   sayBuffer,
   delivered,
-  inboxSize,
-  inboxOf,
+  InboxFor,
   nodeAfter,
   resultAt,
   goOf,
+  Ready,
   gone,
 };
 ghost use Rattle.aisle.specs.Start.{begunOf};
@@ -89,7 +88,7 @@ fn deliver(state: State, sender: usize, receiver: usize, slot: &mut [u8])
 // A receiver's inbox, made anew for each round: nothing of an earlier one stays behind a shorter message.
 fn inbox_for(state: State, receiver: usize) -> [u8; INBOX]
     requires { ⌜ state .crew .n ≤ mostNodes ⌝ }
-    ensures { λ r. ⌜ (length r ≡ inboxSize) × (take (slotSize * state .crew .n) r ≡ inboxOf state receiver) ⌝ }
+    ensures { λ r. ⌜ InboxFor state receiver r ⌝ }
 {
     let mut inbox = [0u8; INBOX];
     let n = state.crew.n as usize;
@@ -143,7 +142,7 @@ fn phase_after(phase: u8, round: u8) -> u8
 
 // A whole round: all that is sent in it comes from the records as they are before it.
 fn whole_round(state: State) -> State
-    requires { ⌜ (state .crew .n ≤ mostNodes) × (state .phase < spentPhase) ⌝ }
+    requires { ⌜ Ready state ⌝ }
     ensures { λ r. ⌜ r ≡ goOf state ⌝ }
 {
     let crew = state.crew;

@@ -1,5 +1,5 @@
 -- What the walk over a script's lines goes by: each line's part of the definition of the whole run.
-use mathlib.Core.Path.{_≡_, refl, ap, sym, _∙_}
+use mathlib.Core.Path.{_≡_, refl, sym, _∙_}
 use mathlib.Core.Bool.{Bool, true, false, cond}
 use mathlib.Core.List.{List, [], _∷_, _++_}
 use Prim.Native.Nat.{ℕ, _+_, _-_, _<_, _≤_}
@@ -9,16 +9,13 @@ use lib.ListN.{length, take, drop, length-drop}
 use lib.Seq.{length-take-le}
 use lib.Dec.{eqb}
 use borrow.Author.Tests.{eq-eqb, ne-eqb, lt-ltb, le-ltb}
-use Rattle.wire.specs.Outcome.{isAccepted}
 use Rattle.crew.specs.declared.Crew.{Crew}
-use Rattle.crew.specs.Acceptance.{acceptOf}
 use Rattle.script.specs.Lines.{newline, until, split, onto}
 use Rattle.script.specs.Fields.{numbersOn}
 use Rattle.script.specs.Commands.{commandOf, crewLineOf, plansOf}
 use Rattle.script.proofs.Words.{piece-within, piece-last, piece-first}
 use Rattle.script.specs.declared.Command.{Command}
 use Rattle.script.specs.declared.CrewLine.{CrewLine}
-use Rattle.script.specs.declared.CrewLine.the-variants.{Crew as CrewRead, NoCrew}
 use Rattle.script.specs.declared.Plans.{Plans}
 use Rattle.print.specs.Texts.{Wrote, badLine, endLine, longLine}
 use Rattle.print.proofs.Writing.{wrote-rest}
@@ -42,86 +39,91 @@ unfolding split
 split-some b [] = refl
 split-some b (x ∷ l) = some-go (eqb x b) x (split b l)
 
--- a line from at to e, its byte 10, or an unended one
-module _ (at e : ℕ) (input : List ℕ) (inside : at ≤ length input) (found : e ≡ at + until newline (drop at input)) where
-  abbrev here : List ℕ
-  here = take (e - at) (drop at input)
+-- the pieces of a script from a place on
+abbrev pub linesFrom : List ℕ → ℕ → List (List ℕ)
+linesFrom input at = split newline (drop at input)
 
-  ended : e < length input → split newline (drop at input) ≡ here ∷ split newline (drop (e + 1) input)
-  ended = piece-first newline at e input inside found
+-- what stands from one place to another
+abbrev here : List ℕ → ℕ → ℕ → List ℕ
+here input at e = take (e - at) (drop at input)
 
-  unended : length input ≤ e → split newline (drop at input) ≡ here ∷ []
-  unended = piece-last newline at e input inside found
+-- a line from `at` to e, its byte 10, or an unended one
+pub record Line (input : List ℕ) (at e : ℕ) : Type 0 where
+  pub inside : at ≤ length input
+  pub found : e ≡ at + until newline (drop at input)
 
-  here-long : length here ≡ e - at
-  here-long =
-      let within = piece-within newline at e input inside found in
-      length-take-le (e - at) (drop at input) (omega (arith, length-drop at input, within))
+module _ {input : List ℕ} {at e : ℕ} (line : Line input at e) where
+  ended : e < length input → linesFrom input at ≡ here input at e ∷ linesFrom input (e + 1)
+  ended = piece-first newline at e input (line .inside) (line .found)
+
+  unended : length input ≤ e → linesFrom input at ≡ here input at e ∷ []
+  unended = piece-last newline at e input (line .inside) (line .found)
+
+  within : e ≤ length input
+  within = piece-within newline at e input (line .inside) (line .found)
+
+  here-long : length (here input at e) ≡ e - at
+  here-long = length-take-le (e - at) (drop at input) (omega (arith, length-drop at input, within))
 
   module _ (s : State) (l : ℕ) where
-    follow-step : e < length input → (c : Command) → c ≡ commandOf here → (t : Bool) → allowed s c ≡ t
-        → follow s l (split newline (drop at input))
-        ≡ cond t (text s c ++ follow (after s c) (l + 1) (split newline (drop (e + 1) input))) (badLine l)
+    pub follow-end : length input ≤ e → at ≡ length input → follow s l (linesFrom input at) ≡ endLine
     unfolding follow
-    follow-step h c ec t et = rw (ended h, split-some newline (drop (e + 1) input), ← ec, et)
+    follow-end h a = rw (unended h, eq-eqb (length (here input at e)) 0 (omega (arith, here-long, within)))
 
-    pub follow-end : length input ≤ e → at ≡ length input → follow s l (split newline (drop at input)) ≡ endLine
+    pub follow-unended : length input ≤ e → (at ≡ length input → ⊥) → follow s l (linesFrom input at) ≡ badLine l
     unfolding follow
-    follow-end h a =
-        let within = piece-within newline at e input inside found in
-        rw (unended h, eq-eqb (length here) 0 (omega (arith, here-long, within)))
-
-    pub follow-unended : length input ≤ e → (at ≡ length input → ⊥)
-        → follow s l (split newline (drop at input)) ≡ badLine l
-    unfolding follow
-    follow-unended h a = rw (unended h, ne-eqb (length here) 0 (λ z. a (omega (arith, here-long))))
-
-    pub follow-bad : e < length input → (c : Command) → c ≡ commandOf here → (m : Bool) → m ≡ allowed s c → m ≡ false
-        → follow s l (split newline (drop at input)) ≡ badLine l
-    follow-bad h c ec m em t = follow-step h c ec false (sym em ∙ t)
-
-    pub follow-more : e < length input → (c : Command) → c ≡ commandOf here → (m : Bool) → m ≡ allowed s c → m ≡ true
-        → follow s l (split newline (drop at input))
-        ≡ text s c ++ follow (after s c) (l + 1) (split newline (drop (e + 1) input))
-    follow-more h c ec m em t = follow-step h c ec true (sym em ∙ t)
-
-    pub follow-wrote : e < length input → (c : Command) → c ≡ commandOf here → (m : Bool) → m ≡ allowed s c → m ≡ true
-        → (s′ : State) → s′ ≡ after s c → {b b′ whole : List ℕ} {w w′ total : ℕ} → Wrote b w (text s c) b′ w′
-        → Wrote b w (follow s l (split newline (drop at input))) whole total
-        → Wrote b′ w′ (follow s′ (l + 1) (split newline (drop (e + 1) input))) whole total
-    follow-wrote h c ec m em t s′ es a inv =
-        let rest = follow (after s c) (l + 1) (split newline (drop (e + 1) input)) in
-        rw es (wrote-rest (text s c) rest a (rw (follow-more h c ec m em t) at inv))
+    follow-unended h a = rw (unended h, ne-eqb (length (here input at e)) 0 (λ z. a (omega (arith, here-long))))
 
   module _ (c : Crew) where
-    pub second-unended : length input ≤ e → second c (split newline (drop at input)) ≡ badLine 2
+    pub second-unended : length input ≤ e → second c (linesFrom input at) ≡ badLine 2
     unfolding second
     second-unended h = rw (unended h)
 
-    second-ended : e < length input → (p : Plans) → p ≡ plansOf (numbersOn here) (c .n)
-        → second c (split newline (drop at input))
-        ≡ cond (p .good) (follow (begunOf c (p .plans)) 3 (split newline (drop (e + 1) input))) (badLine 2)
+    -- line 2, by whether it has the plans
+    pub second-ended : e < length input → (p : Plans) → p ≡ plansOf (numbersOn (here input at e)) (c .n)
+        → (good : Bool) → p .good ≡ good
+        → second c (linesFrom input at)
+        ≡ cond good (follow (begunOf c (p .plans)) 3 (linesFrom input (e + 1))) (badLine 2)
     unfolding second
-    second-ended h p ep = rw (ended h, split-some newline (drop (e + 1) input), ← ep)
+    second-ended h p ep good eg = rw (ended h, split-some newline (drop (e + 1) input), ← ep, eg)
 
-    pub second-good : e < length input → (p : Plans) → p ≡ plansOf (numbersOn here) (c .n) → p .good ≡ true
-        → (s : State) → s ≡ begunOf c (p .plans)
-        → second c (split newline (drop at input)) ≡ follow s 3 (split newline (drop (e + 1) input))
-    second-good h p ep ok s es = second-ended h p ep ∙ rw (ok, es)
+  first-unended : length input ≤ e → first (linesFrom input at) ≡ badLine 1
+  unfolding first
+  first-unended h = rw (unended h)
 
-    pub second-bad : e < length input → (p : Plans) → p ≡ plansOf (numbersOn here) (c .n) → p .good ≡ false
-        → second c (split newline (drop at input)) ≡ badLine 2
-    second-bad h p ep ok = second-ended h p ep ∙ rw ok
+  first-ended : e < length input → (k : CrewLine) → k ≡ crewLineOf (numbersOn (here input at e))
+      → first (linesFrom input at) ≡ crewed k (linesFrom input (e + 1))
+  unfolding first
+  first-ended h k ek = rw (ended h, split-some newline (drop (e + 1) input), ← ek)
 
-  module _ where
-    pub first-unended : length input ≤ e → first (split newline (drop at input)) ≡ badLine 1
-    unfolding first
-    first-unended h = rw (unended h)
+-- an ended line is read as a command, and it is asked whether that is good
+pub record Asked (input : List ℕ) (at e : ℕ) (st : State) (command : Command) (good : Bool) : Type 0 where
+  pub line : Line input at e
+  pub ended : e < length input
+  pub read : command ≡ commandOf (here input at e)
+  pub asked : good ≡ allowed st command
 
-    pub first-ended : e < length input → (k : CrewLine) → k ≡ crewLineOf (numbersOn here)
-        → first (split newline (drop at input)) ≡ crewed k (split newline (drop (e + 1) input))
-    unfolding first
-    first-ended h k ek = rw (ended h, split-some newline (drop (e + 1) input), ← ek)
+module _ {input : List ℕ} {at e : ℕ} {st : State} {command : Command} {good : Bool}
+    (asked : Asked input at e st command good) (l : ℕ) where
+  follow-asked : (t : Bool) → good ≡ t
+      → follow st l (linesFrom input at)
+      ≡ cond t (text st command ++ follow (after st command) (l + 1) (linesFrom input (e + 1))) (badLine l)
+  unfolding follow
+  follow-asked t is =
+      let allows : allowed st command ≡ t = sym (asked .asked) ∙ is in
+      rw (ended (asked .line) (asked .ended), split-some newline (drop (e + 1) input), ← asked .read, allows)
+
+  pub follow-bad : good ≡ false → follow st l (linesFrom input at) ≡ badLine l
+  follow-bad = follow-asked false
+
+  -- once its text is written, what the lines from it on write is what those after it write
+  pub follow-more : good ≡ true → (next : State) → next ≡ after st command
+      → {b b′ whole : List ℕ} {w w′ total : ℕ} → Wrote b w (text st command) b′ w′
+      → Wrote b w (follow st l (linesFrom input at)) whole total
+      → Wrote b′ w′ (follow next (l + 1) (linesFrom input (e + 1))) whole total
+  follow-more is next es wrote left =
+      let rest = follow (after st command) (l + 1) (linesFrom input (e + 1)) in
+      rw es (wrote-rest (text st command) rest wrote (rw (follow-asked true is) at left))
 
 pub wrote-as : {l l′ bs : List ℕ} {at r : ℕ} (f : List ℕ) → f ≡ bs → Wrote l at bs l′ r → Wrote l at f l′ r
 wrote-as f e a = rw e a
@@ -133,27 +135,16 @@ module _ (input : List ℕ) where
   run-long h = rw (lt-ltb _ _ h)
 
   module _ (e : ℕ) (small : length input ≤ mostBytes) (found : e ≡ 0 + until newline (drop 0 input)) where
-    short : drillOf input ≡ first (split newline (drop 0 input))
+    line : Line input 0 e
+    line = record { inside = omega arith; found = found }
+
+    short : drillOf input ≡ first (linesFrom input 0)
     unfolding drillOf
     short = rw (le-ltb _ _ small)
 
     pub run-unended : length input ≤ e → drillOf input ≡ badLine 1
-    run-unended h = short ∙ first-unended 0 e input (omega arith) found h
+    run-unended h = short ∙ first-unended line h
 
-    module _ (h : e < length input) (k : CrewLine) (read : k ≡ crewLineOf (numbersOn (take e input))) where
-      ended-first : drillOf input ≡ crewed k (split newline (drop (e + 1) input))
-      ended-first = short ∙ first-ended 0 e input (omega arith) found h k (rw (sub-zero e) read)
-
-      pub run-none : k ≡ NoCrew → drillOf input ≡ badLine 1
-      run-none q = ended-first ∙ ap (λ (j : CrewLine). crewed j (split newline (drop (e + 1) input))) q
-
-      module _ (t : Crew) (q : k ≡ CrewRead t) (m : Bool) (tested : m ≡ isAccepted (acceptOf t)) where
-        crew-first : drillOf input
-            ≡ cond (isAccepted (acceptOf t)) (second t (split newline (drop (e + 1) input))) (badLine 1)
-        crew-first = ended-first ∙ ap (λ (j : CrewLine). crewed j (split newline (drop (e + 1) input))) q
-
-        pub run-good : m ≡ true → drillOf input ≡ second t (split newline (drop (e + 1) input))
-        run-good o = crew-first ∙ rw (sym tested ∙ o)
-
-        pub run-refused : m ≡ false → drillOf input ≡ badLine 1
-        run-refused o = crew-first ∙ rw (sym tested ∙ o)
+    pub run-ended : e < length input → (read k : CrewLine) → read ≡ crewLineOf (numbersOn (take e input)) → read ≡ k
+        → drillOf input ≡ crewed k (linesFrom input (e + 1))
+    run-ended h read k is told = short ∙ first-ended line h k (sym told ∙ rw (sub-zero e) is)

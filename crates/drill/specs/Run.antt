@@ -1,4 +1,5 @@
 -- What a whole script prints, from its bytes to the output's bytes: document 01, 'The drill'.
+use mathlib.Core.Path.{_≡_}
 use Prim.Native.Nat.{ℕ, _+_, _*_}
 use mathlib.Core.Bool.{Bool, true, false, cond}
 use mathlib.Core.List.{List, [], _∷_, _++_}
@@ -16,6 +17,7 @@ use Rattle.script.specs.declared.CrewLine.the-variants.{Crew as CrewRead, NoCre
 use Rattle.print.specs.Texts.{resultMost, badLine, badMost, endLine, longLine}
 use Rattle.aisle.specs.declared.State.{State}
 use Rattle.aisle.specs.Start.{begunOf}
+use Rattle.drill.specs.declared.Output.{Output}
 use Rattle.drill.specs.Steps.{allowed, after, text}
 
 -- a script has at most so many bytes
@@ -65,3 +67,8 @@ drillOf input = cond (ltb mostBytes (length input)) longLine (first (split newli
 -- The output in a buffer that every output fits into, with zeros after it.
 abbrev pub wholeOf : List ℕ → List ℕ
 wholeOf input = drillOf input ++ drop (length (drillOf input)) (replicate mostPrinted 0)
+
+-- An output has that text, and the size of the script's output.
+pub record Whole (input : List ℕ) (output : Output) : Type 0 where
+  pub text : output .text ≡ wholeOf input
+  pub size : output .size ≡ length (drillOf input)

@@ -12,16 +12,14 @@ use script::Command;
 use script::CrewLine;
 use wire::LAST_PHASE;
 ghost use mathlib.Core.Path.{_≡_};
-ghost use mathlib.Core.Bool.{true, false};
-ghost use Prim.Native.Nat.{_+_, _<_, _≤_};
-ghost use lib.ListN.{length, getD, drop};
-ghost use Rattle.wire.specs.Sizes.{spentPhase};
-ghost use Rattle.crew.specs.Parts.{mostNodes};
+ghost use mathlib.Core.Bool.{false};
+ghost use lib.ListN.{getD, drop};
 ghost use Rattle.script.specs.Lines.{newline, split};
-ghost use Rattle.print.specs.Texts.{Wrote, resultMost, badLine, endLine, longLine};
-ghost use Rattle.aisle.specs.Round.{goOf};
-ghost use Rattle.drill.specs.Steps.{stampFits, allowed, after, text};
-ghost use Rattle.drill.specs.Run.{mostBytes, follow, second, drillOf, wholeOf};
+ghost use Rattle.print.specs.Texts.{Wrote, badLine, endLine, longLine};
+ghost use Rattle.aisle.specs.Round.{Ready};
+ghost use Rattle.drill.specs.Steps.{stampFits, allowed};
+ghost use Rattle.drill.specs.Run.{follow, second, drillOf, Whole};
+ghost use Rattle.drill.specs.Promises.{Followable, Performable, Performed};
 
 // A script has at most so many bytes.
 pub const MOST_BYTES: usize = 65536;
@@ -125,10 +123,8 @@ fn put_long(out: &mut [u8], at: u32) -> usize
 
 // A go and its line.
 fn perform_go(state: State, out: &mut [u8], at: u32) -> Step
-    requires { ⌜ (state .crew .n ≤ mostNodes) × (state .phase < spentPhase) ⌝ }
-    ensures { λ r. ⌜ (r .state ≡ goOf state)
-        × Wrote (now (out .entry)) at (text state Command.Go) (now (out .exit)) (r .next)
-        × (r .next ≤ at + resultMost) ⌝ }
+    requires { ⌜ Ready state ⌝ }
+    ensures { λ r. ⌜ Performed state Command.Go (now (out .entry)) at (now (out .exit)) r ⌝ }
 {
     let after = aisle::go(state);
     let results = aisle::results_of(after);
@@ -144,10 +140,8 @@ fn perform_go(state: State, out: &mut [u8], at: u32) -> Step
 
 // What a good line changes and prints.
 fn perform(state: State, command: Command, out: &mut [u8], at: u32) -> Step
-    requires { ⌜ (state .crew .n ≤ mostNodes) × (allowed state command ≡ true) ⌝ }
-    ensures { λ r. ⌜ (r .state ≡ after state command)
-        × Wrote (now (out .entry)) at (text state command) (now (out .exit)) (r .next)
-        × (r .next ≤ at + resultMost) ⌝ }
+    requires { ⌜ Performable state command ⌝ }
+    ensures { λ r. ⌜ Performed state command (now (out .entry)) at (now (out .exit)) r ⌝ }
 {
     match command {
         Command::Cut { sender, receiver } => {
@@ -185,7 +179,7 @@ fn perform(state: State, command: Command, out: &mut [u8], at: u32) -> Step
 
 // The lines from line 3 on.
 fn follow_lines(begun: State, input: &[u8], from: usize, out: &mut [u8]) -> usize
-    requires { ⌜ (begun .crew .n ≤ mostNodes) × (from ≤ length (now input)) × (length (now input) ≤ mostBytes) ⌝ }
+    requires { ⌜ Followable (begun .crew .n) from (now input) ⌝ }
     ensures { λ r. ⌜ Wrote (now (out .entry)) 0 (follow begun 3 (split newline (drop from (now (input .entry)))))
         (now (out .exit)) r ⌝ }
 {
@@ -217,7 +211,7 @@ fn follow_lines(begun: State, input: &[u8], from: usize, out: &mut [u8]) -> usiz
 
 // The lines from line 2 on.
 fn follow_crew(crew: Crew, input: &[u8], at: usize, out: &mut [u8]) -> usize
-    requires { ⌜ (crew .n ≤ mostNodes) × (at ≤ length (now input)) × (length (now input) ≤ mostBytes) ⌝ }
+    requires { ⌜ Followable (crew .n) at (now input) ⌝ }
     ensures { λ r. ⌜ Wrote (now (out .entry)) 0 (second crew (split newline (drop at (now (input .entry)))))
         (now (out .exit)) r ⌝ }
 {
@@ -264,7 +258,7 @@ pub struct Output {
 
 // The drill with a buffer that holds every output: nothing is ever cut.
 pub fn run_whole(input: &[u8]) -> Output
-    ensures { λ r. ⌜ (r .text ≡ wholeOf (now (input .entry))) × (r .size ≡ length (drillOf (now (input .entry)))) ⌝ }
+    ensures { λ r. ⌜ Whole (now (input .entry)) r ⌝ }
 {
     let mut text = [0u8; MOST_PRINTED];
     let size = run(input, &mut text);

@@ -1,5 +1,6 @@
 -- The records that a start gives: document 01, 'Crew and node'.
 use Prim.Native.Nat.{ℕ}
+use mathlib.Core.List.{List}
 use lib.ListN.{set, replicate}
 use Rattle.wire.specs.Sizes.{historySize}
 use Rattle.crew.specs.declared.Crew.{Crew}
@@ -23,9 +24,9 @@ begun crew own run plan = record {
   history = set (replicate historySize 0) 0 plan;
 }
 
--- 01 leaves free what stands beside a refused start's number: here all of it is 0, which is not sound.
-unfoldable pub blank : Node
-blank = record {
+-- a record that is 0 but for its history
+abbrev pub zeroed : List ℕ → Node
+zeroed history = record {
   crew = blankCrew;
   own = 0;
   run = 0;
@@ -36,5 +37,9 @@ blank = record {
   stamp = 0;
   select = 0;
   result = 0;
-  history = replicate historySize 0;
+  history = history;
 }
+
+-- 01 leaves free what stands beside a refused start's number: here all of it is 0, which is not sound.
+unfoldable pub blank : Node
+blank = zeroed (replicate historySize 0)

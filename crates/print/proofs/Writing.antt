@@ -8,15 +8,21 @@ use native.Mathlib.Omega.{arith}
 use lib.ListN.{length, length-append, set, getD}
 use lib.Seq.{sets}
 use Rattle.wire.proofs.Stores.{sets-append}
-use Rattle.print.specs.Texts.{Wrote, fieldOf, fieldsFrom}
+use Rattle.print.specs.Texts.{Wrote, WroteWithin, fieldOf, fieldsFrom}
 
-pub wrote-then : {l xs l′ ys l″ : List ℕ} {at at′ at″ : ℕ}
+wrote-then : {l xs l′ ys l″ : List ℕ} {at at′ at″ : ℕ}
     → Wrote l at xs l′ at′ → Wrote l′ at′ ys l″ at″ → Wrote l at (xs ++ ys) l″ at″
 wrote-then {l = l} {xs = xs} {ys = ys} {at = at} a b =
     record {
       next = omega (arith, length-append xs ys, a .next, b .next);
       left = rw (sets-append xs ys l at, ← a .left, ← a .next) (b .left);
     }
+
+-- their bounds add up
+pub within-then : {m k : ℕ} {l xs l′ ys l″ : List ℕ} {at at′ at″ : ℕ}
+    → WroteWithin m l at xs l′ at′ → WroteWithin k l′ at′ ys l″ at″ → WroteWithin (m + k) l at (xs ++ ys) l″ at″
+within-then a b =
+    record { wrote = wrote-then (a .wrote) (b .wrote); within = omega (arith, a .within, b .within) }
 
 -- what is left of a text after its first part
 pub wrote-rest : {l l′ w : List ℕ} {at at′ e : ℕ} (xs ys : List ℕ)
@@ -27,25 +33,38 @@ wrote-rest {l = l} {at = at} xs ys a whole =
       left = rw (a .left, a .next) (whole .left ∙ sets-append xs ys l at);
     }
 
--- the last part of a text
-pub wrote-all : {l l′ l₀ bs : List ℕ} {at r : ℕ} (f text : List ℕ) → f ≡ bs → Wrote l at bs l′ r
-    → Wrote l at f (sets l₀ 0 text) (0 + length text) → Wrote l₀ 0 text l′ r
-wrote-all {l = l} {at = at} f text e a whole =
+-- A rest, written to l at `at`, completes a text: it leaves what the whole text leaves, written to l₀ from `from` on.
+abbrev pub Completes : List ℕ → List ℕ → ℕ → List ℕ → List ℕ → ℕ → Type 0
+Completes rest l at text l₀ from = Wrote l at rest (sets l₀ from text) (from + length text)
+
+-- so where that rest has been written, the whole text has been
+pub wrote-all : {l l′ l₀ written : List ℕ} {from at r : ℕ} (rest text : List ℕ) → rest ≡ written
+    → Wrote l at written l′ r → Completes rest l at text l₀ from → Wrote l₀ from text l′ r
+wrote-all {l = l} {at = at} rest text e a whole =
     record {
       next = a .next ∙ ap (λ (b : List ℕ). at + length b) (sym e) ∙ sym (whole .next);
       left = a .left ∙ ap (sets l at) (sym e) ∙ sym (whole .left);
     }
 
 -- a byte
-pub wrote-one : (b : ℕ) (l l′ : List ℕ) (at : ℕ) → l′ ≡ set l at b → Wrote l at (b ∷ []) l′ (at + 1)
-wrote-one b l l′ at e = record { next = refl; left = e }
+pub within-one : (b : ℕ) (l l′ : List ℕ) (at : ℕ) → l′ ≡ set l at b → WroteWithin 1 l at (b ∷ []) l′ (at + 1)
+within-one b l l′ at e = record { wrote = record { next = refl; left = e }; within = omega arith }
 
+-- nothing
 pub wrote-none : (l : List ℕ) (at : ℕ) → Wrote l at [] l at
 wrote-none l at = record { next = sym (add-zero at); left = refl }
 
--- what is left of the nodes' results, the whole of which leaves w and goes on to e
-module _ (rs : List ℕ) (hs : List Bool) (i n : ℕ) (w : List ℕ) (e : ℕ) where
-  pub fields-more : i < n → {l l′ : List ℕ} {at at′ : ℕ} → Wrote l at (fieldOf (getD hs i false) (getD rs i 0)) l′ at′
+pub within-none : (most : ℕ) (l : List ℕ) (at : ℕ) → WroteWithin most l at [] l at
+within-none most l at = record { wrote = wrote-none l at; within = omega arith }
+
+-- the nodes' results from node i on
+module _ (rs : List ℕ) (hs : List Bool) (i n : ℕ) where
+  pub fields-none : n ≤ i → fieldsFrom rs hs i (n - i) ≡ []
+  unfolding fieldsFrom
+  fields-none h = let k : n - i ≡ 0 = omega arith in rw k
+
+  pub fields-more : i < n → {l l′ w : List ℕ} {at at′ e : ℕ}
+      → Wrote l at (fieldOf (getD hs i false) (getD rs i 0)) l′ at′
       → Wrote l at (fieldsFrom rs hs i (n - i)) w e → Wrote l′ at′ (fieldsFrom rs hs (i + 1) (n - (i + 1))) w e
   unfolding fieldsFrom
   fields-more h {l = l} {at = at} a inv =
@@ -53,11 +72,3 @@ module _ (rs : List ℕ) (hs : List Bool) (i n : ℕ) (w : List ℕ) (e : ℕ) w
       let f = fieldOf (getD hs i false) (getD rs i 0) in
       let g = fieldsFrom rs hs (i + 1) (n - (i + 1)) in
       wrote-rest f g a (rw k at inv)
-
-  pub fields-done : n ≤ i → (l : List ℕ) (at : ℕ) → Wrote l at (fieldsFrom rs hs i (n - i)) w e → (at ≡ e) × (l ≡ w)
-  unfolding fieldsFrom
-  fields-done h l at inv =
-      let k : n - i ≡ 0 = omega arith in
-      let x : e ≡ at + 0 = rw k at (inv .next) in
-      let y : w ≡ l = rw k at (inv .left) in
-      (omega arith, sym y)

@@ -1,5 +1,5 @@
 -- The lines that a drill prints: document 01, 'The drill'.
-use Prim.Native.Nat.{ℕ, zero, suc, _+_, _*_, _/_, _%_}
+use Prim.Native.Nat.{ℕ, zero, suc, _+_, _*_, _/_, _%_, _≤_}
 use mathlib.Core.Bool.{Bool, false, cond}
 use mathlib.Core.List.{List, [], _∷_, _++_}
 use mathlib.Core.Path.{_≡_}
@@ -14,6 +14,11 @@ use Rattle.script.specs.Lines.{space, newline}
 pub record Wrote (l : List ℕ) (at : ℕ) (text l′ : List ℕ) (at′ : ℕ) : Type 0 where
   pub next : at′ ≡ at + length text
   pub left : l′ ≡ sets l at text
+
+-- Writing a text so, where it has no more than `most` bytes.
+pub record WroteWithin (most : ℕ) (l : List ℕ) (at : ℕ) (text l′ : List ℕ) (at′ : ℕ) : Type 0 where
+  pub wrote : Wrote l at text l′ at′
+  pub within : at′ ≤ at + most
 
 -- the digit of the worth p stands where the number is at least p
 abbrev pub placeOf : ℕ → ℕ → List ℕ
@@ -45,6 +50,12 @@ fieldsFrom results honest i (suc n) =
 -- a line has room for the results of the largest crew
 abbrev pub nodesShown : ℕ → ℕ
 nodesShown n = cond (leb n mostNodes) n mostNodes
+
+-- r is that number, and no more than the largest crew has.
+-- A promise of a private function: no public contract cites it.
+pub record Shown (n r : ℕ) : Type 0 where
+  pub count : r ≡ nodesShown n
+  pub within : r ≤ mostNodes
 
 -- 01: "Each go prints phase, round just done, and each node's result"
 unfoldable pub resultLine : ℕ → ℕ → ℕ → List ℕ → List Bool → List ℕ

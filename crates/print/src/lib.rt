@@ -7,11 +7,12 @@ use script::NEWLINE;
 use script::SPACE;
 use wire::Plan;
 ghost use mathlib.Core.Path.{_≡_};
-ghost use Prim.Native.Nat.{_+_, _*_, _≤_};
+ghost use Prim.Native.Nat.{_*_, _≤_};
 ghost use lib.ListN.{set};
 ghost use Rattle.crew.specs.Parts.{mostNodes};
 ghost use Rattle.print.specs.Texts.{
   Wrote,
+  WroteWithin,
   placeOf,
   decimalOf,
   decimalMost,
@@ -25,6 +26,7 @@ ghost use Rattle.print.specs.Texts.{
   longLine,
   wordOf,
   nodesShown,
+  Shown,
 };
 
 const DASH: u8 = b'-';
@@ -52,7 +54,7 @@ fn put(buf: &mut [u8], at: usize, byte: u8)
 // Four bytes. The bounds here and below keep a place far from the largest number.
 fn put_word(buf: &mut [u8], at: usize, w: u8, x: u8, y: u8, z: u8) -> usize
     requires { ⌜ at ≤ 4294967400 ⌝ }
-    ensures { λ r. ⌜ Wrote (now (buf .entry)) at (wordOf w x y z) (now (buf .exit)) r × (r ≤ at + 4) ⌝ }
+    ensures { λ r. ⌜ WroteWithin 4 (now (buf .entry)) at (wordOf w x y z) (now (buf .exit)) r ⌝ }
 {
     put(buf, at, w);
     let a = at + 1;
@@ -67,7 +69,7 @@ fn put_word(buf: &mut [u8], at: usize, w: u8, x: u8, y: u8, z: u8) -> usize
 // The digit of the worth p, where the number is that large.
 fn put_place(buf: &mut [u8], at: usize, v: u32, p: u32) -> usize
     requires { ⌜ (at ≤ 4294970000) × (1 ≤ p) ⌝ }
-    ensures { λ r. ⌜ Wrote (now (buf .entry)) at (placeOf v p) (now (buf .exit)) r × (r ≤ at + 1) ⌝ }
+    ensures { λ r. ⌜ WroteWithin 1 (now (buf .entry)) at (placeOf v p) (now (buf .exit)) r ⌝ }
 {
     if p <= v {
         put(buf, at, (ZERO + v / p % 10) as u8);
@@ -80,7 +82,7 @@ fn put_place(buf: &mut [u8], at: usize, v: u32, p: u32) -> usize
 // The digits of a number below 100,000.
 fn put_number(buf: &mut [u8], at: usize, v: u32) -> usize
     requires { ⌜ at ≤ 4294969000 ⌝ }
-    ensures { λ r. ⌜ Wrote (now (buf .entry)) at (decimalOf v) (now (buf .exit)) r × (r ≤ at + decimalMost) ⌝ }
+    ensures { λ r. ⌜ WroteWithin decimalMost (now (buf .entry)) at (decimalOf v) (now (buf .exit)) r ⌝ }
 {
     let a = put_place(buf, at, v, 10000);
     let b = put_place(buf, a, v, 1000);
@@ -93,7 +95,7 @@ fn put_number(buf: &mut [u8], at: usize, v: u32) -> usize
 // A space, and a node's result, or a dash.
 fn put_field(buf: &mut [u8], at: usize, honest: bool, result: Plan) -> usize
     requires { ⌜ at ≤ 4294968000 ⌝ }
-    ensures { λ r. ⌜ Wrote (now (buf .entry)) at (fieldOf honest result) (now (buf .exit)) r × (r ≤ at + fieldMost) ⌝ }
+    ensures { λ r. ⌜ WroteWithin fieldMost (now (buf .entry)) at (fieldOf honest result) (now (buf .exit)) r ⌝ }
 {
     put(buf, at, SPACE);
     let b = at + 1;
@@ -114,8 +116,8 @@ fn put_fields(
     honest: [bool; MOST_NODES],
 ) -> usize
     requires { ⌜ (start ≤ 4294967400) × (n ≤ mostNodes) ⌝ }
-    ensures { λ r. ⌜ Wrote (now (buf .entry)) start (fieldsFrom results honest 0 n) (now (buf .exit)) r
-        × (r ≤ start + fieldMost * mostNodes) ⌝ }
+    ensures { λ r. ⌜ WroteWithin (fieldMost * mostNodes) (now (buf .entry)) start (fieldsFrom results honest 0 n)
+        (now (buf .exit)) r ⌝ }
 {
     let mut at = start;
     let mut i: usize = 0;
@@ -128,7 +130,7 @@ fn put_fields(
 
 // A line has room for so many results: no crew has more nodes.
 fn nodes_shown(n: usize) -> usize
-    ensures { λ r. ⌜ (r ≡ nodesShown n) × (r ≤ mostNodes) ⌝ }
+    ensures { λ r. ⌜ Shown n r ⌝ }
 {
     if n <= MOST_NODES { n } else { MOST_NODES }
 }
@@ -143,8 +145,8 @@ pub fn result_line(
     results: [Plan; MOST_NODES],
     honest: [bool; MOST_NODES],
 ) -> usize
-    ensures { λ r. ⌜ Wrote (now (buf .entry)) at (resultLine phase round (nodesShown n) results honest)
-        (now (buf .exit)) r × (r ≤ at + resultMost) ⌝ }
+    ensures { λ r. ⌜ WroteWithin resultMost (now (buf .entry)) at
+        (resultLine phase round (nodesShown n) results honest) (now (buf .exit)) r ⌝ }
 {
     let shown = nodes_shown(n);
     let a = put_number(buf, at as usize, phase as u32);

@@ -1,5 +1,5 @@
 -- `begin` meets its contract. The invariant: the first i nodes have started.
-use Rattle.aisle.proofs.Tables.{Filled, filled-none, filled-more, filled-all}
+use Rattle.aisle.proofs.Tables.{Filling, filling-none, filling-more, filling-all}
 use Rattle.aisle.specs.Start.{begunOf}
 use Rattle.node.specs.Starting.{startOf}
 use Rattle.node.specs.Record.{blank}
@@ -14,7 +14,7 @@ use Rattle.aisle.proofs.begin.Tie as tie
 
 abbrev Inv-loop : tie.InvT-loop
 Inv-loop crew plans nodes₀ i₀ nodes i =
-    Filled (λ j. valueOr blank (startOf crew j 1 (getD plans j 0))) mostNodes nodes i
+    Filling (λ j. valueOr blank (startOf crew j 1 (getD plans j 0))) mostNodes nodes i
 
 abbrev μ-loop : tie.MeasureT-loop
 μ-loop crew plans nodes₀ i₀ nodes i = mostNodes - i
@@ -23,7 +23,7 @@ start-node-requires : tie.Need-start-node-requires Inv-loop μ-loop
 start-node-requires c κs = search needs
 
 loop-holds : tie.Need-loop-holds Inv-loop μ-loop
-loop-holds c = filled-none _ mostNodes _ refl
+loop-holds c = filling-none _ mostNodes _ refl
 
 mul-start-node : tie.Need-mul-start-node Inv-loop μ-loop
 mul-start-node c = search needs
@@ -48,7 +48,8 @@ loop-less c = search needs
 
 loop-again : tie.Need-loop-again Inv-loop μ-loop
 loop-again c =
-    filled-more _ mostNodes _ _ _ (c .before .loop-test .taken) (c .start-node2 .ensures) (c .before .before .loop .inv)
+    let turn = c .before in
+    filling-more _ mostNodes _ _ _ (turn .loop-test .taken) (c .start-node2 .ensures) (turn .before .loop .inv)
 
 honest-of-requires : tie.Need-honest-of-requires Inv-loop μ-loop
 honest-of-requires c κs = search needs
@@ -59,12 +60,11 @@ empty-requires c κs = search needs
 returns : tie.Need-returns Inv-loop μ-loop
 unfolding begunOf
 returns c =
-    let b3 = c .before .before .before in
+    let looped = c .before .before in
     rw (
-      ← filled-all _ mostNodes _ _ (c .before .before .loop-test .left) (b3 .loop .inv),
+      ← filling-all _ mostNodes _ _ (looped .loop-test .left) (looped .before .loop .inv),
       ← c .before .honest-of .ensures,
-      ←
-          c .empty .ensures,
+      ← c .empty .ensures,
     )
 
 pub begin-spec : {M : Type 1} → statement M

@@ -30,10 +30,10 @@ same-length c = search needs
 returns-2 : tie.Need-returns-2
 unfolding delivered
 returns-2 c =
-    let b5 = c .before .before .before .before .before in
-    let b7 = b5 .before .before in
-    let b8 = b7 .before in
-    rw (sym (b8 .is-cut .ensures) ∙ b7 .if1 .left, b5 .if2 .taken) (c .before .before .write .ensures .2)
+    let honest = c .before .before .before .before .before in
+    let uncut = honest .before .before in
+    rw (sym (uncut .before .is-cut .ensures) ∙ uncut .if1 .left, honest .if2 .taken)
+    (c .before .before .write .ensures .2)
 
 say-of-requires : tie.Need-say-of-requires
 say-of-requires c κs = search needs
@@ -47,11 +47,10 @@ same-length-2 c = search needs
 returns-3 : tie.Need-returns-3
 unfolding delivered
 returns-3 c =
-    let b4 = c .before .before .before .before in
-    let b5 = b4 .before in
-    let b7 = b5 .before .before in
-    let b8 = b7 .before in
-    rw (sym (b8 .is-cut .ensures) ∙ b7 .if1 .left, b5 .if2 .left, ← b4 .say-of .ensures)
+    let said = c .before .before .before .before in
+    let not-honest = said .before in
+    let uncut = not-honest .before .before in
+    rw (sym (uncut .before .is-cut .ensures) ∙ uncut .if1 .left, not-honest .if2 .left, ← said .say-of .ensures)
     (c .before .before .write-say .ensures)
 
 pub deliver-spec : {M : Type 1} → statement M

@@ -1,6 +1,6 @@
 -- `go` meets its contract.
 use Rattle.aisle.specs.Round.{gone}
-use Rattle.aisle.proofs.Going.{ready-facts}
+use Rattle.aisle.proofs.Going.{is-ready}
 use borrow.Author.Needs.{needs}
 use Rattle.aisle.proofs.go.Statement.{statement}
 use Rattle.aisle.proofs.go.Tie as tie
@@ -9,7 +9,7 @@ cast-ready : tie.Need-cast-ready
 cast-ready c = search needs
 
 whole-round-requires : tie.Need-whole-round-requires
-whole-round-requires c κs = ready-facts (c .before .before .before .args .state) (c .if1 .taken)
+whole-round-requires c κs = is-ready (c .before .before .before .args .state) (c .if1 .taken)
 
 returns : tie.Need-returns
 unfolding gone

@@ -27,15 +27,17 @@ array-share-prefix-inbox c = search needs
 
 slice-aggregate-take : tie.Need-slice-aggregate-take
 slice-aggregate-take c =
-    let b3 = c .before .before .before in
-    sym (length-take-le _ _ (omega (arith, c .before .before .inbox-for .ensures .0, b3 .pre .0)))
+    let asked = c .before .before in
+    sym (length-take-le _ _ (omega (arith, asked .inbox-for .ensures .size, asked .before .pre)))
 
 take-requires : tie.Need-take-requires
 take-requires c κs = search needs
 
 returns : tie.Need-returns
 unfolding nodeAfter
-returns c = rw (← c .before .before .before .before .inbox-for .ensures .1) (c .before .take .ensures .node)
+returns c =
+    let inbox = c .before .before .before .before .inbox-for in
+    rw (← inbox .ensures .front) (c .before .take .ensures .node)
 
 pub take-round-spec : {M : Type 1} → statement M
 take-round-spec =

@@ -1,5 +1,5 @@
 -- `whole_round` meets its contract. The invariant: the first receivers have taken the round.
-use Rattle.aisle.proofs.Tables.{Filled, filled-none, filled-more, filled-all}
+use Rattle.aisle.proofs.Tables.{Filling, filling-none, filling-more, filling-all}
 use Rattle.aisle.specs.Round.{nodeAfter, goOf}
 use Rattle.crew.specs.Parts.{mostNodes}
 use Prim.Native.Nat.{_-_}
@@ -9,7 +9,7 @@ use Rattle.aisle.proofs.whole_round.Statement.{statement}
 use Rattle.aisle.proofs.whole_round.Tie as tie
 
 abbrev Inv-loop : tie.InvT-loop
-Inv-loop state crew honest nodes₀ receiver₀ nodes receiver = Filled (nodeAfter state) mostNodes nodes receiver
+Inv-loop state crew honest nodes₀ receiver₀ nodes receiver = Filling (nodeAfter state) mostNodes nodes receiver
 
 abbrev μ-loop : tie.MeasureT-loop
 μ-loop state crew honest nodes₀ receiver₀ nodes receiver = mostNodes - receiver
@@ -18,7 +18,7 @@ element-copy-out-node : tie.Need-element-copy-out-node Inv-loop μ-loop
 element-copy-out-node c = search needs
 
 loop-holds : tie.Need-loop-holds Inv-loop μ-loop
-loop-holds c = filled-none _ mostNodes _ refl
+loop-holds c = filling-none _ mostNodes _ refl
 
 take-round-requires : tie.Need-take-round-requires Inv-loop μ-loop
 take-round-requires c κs = search needs
@@ -37,7 +37,8 @@ loop-less c = search needs
 
 loop-again : tie.Need-loop-again Inv-loop μ-loop
 loop-again c =
-    filled-more _ mostNodes _ _ _ (c .before .loop-test .taken) (c .take-round .ensures) (c .before .before .loop .inv)
+    let turn = c .before in
+    filling-more _ mostNodes _ _ _ (turn .loop-test .taken) (c .take-round .ensures) (turn .before .loop .inv)
 
 phase-after-requires : tie.Need-phase-after-requires Inv-loop μ-loop
 phase-after-requires c κs = search needs
@@ -51,13 +52,11 @@ empty-requires c κs = search needs
 returns : tie.Need-returns Inv-loop μ-loop
 unfolding goOf
 returns c =
-    let b3 = c .before .before .before in
-    let b4 = b3 .before in
+    let looped = c .before .before .before in
     rw (
-      ← filled-all _ mostNodes _ _ (b3 .loop-test .left) (b4 .loop .inv),
+      ← filling-all _ mostNodes _ _ (looped .loop-test .left) (looped .before .loop .inv),
       ← c .before .before .phase-after .ensures,
-      ←
-          c .before .round-after .ensures,
+      ← c .before .round-after .ensures,
       ← c .empty .ensures,
     )
 

@@ -20,9 +20,8 @@ same-length c = search needs
 returns-2 : tie.Need-returns-2
 unfolding sayBuffer
 returns-2 c =
-    let b4 = c .before .before .before .before in
-    let b5 = b4 .before in
-    rw (ne-eqb _ _ (b5 .if1 .left), eq-eqb _ _ (b4 .if2 .taken))
+    let selects = c .before .before .before .before in
+    rw (ne-eqb _ _ (selects .before .if1 .left), eq-eqb _ _ (selects .if2 .taken))
     (c .before .before .write-selection .ensures .1 ∙ selection-said _ _ _ _ _)
 
 write-validation-requires : tie.Need-write-validation-requires
@@ -34,11 +33,13 @@ same-length-2 c = search needs
 returns-3 : tie.Need-returns-3
 unfolding sayBuffer
 returns-3 c =
-    let b4 = c .before .before .before .before in
-    let b5 = b4 .before in
-    let b6 = b5 .before in
-    rw (ne-eqb _ _ (b6 .if1 .left), ne-eqb _ _ (b5 .if2 .left), eq-eqb _ _ (b4 .if3 .taken))
-    (c .before .before .write-validation .ensures .1)
+    let validates = c .before .before .before .before in
+    let unselecting = validates .before in
+    rw (
+      ne-eqb _ _ (unselecting .before .if1 .left),
+      ne-eqb _ _ (unselecting .if2 .left),
+      eq-eqb _ _ (validates .if3 .taken),
+    ) (c .before .before .write-validation .ensures .1)
 
 write-decision-requires : tie.Need-write-decision-requires
 write-decision-requires c κs = search needs
@@ -49,11 +50,13 @@ same-length-3 c = search needs
 returns-4 : tie.Need-returns-4
 unfolding sayBuffer
 returns-4 c =
-    let b4 = c .before .before .before .before in
-    let b5 = b4 .before in
-    let b6 = b5 .before in
-    rw (ne-eqb _ _ (b6 .if1 .left), ne-eqb _ _ (b5 .if2 .left), ne-eqb _ _ (b4 .if3 .left))
-    (c .before .before .write-decision .ensures .1)
+    let decides = c .before .before .before .before in
+    let unselecting = decides .before in
+    rw (
+      ne-eqb _ _ (unselecting .before .if1 .left),
+      ne-eqb _ _ (unselecting .if2 .left),
+      ne-eqb _ _ (decides .if3 .left),
+    ) (c .before .before .write-decision .ensures .1)
 
 pub write-say-spec : {M : Type 1} → statement M
 write-say-spec =

@@ -1,9 +1,33 @@
 -- `follow_crew` meets its contract.
-use Rattle.drill.proofs.Following.{second-unended, second-good, second-bad, wrote-as}
+use mathlib.Core.Path.{_≡_}
+use mathlib.Core.Bool.{Bool, true, false, cond}
+use Prim.Native.Nat.{_+_}
+use denote.Ref.{now}
+use Rattle.print.specs.Texts.{badLine}
+use Rattle.aisle.specs.Start.{begunOf}
+use Rattle.drill.specs.Run.{follow, second}
+use Rattle.drill.proofs.Following.{linesFrom, Line, second-unended, second-ended, wrote-as}
 use Rattle.drill.proofs.Stepping.{begun-small}
 use borrow.Author.Needs.{needs}
 use Rattle.drill.proofs.follow_crew.Statement.{statement}
 use Rattle.drill.proofs.follow_crew.Tie as tie
+
+-- the line that has been found
+found-line : (c : tie.After-find)
+    → let args = c .before .before .before .args in
+    Line (now (args .input)) (args .at) (c .find .result)
+found-line c = record { inside = c .before .before .before .pre .inside; found = c .find .ensures }
+
+-- what the lines from line 2 on print, once it is read, by whether it has the plans
+planned : (c : tie.After-plans-line) (good : Bool) → c .plans-line .result .good ≡ good
+    → let found = c .before .before .before .before in
+    let args = found .before .before .before .args in
+    let begun = begunOf (args .crew) (c .plans-line .result .plans) in
+    second (args .crew) (linesFrom (now (args .input)) (args .at))
+    ≡ cond good (follow begun 3 (linesFrom (now (args .input)) (found .find .result + 1))) (badLine 2)
+planned c good is =
+    let ended = c .before .before .before in
+    second-ended (found-line (ended .before)) _ (ended .if1 .left) _ (c .plans-line .ensures) good is
 
 find-requires : tie.Need-find-requires
 find-requires c κs = search needs
@@ -16,10 +40,8 @@ same-length c = search needs
 
 returns : tie.Need-returns
 returns c =
-    let b4 = c .before .before .before .before in
-    let b5 = b4 .before in
-    let b8 = b5 .before .before .before in
-    wrote-as _ (second-unended _ _ _ (b8 .pre .1) (b5 .find .ensures) _ (b4 .if1 .taken))
+    let unended = c .before .before .before .before in
+    wrote-as _ (second-unended (found-line (unended .before)) _ (unended .if1 .taken))
     (c .before .before .put-bad .ensures)
 
 sub-plans-line : tie.Need-sub-plans-line
@@ -45,24 +67,23 @@ add-follow-lines c = search needs
 
 follow-lines-requires : tie.Need-follow-lines-requires
 follow-lines-requires c κs =
-    let b11 = c .before .before .before .before .before .before .before .before .before .before .before in
-    (begun-small _ _ _ (c .before .begin .ensures) (b11 .pre .0), search needs, search needs)
+    let planned = c .before .before .before .before in
+    let start = planned .before .before .before .before .before .before .before in
+    record {
+      small = begun-small _ _ _ (c .before .begin .ensures) (start .pre .small);
+      inside = search needs;
+      short = search needs;
+    }
 
 same-length-2 : tie.Need-same-length-2
 same-length-2 c = search needs
 
 returns-2 : tie.Need-returns-2
 returns-2 c =
-    let b4 = c .before .before .before .before in
-    let b6 = b4 .before .before in
-    let b7 = b6 .before in
-    let b10 = b7 .before .before .before in
-    let b11 = b10 .before in
-    let b14 = b11 .before .before .before in
-    wrote-as _
-    (second-good _ _ _ (b14 .pre .1) (b11 .find .ensures) _ (b10 .if1 .left) _ (b7 .plans-line .ensures)
-    (b6 .if2 .taken) _ (b4 .begin .ensures))
-    (c .before .before .follow-lines .ensures)
+    let begun = c .before .before .before .before in
+    let good = begun .before .before in
+    wrote-as _ (planned (good .before) true (good .if2 .taken))
+    (rw (← begun .begin .ensures) (c .before .before .follow-lines .ensures))
 
 put-bad-requires-2 : tie.Need-put-bad-requires-2
 put-bad-requires-2 c κs = search needs
@@ -72,14 +93,8 @@ same-length-3 c = search needs
 
 returns-3 : tie.Need-returns-3
 returns-3 c =
-    let b4 = c .before .before .before .before in
-    let b5 = b4 .before in
-    let b8 = b5 .before .before .before in
-    let b9 = b8 .before in
-    let b12 = b9 .before .before .before in
-    wrote-as _
-    (second-bad _ _ _ (b12 .pre .1) (b9 .find .ensures) _ (b8 .if1 .left) _ (b5 .plans-line .ensures) (b4 .if2 .left))
-    (c .before .before .put-bad2 .ensures)
+    let bad = c .before .before .before .before in
+    wrote-as _ (planned (bad .before) false (bad .if2 .left)) (c .before .before .put-bad2 .ensures)
 
 pub follow-crew-spec : {M : Type 1} → statement M
 follow-crew-spec =

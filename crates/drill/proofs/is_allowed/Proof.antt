@@ -26,8 +26,8 @@ returns c = simp (c .before .before .before .command .given .1)
 
 returns-2 : tie.Need-returns-2
 returns-2 c =
-    let b7 = c .before .before .before .before .before .before .before in
-    simp (b7 .command2 .given .1, c .before .before .is-honest .ensures, c .before .stamp-fits .ensures)
+    let said = c .before .before .before .before .before .before .before .command2 in
+    simp (said .given .1, c .before .before .is-honest .ensures, c .before .stamp-fits .ensures)
 
 returns-3 : tie.Need-returns-3
 returns-3 c = simp (c .before .enum-told .given .1)

@@ -1,8 +1,5 @@
 -- `perform` meets its contract.
-use Rattle.drill.proofs.Stepping.{go-unspent}
-use Rattle.print.proofs.Writing.{wrote-none}
-use native.Mathlib.Omega.{arith}
-use denote.Ref.{now}
+use Rattle.drill.proofs.Stepping.{go-ready, quietly}
 use borrow.Author.Needs.{needs}
 use Rattle.drill.proofs.perform.Statement.{statement}
 use Rattle.drill.proofs.perform.Tie as tie
@@ -36,48 +33,31 @@ enum-told c = search needs
 
 perform-go-requires : tie.Need-perform-go-requires
 perform-go-requires c κs =
-    let b4 = c .before .before .before .before in
-    (b4 .pre .0, go-unspent _ _ (c .before .enum-told .given .1) (b4 .pre .1))
+    go-ready _ _ (c .before .enum-told .given .1) (c .before .before .before .before .pre)
 
 enum-told-2 : tie.Need-enum-told-2
 enum-told-2 c = search needs
 
 returns : tie.Need-returns
 returns c =
-    let b3 = c .before .before .before in
-    let b6 = b3 .before .before .before in (
-      simp (b3 .command .given .1, c .with-cut .ensures),
-      simp (b3 .command .given .1) (wrote-none (now (b6 .args .out)) (b6 .args .at)),
-      omega arith,
-    )
+    let told = c .before .before .before .command .given .1 in
+    quietly (simp (told, c .with-cut .ensures)) (simp told)
 
 returns-2 : tie.Need-returns-2
 returns-2 c =
-    let b3 = c .before .before .before in
-    let b6 = b3 .before .before .before in (
-      simp (b3 .command2 .given .1, c .with-say .ensures),
-      simp (b3 .command2 .given .1) (wrote-none (now (b6 .args .out)) (b6 .args .at)),
-      omega arith,
-    )
+    let told = c .before .before .before .command2 .given .1 in
+    quietly (simp (told, c .with-say .ensures)) (simp told)
 
 same-length : tie.Need-same-length
 same-length c = search needs
 
 returns-3 : tie.Need-returns-3
 returns-3 c =
-    let b4 = c .before .before .before .before in (
-      simp (b4 .enum-told .given .1) (c .before .before .perform-go .ensures .0),
-      simp (b4 .enum-told .given .1) (c .before .before .perform-go .ensures .1),
-      c .before .before .perform-go .ensures .2,
-    )
+    let told = c .before .before .before .before .enum-told .given .1 in
+    rw told (c .before .before .perform-go .ensures)
 
 returns-4 : tie.Need-returns-4
-returns-4 c =
-    let b3 = c .before .before .before in (
-      simp (c .enum-told2 .given .1),
-      simp (c .enum-told2 .given .1) (wrote-none (now (b3 .args .out)) (b3 .args .at)),
-      omega arith,
-    )
+returns-4 c = quietly (simp (c .enum-told2 .given .1)) (simp (c .enum-told2 .given .1))
 
 pub perform-spec : {M : Type 1} → statement M
 perform-spec =

@@ -25,15 +25,15 @@ same-length c = search needs
 
 returns : tie.Need-returns
 returns c =
-    let b4 = c .before .before .before .before in
-    let b8 = b4 .before .before .before .before in
-    let b9 = b8 .before in
-    let start = b9 .before .before in
-    let round = b9 .go .ensures ∙ gone-round (start .args .state) (start .pre .0) (start .pre .1) in (
-      round,
-      rw (← round, ← b8 .results-of .ensures) (b4 .result-line .ensures .0),
-      b4 .result-line .ensures .1,
-    )
+    let printed = c .before .before .before .before in
+    let results = printed .before .before .before .before in
+    let gone = results .before in
+    let start = gone .before .before in
+    let round = gone .go .ensures ∙ gone-round (start .args .state) (start .pre) in
+    record {
+      state = round;
+      printed = rw (← round, ← results .results-of .ensures) (printed .result-line .ensures);
+    }
 
 pub perform-go-spec : {M : Type 1} → statement M
 perform-go-spec =

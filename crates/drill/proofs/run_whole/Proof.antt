@@ -18,10 +18,12 @@ run-requires c κs = search needs
 
 returns : tie.Need-returns
 returns c =
-    let b4 = c .before .before .before .before in (
-      c .before .run .ensures .left ∙ output-whole (now (b4 .args .input)) (replicate mostPrinted 0) (omega arith),
-      c .before .run .ensures .next ∙ zero-add _,
-    )
+    let start = c .before .before .before .before in
+    let ran = c .before .run .ensures in
+    record {
+      text = ran .left ∙ output-whole (now (start .args .input)) (replicate mostPrinted 0) (omega arith);
+      size = ran .next ∙ zero-add _;
+    }
 
 pub run-whole-spec : {M : Type 1} → statement M
 run-whole-spec = tie.close (tie.spec slice-aggregate-run run-requires returns)

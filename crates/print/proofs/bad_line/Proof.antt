@@ -1,6 +1,6 @@
 -- `bad_line` meets its contract.
 use Rattle.print.specs.Texts.{badLine}
-use Rattle.print.proofs.Writing.{wrote-then, wrote-one}
+use Rattle.print.proofs.Writing.{within-then, within-one}
 use borrow.Author.Needs.{needs}
 use Rattle.print.proofs.bad_line.Statement.{statement}
 use Rattle.print.proofs.bad_line.Tie as tie
@@ -23,10 +23,11 @@ same-length c = search needs
 returns : tie.Need-returns
 unfolding badLine
 returns c =
-    let b6 = c .before .before .before .before .before .before in
-    let b10 = b6 .before .before .before .before in
-    wrote-then (b10 .put-word .ensures .0)
-    (wrote-then (b6 .put-number .ensures .0) (wrote-one _ _ _ _ (c .before .before .put .ensures)))
+    let number = c .before .before .before .before .before .before in
+    let word = number .before .before .before .before in
+    within-then (word .put-word .ensures)
+    (within-then (number .put-number .ensures) (within-one _ _ _ _ (c .before .before .put .ensures)))
+    .wrote
 
 pub bad-line-spec : {M : Type 1} → statement M
 bad-line-spec =

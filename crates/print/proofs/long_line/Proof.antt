@@ -1,5 +1,5 @@
 -- `long_line` meets its contract.
-use Rattle.print.proofs.Writing.{wrote-then, wrote-one}
+use Rattle.print.proofs.Writing.{within-then, within-one}
 use borrow.Author.Needs.{needs}
 use Rattle.print.proofs.long_line.Statement.{statement}
 use Rattle.print.proofs.long_line.Tie as tie
@@ -18,8 +18,8 @@ same-length c = search needs
 
 returns : tie.Need-returns
 returns c =
-    let b6 = c .before .before .before .before .before .before in
-    (wrote-then (b6 .put-word .ensures .0) (wrote-one _ _ _ _ (c .before .before .put .ensures)))
+    let word = c .before .before .before .before .before .before .put-word in
+    within-then (word .ensures) (within-one _ _ _ _ (c .before .before .put .ensures)) .wrote
 
 pub long-line-spec : {M : Type 1} → statement M
 long-line-spec = tie.close (tie.spec put-word-requires put-requires add-result same-length returns)

@@ -1,7 +1,7 @@
 -- `put_field` meets its contract.
 use Rattle.print.specs.Texts.{fieldOf}
 use native.Mathlib.Omega.{arith}
-use Rattle.print.proofs.Writing.{wrote-then, wrote-one}
+use Rattle.print.proofs.Writing.{within-then, within-one}
 use borrow.Author.Needs.{needs}
 use Rattle.print.proofs.put_field.Statement.{statement}
 use Rattle.print.proofs.put_field.Tie as tie
@@ -27,12 +27,10 @@ same-length c = search needs
 returns : tie.Need-returns
 unfolding fieldOf
 returns c =
-    let b4 = c .before .before .before .before in
-    let b7 = b4 .before .before .before in (
-      rw (b4 .if1 .taken)
-          (wrote-then (wrote-one _ _ _ _ (b7 .put .ensures)) (c .before .before .put-number .ensures .0)),
-      omega (arith, c .before .before .put-number .ensures .1),
-    )
+    let honest = c .before .before .before .before in
+    let parted = honest .before .before .before in
+    rw (honest .if1 .taken)
+    (within-then (within-one _ _ _ _ (parted .put .ensures)) (c .before .before .put-number .ensures))
 
 same-length-2 : tie.Need-same-length-2
 same-length-2 c = search needs
@@ -40,12 +38,11 @@ same-length-2 c = search needs
 returns-2 : tie.Need-returns-2
 unfolding fieldOf
 returns-2 c =
-    let b4 = c .before .before .before .before in
-    let b7 = b4 .before .before .before in (
-      rw (b4 .if1 .left)
-          (wrote-then (wrote-one _ _ _ _ (b7 .put .ensures)) (wrote-one _ _ _ _ (c .before .before .put2 .ensures))),
-      omega arith,
-    )
+    let not-honest = c .before .before .before .before in
+    let parted = not-honest .before .before .before in
+    let dashed = c .before .before .put2 .ensures in
+    let both = within-then (within-one _ _ _ _ (parted .put .ensures)) (within-one _ _ _ _ dashed) in
+    rw (not-honest .if1 .left) (record { wrote = both .wrote; within = omega arith })
 
 pub put-field-spec : {M : Type 1} → statement M
 put-field-spec =

@@ -1,30 +1,39 @@
--- `put_fields` meets its contract. The invariant: what is laid so far and the fields of the nodes left make up all
--- fields.
+-- `put_fields` meets its contract.
 use mathlib.Core.Path.{_≡_, refl, _∙_}
+use mathlib.Core.Bool.{Bool}
+use mathlib.Core.List.{List}
 use native.Mathlib.Omega.{arith}
 use lib.ListN.{length}
-use lib.Seq.{sets}
-use Prim.Native.Nat.{_≤_, _+_, _*_, _-_}
+use Prim.Native.Nat.{ℕ, _≤_, _+_, _*_, _-_}
 use native.Mathlib.Nat.{sub-zero}
-use Rattle.print.specs.Texts.{Wrote, fieldMost, fieldsFrom}
-use Rattle.print.proofs.Writing.{fields-more, fields-done}
+use Rattle.print.specs.Texts.{fieldMost, fieldsFrom}
+use Rattle.print.proofs.Writing.{Completes, wrote-none, wrote-all, fields-none, fields-more}
 use borrow.Author.Needs.{needs}
 use Rattle.print.proofs.put_fields.Statement.{statement}
 use Rattle.print.proofs.put_fields.Tie as tie
 
+-- i nodes' fields are laid, up to `at`; those of the nodes left complete the fields of all.
+record Laying (buf₀ : List ℕ) (start n : ℕ) (results : List ℕ) (honest : List Bool) (buf : List ℕ) (at i : ℕ)
+    : Type 0 where
+  within : i ≤ n
+  near : at ≤ start + fieldMost * i
+  same-size : length buf ≡ length buf₀
+  left : Completes (fieldsFrom results honest i (n - i)) buf at (fieldsFrom results honest 0 n) buf₀ start
+
 abbrev Inv-loop : tie.InvT-loop
-Inv-loop buf₀ start n results honest at₀ i₀ buf at i =
-    (i ≤ n)
-    × (at ≤ start + fieldMost * i)
-    × (length buf ≡ length buf₀)
-    × Wrote buf at (fieldsFrom results honest i (n - i))
-    (sets buf₀ start (fieldsFrom results honest 0 n)) (start + length (fieldsFrom results honest 0 n))
+Inv-loop buf₀ start n results honest at₀ i₀ buf at i = Laying buf₀ start n results honest buf at i
 
 abbrev μ-loop : tie.MeasureT-loop
 μ-loop buf₀ start n results honest at₀ i₀ buf at i = n - i
 
 loop-holds : tie.Need-loop-holds Inv-loop μ-loop
-loop-holds c = simp sub-zero (search needs, search needs, refl, record { next = refl; left = refl })
+loop-holds c =
+    record {
+      within = search needs;
+      near = search needs;
+      same-size = refl;
+      left = simp sub-zero (record { next = refl; left = refl });
+    }
 
 array-read-put-field : tie.Need-array-read-put-field Inv-loop μ-loop
 array-read-put-field c = search needs
@@ -46,21 +55,23 @@ loop-less c = search needs
 
 loop-again : tie.Need-loop-again Inv-loop μ-loop
 loop-again c =
-    let b4 = c .before .before .before .before in
-    let b5 = b4 .before in (
-      search needs,
-      omega (arith, c .before .before .put-field .ensures .1, b5 .loop .inv .1),
-      c .before .before .put-field .kept .0 ∙ b5 .loop .inv .2,
-      fields-more _ _ _ _ _ _ (b4 .loop-test .taken) (c .before .before .put-field .ensures .0) (b5 .loop .inv .3),
-    )
+    let put = c .before .before .put-field in
+    let turn = c .before .before .before .before in
+    let laying = turn .before .loop .inv in
+    record {
+      within = search needs;
+      near = omega (arith, put .ensures .within, laying .near);
+      same-size = put .kept .0 ∙ laying .same-size;
+      left = fields-more _ _ _ _ (turn .loop-test .taken) (put .ensures .wrote) (laying .left);
+    }
 
 same-length : tie.Need-same-length Inv-loop μ-loop
 same-length c = search needs
 
 returns : tie.Need-returns Inv-loop μ-loop
 returns c =
-    let d = fields-done _ _ _ _ _ _ (c .loop-test .left) _ _ (c .before .loop .inv .3) in
-    (record { next = d .0; left = d .1 }, search needs)
+    let none-left = fields-none _ _ _ _ (c .loop-test .left) in
+    record { wrote = wrote-all _ _ none-left (wrote-none _ _) (c .before .loop .inv .left); within = search needs }
 
 pub put-fields-spec : {M : Type 1} → statement M
 put-fields-spec =

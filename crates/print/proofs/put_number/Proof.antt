@@ -1,7 +1,6 @@
 -- `put_number` meets its contract.
 use Rattle.print.specs.Texts.{decimalOf}
-use native.Mathlib.Omega.{arith}
-use Rattle.print.proofs.Writing.{wrote-then, wrote-one}
+use Rattle.print.proofs.Writing.{within-then, within-one}
 use borrow.Author.Needs.{needs}
 use Rattle.print.proofs.put_number.Statement.{statement}
 use Rattle.print.proofs.put_number.Tie as tie
@@ -36,22 +35,14 @@ same-length c = search needs
 returns : tie.Need-returns
 unfolding decimalOf
 returns c =
-    let b6 = c .before .before .before .before .before .before in
-    let b10 = b6 .before .before .before .before in
-    let b14 = b10 .before .before .before .before in
-    let b18 = b14 .before .before .before .before in (
-      wrote-then (b18 .put-place .ensures .0)
-          (wrote-then (b14 .put-place2 .ensures .0)
-          (wrote-then (b10 .put-place3 .ensures .0)
-          (wrote-then (b6 .put-place4 .ensures .0) (wrote-one _ _ _ _ (c .before .before .put .ensures))))),
-      omega (
-        arith,
-        b18 .put-place .ensures .1,
-        b14 .put-place2 .ensures .1,
-        b10 .put-place3 .ensures .1,
-        b6 .put-place4 .ensures .1,
-      ),
-    )
+    let tens = c .before .before .before .before .before .before in
+    let hundreds = tens .before .before .before .before in
+    let thousands = hundreds .before .before .before .before in
+    let ten-thousands = thousands .before .before .before .before in
+    within-then (ten-thousands .put-place .ensures)
+    (within-then (thousands .put-place2 .ensures)
+    (within-then (hundreds .put-place3 .ensures)
+    (within-then (tens .put-place4 .ensures) (within-one _ _ _ _ (c .before .before .put .ensures)))))
 
 pub put-number-spec : {M : Type 1} → statement M
 put-number-spec =

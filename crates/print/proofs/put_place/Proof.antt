@@ -1,7 +1,6 @@
 -- `put_place` meets its contract.
 use borrow.Author.Tests.{le-leb, lt-leb}
-use native.Mathlib.Omega.{arith}
-use Rattle.print.proofs.Writing.{wrote-one, wrote-none}
+use Rattle.print.proofs.Writing.{within-none, within-one}
 use borrow.Author.Needs.{needs}
 use Rattle.print.proofs.put_place.Statement.{statement}
 use Rattle.print.proofs.put_place.Tie as tie
@@ -26,11 +25,11 @@ same-length c = search needs
 
 returns : tie.Need-returns
 returns c =
-    let b4 = c .before .before .before .before in
-    (rw (le-leb _ _ (b4 .if1 .taken)) (wrote-one _ _ _ _ (c .before .before .put .ensures)), omega arith)
+    let reached = c .before .before .before .before .if1 in
+    rw (le-leb _ _ (reached .taken)) (within-one _ _ _ _ (c .before .before .put .ensures))
 
 returns-2 : tie.Need-returns-2
-returns-2 c = (rw (lt-leb _ _ (c .if1 .left)) (wrote-none _ _), omega arith)
+returns-2 c = rw (lt-leb _ _ (c .if1 .left)) (within-none 1 _ _)
 
 pub put-place-spec : {M : Type 1} → statement M
 put-place-spec =

@@ -1,5 +1,5 @@
 -- `put_word` meets its contract.
-use Rattle.print.proofs.Writing.{wrote-then, wrote-one}
+use Rattle.print.proofs.Writing.{within-then, within-one}
 use borrow.Author.Needs.{needs}
 use Rattle.print.proofs.put_word.Statement.{statement}
 use Rattle.print.proofs.put_word.Tie as tie
@@ -33,14 +33,12 @@ same-length c = search needs
 
 returns : tie.Need-returns
 returns c =
-    let b6 = c .before .before .before .before .before .before in
-    let b10 = b6 .before .before .before .before in
-    let b14 = b10 .before .before .before .before in (
-      wrote-then (wrote-one _ _ _ _ (b14 .put .ensures))
-          (wrote-then (wrote-one _ _ _ _ (b10 .put2 .ensures))
-          (wrote-then (wrote-one _ _ _ _ (b6 .put3 .ensures)) (wrote-one _ _ _ _ (c .before .before .put4 .ensures)))),
-      search needs,
-    )
+    let third = c .before .before .before .before .before .before in
+    let second = third .before .before .before .before in
+    let first = second .before .before .before .before in
+    within-then (within-one _ _ _ _ (first .put .ensures))
+    (within-then (within-one _ _ _ _ (second .put2 .ensures))
+    (within-then (within-one _ _ _ _ (third .put3 .ensures)) (within-one _ _ _ _ (c .before .before .put4 .ensures))))
 
 pub put-word-spec : {M : Type 1} → statement M
 put-word-spec =

@@ -1,7 +1,6 @@
 -- `result_line` meets its contract.
 use Rattle.print.specs.Texts.{resultLine}
-use native.Mathlib.Omega.{arith}
-use Rattle.print.proofs.Writing.{wrote-then, wrote-one}
+use Rattle.print.proofs.Writing.{within-then, within-one}
 use borrow.Author.Needs.{needs}
 use Rattle.print.proofs.result_line.Statement.{statement}
 use Rattle.print.proofs.result_line.Tie as tie
@@ -36,18 +35,16 @@ same-length c = search needs
 returns : tie.Need-returns
 unfolding resultLine
 returns c =
-    let b6 = c .before .before .before .before .before .before in
-    let b10 = b6 .before .before .before .before in
-    let b14 = b10 .before .before .before .before in
-    let b18 = b14 .before .before .before .before in
-    let b20 = b18 .before .before in (
-      rw (← b20 .nodes-shown .ensures .0)
-          (wrote-then (b18 .put-number .ensures .0)
-          (wrote-then (wrote-one _ _ _ _ (b14 .put .ensures))
-          (wrote-then (b10 .put-number2 .ensures .0)
-          (wrote-then (b6 .put-fields .ensures .0) (wrote-one _ _ _ _ (c .before .before .put2 .ensures)))))),
-      omega (arith, b18 .put-number .ensures .1, b10 .put-number2 .ensures .1, b6 .put-fields .ensures .1),
-    )
+    let results = c .before .before .before .before .before .before in
+    let round = results .before .before .before .before in
+    let parted = round .before .before .before .before in
+    let phase = parted .before .before .before .before in
+    let shown = phase .before .before in
+    rw (← shown .nodes-shown .ensures .count)
+    (within-then (phase .put-number .ensures)
+    (within-then (within-one _ _ _ _ (parted .put .ensures))
+    (within-then (round .put-number2 .ensures)
+    (within-then (results .put-fields .ensures) (within-one _ _ _ _ (c .before .before .put2 .ensures))))))
 
 pub result-line-spec : {M : Type 1} → statement M
 result-line-spec =
