@@ -1,5 +1,6 @@
 -- What stands in the slots of an inbox while it is filled, sender by sender.
 use mathlib.Core.Path.{_≡_, refl, ap, sym, _∙_}
+use mathlib.Core.Bool.{Bool, cond}
 use mathlib.Core.List.{List, [], _++_, append-assoc}
 use Prim.Native.Nat.{ℕ, suc, _+_, _*_, _-_, _<_, _≤_}
 use native.Mathlib.Nat.{add-sub-cancel-left}
@@ -7,14 +8,15 @@ use native.Mathlib.Omega.{arith}
 use native.Mathlib.Numerals.{add-one}
 use lib.ListN.{length, take, drop, replicate, length-append, length-replicate, replicate-append-replicate}
 use lib.Seq.{take-at, drop-at}
-use borrow.Author.Tests.{le-leb}
+use lib.Dec.{eqb}
+use borrow.Author.Tests.{le-leb, ne-eqb}
 use Rattle.crew.specs.Parts.{mostNodes}
-use Rattle.message.specs.Fields.{selection}
+use Rattle.message.specs.Fields.{selection, validation, decision}
 use Rattle.message.specs.Layout.{slotSize}
 use Rattle.writer.specs.Writing.{messageBufferOf, selectionBufferOf}
 use Rattle.wire.specs.Entry.{entriesFrom}
 use Rattle.aisle.specs.declared.State.{State}
-use Rattle.aisle.specs.Round.{delivered, slotsOf, inboxSize}
+use Rattle.aisle.specs.Round.{sayBuffer, delivered, slotsOf, inboxSize}
 
 -- a selection that lists no phase has no entries
 pub selection-said : (phase plan stamp : ℕ) (history slot : List ℕ)
@@ -22,6 +24,15 @@ pub selection-said : (phase plan stamp : ℕ) (history slot : List ℕ)
     ≡ messageBufferOf (record { run = 1; phase = phase; body = selection plan stamp [] }) slot
 unfolding entriesFrom
 selection-said phase plan stamp history slot = rw (le-leb 0 phase (omega arith))
+
+-- a say in a later round is a validation, or in the third a decision
+pub later-said : (phase round plan stamp : ℕ) (slot : List ℕ) → (plan ≡ 0 → ⊥) → (round ≡ 1 → ⊥)
+    → (second : Bool) → eqb round 2 ≡ second
+    → messageBufferOf
+    (record { run = 1; phase = phase; body = cond second (validation plan) (decision plan stamp) }) slot
+    ≡ sayBuffer phase round plan stamp slot
+unfolding sayBuffer
+later-said phase round plan stamp slot some later second is = rw (ne-eqb _ _ some, ne-eqb _ _ later, is)
 
 -- A list's front, a part after it and its rest: what the part is, and the list with another part in its place.
 module _ (front part rest new l : List ℕ) (a k : ℕ) (is : l ≡ front ++ (part ++ rest))

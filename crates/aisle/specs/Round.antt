@@ -100,7 +100,7 @@ goOf st = record {
 abbrev pub ready : State → Bool
 ready st = leb (st .crew .n) mostNodes && ltb (st .phase) spentPhase
 
--- The same as facts: what functions require that run a round.
+-- The same as facts: what functions require that run a round. Private ones: no public contract cites it.
 pub record Ready (st : State) : Type 0 where
   pub small : st .crew .n ≤ mostNodes
   pub unspent : st .phase < spentPhase

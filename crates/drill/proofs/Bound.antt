@@ -41,28 +41,32 @@ record Placed (phase round : ℕ) : Type 0 where
   from : 1 ≤ round
   to : round ≤ 3
 
+-- the next phase and round, with one round less left
+record Done (phase round next-phase next-round : ℕ) : Type 0 where
+  placed : Placed next-phase next-round
+  less : roundsLeft next-phase next-round + 1 ≤ roundsLeft phase round
+
 -- a round that is done is one less that is left
 round-done : (class phase round : ℕ) → Placed phase round → phase < spentPhase
-    → Placed (phaseAfter phase round) (roundAfter class round)
-    × (roundsLeft (phaseAfter phase round) (roundAfter class round) + 1 ≤ roundsLeft phase round)
+    → Done phase round (phaseAfter phase round) (roundAfter class round)
 round-done class phase round p h = go (eqb round 1) (eqb round 2) (eqb round 3) (eqb class 1) refl refl refl
   where
-    Done : ℕ → ℕ → Type 0
-    Done next-phase next-round =
-        Placed next-phase next-round × (roundsLeft next-phase next-round + 1 ≤ roundsLeft phase round)
+    next : {next-phase next-round : ℕ} → next-phase ≤ spentPhase → 1 ≤ next-round → next-round ≤ 3
+        → roundsLeft next-phase next-round + 1 ≤ roundsLeft phase round → Done phase round next-phase next-round
+    next last from to less = record { placed = record { last = last; from = from; to = to }; less = less }
 
     go : (first second third one : Bool) → eqb round 1 ≡ first → eqb round 2 ≡ second → eqb round 3 ≡ third
-        → Done (cond third (phase + 1) phase) (cond first (cond one 3 2) (cond second 3 1))
+        → Done phase round (cond third (phase + 1) phase) (cond first (cond one 3 2) (cond second 3 1))
     go true second true one e₁ e₂ e₃ = absurd (omega (arith, eqb-true round 1 e₁, eqb-true round 3 e₃))
     go true second false true e₁ e₂ e₃ =
-        (record { last = omega arith; from = omega arith; to = omega arith }, omega (arith, eqb-true round 1 e₁))
+        next (omega arith) (omega arith) (omega arith) (omega (arith, eqb-true round 1 e₁))
     go true second false false e₁ e₂ e₃ =
-        (record { last = omega arith; from = omega arith; to = omega arith }, omega (arith, eqb-true round 1 e₁))
+        next (omega arith) (omega arith) (omega arith) (omega (arith, eqb-true round 1 e₁))
     go false true true one e₁ e₂ e₃ = absurd (omega (arith, eqb-true round 2 e₂, eqb-true round 3 e₃))
     go false true false one e₁ e₂ e₃ =
-        (record { last = omega arith; from = omega arith; to = omega arith }, omega (arith, eqb-true round 2 e₂))
+        next (omega arith) (omega arith) (omega arith) (omega (arith, eqb-true round 2 e₂))
     go false false true one e₁ e₂ e₃ =
-        (record { last = omega arith; from = omega arith; to = omega arith }, omega (arith, eqb-true round 3 e₃))
+        next (omega arith) (omega arith) (omega arith) (omega (arith, eqb-true round 3 e₃))
     go false false false one e₁ e₂ e₃ =
         absurd (omega (arith, p .from, p .to, eqb-false round 1 e₁, eqb-false round 2 e₂, eqb-false round 3 e₃))
 
@@ -82,7 +86,7 @@ step st (Say sender receiver plan stamp) p h = record { placed = p; fits = omega
 step st Go p h =
     let done = round-done (st .crew .class) (st .phase) (st .round) p (ltb-true (st .phase) spentPhase h) in
     let line = result-most (st .phase) (st .round) (st .crew .n) (table (resultAt (goOf st)) mostNodes) (st .honest) in
-    record { placed = done .0; fits = omega (arith, done .1, line) }
+    record { placed = done .placed; fits = omega (arith, done .less, line) }
 step st BadLine p h = record { placed = p; fits = omega arith }
 
 -- the output from a line on, by what the line is, where `rest` is what the lines after it print

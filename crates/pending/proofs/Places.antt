@@ -12,11 +12,16 @@ use Rattle.pending.specs.declared.Pending.{Pending}
 use Rattle.pending.specs.Pairs.{pairs, known, placeOf, withCut, withSay, isCut, unsaid, saidOf}
 
 module _ (s r i : ℕ) (is : i ≡ cond (known s r) (placeOf s r) pairs) where
-  inside : i < pairs → (known s r ≡ true) × (placeOf s r ≡ i)
+  -- within the arrays stands a known pair, at its place
+  record Stands : Type 0 where
+    pair : known s r ≡ true
+    place : placeOf s r ≡ i
+
+  inside : i < pairs → Stands
   inside h = go (known s r) refl
     where
-      go : (t : Bool) → known s r ≡ t → (t ≡ true) × (placeOf s r ≡ i)
-      go true e = (refl, sym (is ∙ rw e))
+      go : (t : Bool) → known s r ≡ t → Stands
+      go true e = record { pair = e; place = sym (is ∙ rw e) }
       go false e = let out : i ≡ pairs = is ∙ rw e in absurd (omega arith)
 
   outside : pairs ≤ i → known s r ≡ false
@@ -32,7 +37,7 @@ module _ (s r i : ℕ) (is : i ≡ cond (known s r) (placeOf s r) pairs) where
   module _ (p : Pending) where
     pub cut-inside : i < pairs → record { cut = set (p .cut) i true; plan = p .plan; stamp = p .stamp } ≡ withCut p s r
     unfolding withCut
-    cut-inside h = rw (inside h .0, inside h .1)
+    cut-inside h = rw (inside h .pair, inside h .place)
 
     pub cut-outside : pairs ≤ i → p ≡ withCut p s r
     unfolding withCut
@@ -42,7 +47,7 @@ module _ (s r i : ℕ) (is : i ≡ cond (known s r) (placeOf s r) pairs) where
         → record { cut = p .cut; plan = set (p .plan) i plan; stamp = set (p .stamp) i stamp }
         ≡ withSay p s r plan stamp
     unfolding withSay
-    say-inside plan stamp h = rw (inside h .0, inside h .1)
+    say-inside plan stamp h = rw (inside h .pair, inside h .place)
 
     pub say-outside : (plan stamp : ℕ) → pairs ≤ i → p ≡ withSay p s r plan stamp
     unfolding withSay
@@ -50,7 +55,7 @@ module _ (s r i : ℕ) (is : i ≡ cond (known s r) (placeOf s r) pairs) where
 
     pub is-cut-inside : i < pairs → getD (p .cut) i false ≡ isCut p s r
     unfolding isCut
-    is-cut-inside h = rw (inside h .0, inside h .1)
+    is-cut-inside h = rw (inside h .pair, inside h .place)
 
     pub is-cut-outside : pairs ≤ i → false ≡ isCut p s r
     unfolding isCut
@@ -58,7 +63,7 @@ module _ (s r i : ℕ) (is : i ≡ cond (known s r) (placeOf s r) pairs) where
 
     pub said-inside : i < pairs → record { plan = getD (p .plan) i 0; stamp = getD (p .stamp) i 0 } ≡ saidOf p s r
     unfolding saidOf
-    said-inside h = rw (inside h .0, inside h .1)
+    said-inside h = rw (inside h .pair, inside h .place)
 
     pub said-outside : pairs ≤ i → unsaid ≡ saidOf p s r
     unfolding saidOf

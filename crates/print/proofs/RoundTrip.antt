@@ -28,73 +28,87 @@ value-all : (a b : ℕ) → a ≡ b → valueFrom a [] ≡ Value b
 unfolding valueFrom
 value-all a b e = ap Value e
 
-number-first : (d : ℕ) (cs : List ℕ) → 1 ≤ d → numberOf ((48 + d) ∷ cs) ≡ valueFrom 0 ((48 + d) ∷ cs)
+-- the first digit of a number, where it is not 0
+leading : (d a : ℕ) (cs : List ℕ) → 1 ≤ d → d < 10 → d ≡ a → numberOf ((48 + d) ∷ cs) ≡ valueFrom a cs
 unfolding numberOf
-number-first d cs h =
-    let a : suc (length cs) ≡ 0 → ⊥ = λ z. omega arith in
-    let b : 48 + d ≡ 48 → ⊥ = λ z. omega arith in
-    rw (ne-eqb (suc (length cs)) 0 a, ne-eqb (48 + d) 48 b, and-false (leb 2 (suc (length cs))))
+leading d a cs h k e =
+    let some : suc (length cs) ≡ 0 → ⊥ = λ z. omega arith in
+    let digit : 48 + d ≡ 48 → ⊥ = λ z. omega arith in
+    rw (ne-eqb (suc (length cs)) 0 some, ne-eqb (48 + d) 48 digit, and-false (leb 2 (suc (length cs))))
+    (value-digit 0 d a cs k (omega arith) (omega arith))
 
 module _ (v : ℕ) (small : v ≤ largest) where
+  -- the last digits
+  abbrev last1 : List ℕ
+  last1 = (48 + v % 10) ∷ []
+
+  abbrev last2 : List ℕ
+  last2 = (48 + v / 10 % 10) ∷ last1
+
+  abbrev last3 : List ℕ
+  last3 = (48 + v / 100 % 10) ∷ last2
+
+  abbrev last4 : List ℕ
+  last4 = (48 + v / 1000 % 10) ∷ last3
+
+  -- read after the digits before them
+  read-last1 : valueFrom (v / 10) last1 ≡ Value v
+  read-last1 = value-digit (v / 10) (v % 10) v [] (omega arith) (omega arith) small ∙ value-all v v refl
+
+  read-last2 : valueFrom (v / 100) last2 ≡ Value v
+  read-last2 =
+      value-digit (v / 100) (v / 10 % 10) (v / 10) last1 (omega arith) (omega arith) (omega arith) ∙ read-last1
+
+  read-last3 : valueFrom (v / 1000) last3 ≡ Value v
+  read-last3 =
+      value-digit (v / 1000) (v / 100 % 10) (v / 100) last2 (omega arith) (omega arith) (omega arith) ∙ read-last2
+
+  read-last4 : valueFrom (v / 10000) last4 ≡ Value v
+  read-last4 =
+      value-digit (v / 10000) (v / 1000 % 10) (v / 1000) last3 (omega arith) (omega arith) (omega arith) ∙ read-last3
+
+  -- numbers of one digit, of two, and so on
   read1 : v < 10 → numberOf (decimalOf v) ≡ Value v
   unfolding decimalOf numberOf
   read1 h =
-      let a : v < 10000 = omega arith in
-      let b : v < 1000 = omega arith in
-      let c : v < 100 = omega arith in
-      rw (lt-leb 10000 v a, lt-leb 1000 v b, lt-leb 100 v c, lt-leb 10 v h)
+      let below100 : v < 100 = omega arith in
+      let below1000 : v < 1000 = omega arith in
+      let below10000 : v < 10000 = omega arith in
+      rw (lt-leb 10000 v below10000, lt-leb 1000 v below1000, lt-leb 100 v below100, lt-leb 10 v h)
       (value-digit 0 (v % 10) v [] (omega arith) (omega arith) small ∙ value-all v v refl)
 
   read2 : 10 ≤ v → v < 100 → numberOf (decimalOf v) ≡ Value v
   unfolding decimalOf
   read2 g h =
-      let a : v < 10000 = omega arith in
-      let b : v < 1000 = omega arith in
-      rw (lt-leb 10000 v a, lt-leb 1000 v b, lt-leb 100 v h, le-leb 10 v g)
-      (number-first (v / 10 % 10) _ (omega arith)
-      ∙ value-digit 0 (v / 10 % 10) (v / 10) _ (omega arith) (omega arith) (omega arith)
-      ∙ value-digit (v / 10) (v % 10) v [] (omega arith) (omega arith) small
-      ∙ value-all v v refl)
+      let below1000 : v < 1000 = omega arith in
+      let below10000 : v < 10000 = omega arith in
+      rw (lt-leb 10000 v below10000, lt-leb 1000 v below1000, lt-leb 100 v h, le-leb 10 v g)
+      (leading (v / 10 % 10) (v / 10) last1 (omega arith) (omega arith) (omega arith) ∙ read-last1)
 
   read3 : 100 ≤ v → v < 1000 → numberOf (decimalOf v) ≡ Value v
   unfolding decimalOf
   read3 g h =
-      let a : v < 10000 = omega arith in
-      let b : 10 ≤ v = omega arith in
-      rw (lt-leb 10000 v a, lt-leb 1000 v h, le-leb 100 v g, le-leb 10 v b)
-      (number-first (v / 100 % 10) _ (omega arith)
-      ∙ value-digit 0 (v / 100 % 10) (v / 100) _ (omega arith) (omega arith) (omega arith)
-      ∙ value-digit (v / 100) (v / 10 % 10) (v / 10) _ (omega arith) (omega arith) (omega arith)
-      ∙ value-digit (v / 10) (v % 10) v [] (omega arith) (omega arith) small
-      ∙ value-all v v refl)
+      let from10 : 10 ≤ v = omega arith in
+      let below10000 : v < 10000 = omega arith in
+      rw (lt-leb 10000 v below10000, lt-leb 1000 v h, le-leb 100 v g, le-leb 10 v from10)
+      (leading (v / 100 % 10) (v / 100) last2 (omega arith) (omega arith) (omega arith) ∙ read-last2)
 
   read4 : 1000 ≤ v → v < 10000 → numberOf (decimalOf v) ≡ Value v
   unfolding decimalOf
   read4 g h =
-      let a : 100 ≤ v = omega arith in
-      let b : 10 ≤ v = omega arith in
-      rw (lt-leb 10000 v h, le-leb 1000 v g, le-leb 100 v a, le-leb 10 v b)
-      (number-first (v / 1000 % 10) _ (omega arith)
-      ∙ value-digit 0 (v / 1000 % 10) (v / 1000) _ (omega arith) (omega arith) (omega arith)
-      ∙ value-digit (v / 1000) (v / 100 % 10) (v / 100) _ (omega arith) (omega arith) (omega arith)
-      ∙ value-digit (v / 100) (v / 10 % 10) (v / 10) _ (omega arith) (omega arith) (omega arith)
-      ∙ value-digit (v / 10) (v % 10) v [] (omega arith) (omega arith) small
-      ∙ value-all v v refl)
+      let from10 : 10 ≤ v = omega arith in
+      let from100 : 100 ≤ v = omega arith in
+      rw (lt-leb 10000 v h, le-leb 1000 v g, le-leb 100 v from100, le-leb 10 v from10)
+      (leading (v / 1000 % 10) (v / 1000) last3 (omega arith) (omega arith) (omega arith) ∙ read-last3)
 
   read5 : 10000 ≤ v → numberOf (decimalOf v) ≡ Value v
   unfolding decimalOf
   read5 g =
-      let a : 1000 ≤ v = omega arith in
-      let b : 100 ≤ v = omega arith in
-      let c : 10 ≤ v = omega arith in
-      rw (le-leb 10000 v g, le-leb 1000 v a, le-leb 100 v b, le-leb 10 v c)
-      (number-first (v / 10000 % 10) _ (omega arith)
-      ∙ value-digit 0 (v / 10000 % 10) (v / 10000) _ (omega arith) (omega arith) (omega arith)
-      ∙ value-digit (v / 10000) (v / 1000 % 10) (v / 1000) _ (omega arith) (omega arith) (omega arith)
-      ∙ value-digit (v / 1000) (v / 100 % 10) (v / 100) _ (omega arith) (omega arith) (omega arith)
-      ∙ value-digit (v / 100) (v / 10 % 10) (v / 10) _ (omega arith) (omega arith) (omega arith)
-      ∙ value-digit (v / 10) (v % 10) v [] (omega arith) (omega arith) small
-      ∙ value-all v v refl)
+      let from10 : 10 ≤ v = omega arith in
+      let from100 : 100 ≤ v = omega arith in
+      let from1000 : 1000 ≤ v = omega arith in
+      rw (le-leb 10000 v g, le-leb 1000 v from1000, le-leb 100 v from100, le-leb 10 v from10)
+      (leading (v / 10000 % 10) (v / 10000) last4 (omega arith) (omega arith) (omega arith) ∙ read-last4)
 
   by-size : (a b c d : Bool) → leb 10 v ≡ a → leb 100 v ≡ b → leb 1000 v ≡ c → leb 10000 v ≡ d
       → numberOf (decimalOf v) ≡ Value v

@@ -1,6 +1,7 @@
 -- `write_say` meets its contract.
-use Rattle.aisle.proofs.Slots.{selection-said}
+use Rattle.aisle.proofs.Slots.{selection-said, later-said}
 use mathlib.Core.Path.{_∙_}
+use mathlib.Core.Bool.{true, false}
 use Rattle.aisle.specs.Round.{sayBuffer}
 use borrow.Author.Tests.{eq-eqb, ne-eqb}
 use borrow.Author.Needs.{needs}
@@ -31,15 +32,12 @@ same-length-2 : tie.Need-same-length-2
 same-length-2 c = search needs
 
 returns-3 : tie.Need-returns-3
-unfolding sayBuffer
 returns-3 c =
     let validates = c .before .before .before .before in
     let unselecting = validates .before in
-    rw (
-      ne-eqb _ _ (unselecting .before .if1 .left),
-      ne-eqb _ _ (unselecting .if2 .left),
-      eq-eqb _ _ (validates .if3 .taken),
-    ) (c .before .before .write-validation .ensures .1)
+    c .before .before .write-validation .ensures .1
+    ∙ later-said _ _ _ _ _ (unselecting .before .if1 .left) (unselecting .if2 .left) true
+    (eq-eqb _ _ (validates .if3 .taken))
 
 write-decision-requires : tie.Need-write-decision-requires
 write-decision-requires c κs = search needs
@@ -48,15 +46,12 @@ same-length-3 : tie.Need-same-length-3
 same-length-3 c = search needs
 
 returns-4 : tie.Need-returns-4
-unfolding sayBuffer
 returns-4 c =
     let decides = c .before .before .before .before in
     let unselecting = decides .before in
-    rw (
-      ne-eqb _ _ (unselecting .before .if1 .left),
-      ne-eqb _ _ (unselecting .if2 .left),
-      ne-eqb _ _ (decides .if3 .left),
-    ) (c .before .before .write-decision .ensures .1)
+    c .before .before .write-decision .ensures .1
+    ∙ later-said _ _ _ _ _ (unselecting .before .if1 .left) (unselecting .if2 .left) false
+    (ne-eqb _ _ (decides .if3 .left))
 
 pub write-say-spec : {M : Type 1} → statement M
 write-say-spec =

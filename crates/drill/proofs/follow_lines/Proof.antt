@@ -16,7 +16,7 @@ use Rattle.drill.proofs.Following.{linesFrom, Line, Asked, follow-end, 
 use Rattle.drill.proofs.follow_lines.Statement.{statement}
 use Rattle.drill.proofs.follow_lines.Tie as tie
 
--- Line `line` begins at `at`, with its state: what the lines from there on print completes what all of them print.
+-- The line numbered `line` begins at `at`: what it and the lines after it print completes what all the lines print.
 record Followed (input : List ℕ) (from : ℕ) (out₀ : List ℕ) (begun : State) (out : List ℕ) (state : State)
     (at line written : ℕ) : Type 0 where
   small : state .crew .n ≤ mostNodes
