@@ -3,6 +3,7 @@ use mathlib.Core.Path.{_≡_, sym, _∙_}
 use mathlib.Core.Bool.{true}
 use borrow.Author.Needs.{needs}
 use Rattle.wire.specs.Outcome.{accepted, require}
+use Rattle.crew.specs.declared.Crew.{Crew}
 use Rattle.crew.specs.Acceptance.{acceptOf, classKnown, sizeKnown, highEnough}
 use Rattle.crew.proofs.accept.Statement.{statement}
 use Rattle.crew.proofs.accept.Tie as tie
@@ -27,14 +28,18 @@ size-known : (c : tie.Then2) → sizeKnown (c .before .before .before .before .a
 size-known c = sym (c .before .is-size .ensures) ∙ c .if2 .taken
 
 -- with three tests passed, only the fourth is left to answer
-last-left : (c : tie.Then3) →
-    let crew = c .before .before .before .before .before .before .args .crew in
-    acceptOf crew ≡ require (highEnough crew) 4 (accepted tt)
-unfolding acceptOf
-last-left c =
-    let sized = c .before .before in
-    let reached = sym (c .before .is-reachable .ensures) ∙ c .if3 .taken in
-    simp (class-known (sized .before .before), size-known sized, reached)
+module _ (c : tie.Then3) where
+  abbrev sized : tie.Then2
+  sized = c .before .before
+
+  abbrev crew : Crew
+  crew = sized .before .before .before .before .args .crew
+
+  last-left : acceptOf crew ≡ require (highEnough crew) 4 (accepted tt)
+  unfolding acceptOf
+  last-left =
+      let reached = sym (c .before .is-reachable .ensures) ∙ c .if3 .taken in
+      simp (class-known (sized .before .before), size-known sized, reached)
 
 returns : tie.Need-returns
 returns c = simp (last-left (c .before .before), sym (c .before .is-high-enough .ensures) ∙ c .if4 .taken)

@@ -13,13 +13,15 @@ plan-at-requires c κs =
 
 shared-slice-read-stamp : tie.Need-shared-slice-read-stamp
 shared-slice-read-stamp c =
-    let held = c .before .before .before .before .pre in
-    omega (arith, held .whole, size-one (held .of-kind) (c .before .if1 .taken))
+    let tested = c .before in
+    let held = tested .before .before .before .pre in
+    omega (arith, held .whole, size-one (held .of-kind) (tested .if1 .taken))
 
 shared-slice-read-count : tie.Need-shared-slice-read-count
 shared-slice-read-count c =
-    let held = c .before .before .before .before .before .pre in
-    omega (arith, held .whole, size-one (held .of-kind) (c .before .before .if1 .taken))
+    let tested = c .before .before in
+    let held = tested .before .before .before .pre in
+    omega (arith, held .whole, size-one (held .of-kind) (tested .if1 .taken))
 
 returns : tie.Need-returns
 returns c =

@@ -92,9 +92,10 @@ returns-2 c =
     let put = entries .before .before .before .before in
     let roomy = put .before .before in
     let counted = roomy .before in
+    let tested = counted .before in
+    let a = tested .before .before .before .before .args in
     let count = counted .count-entries .ensures .same in
-    let a = counted .before .before .before .before .before .args in
-    let done = selection-written (fields-allowed (counted .before)) (now (a .buf))
+    let done = selection-written (fields-allowed tested) (now (a .buf))
     (omega (arith, count, roomy .if2 .left)) in (
       ap (λ (k : ℕ). accepted (entriesPlace + entrySize * k)) count ∙ done .0,
       simp (entries .put-entries .ensures, put .put-front .ensures, count) (done .1),

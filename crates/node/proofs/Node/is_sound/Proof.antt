@@ -35,12 +35,14 @@ first-entry true true true first others = simp and-true
 returns : tie.Need-returns
 unfolding sound
 returns c =
-    let start = c .before .before .before .before .before in
-    let d = start .before .args .self in
+    let plans = c .before .before in
+    let placed = plans .before in
+    let crew = placed .before .before in
+    let d = crew .before .args .self in
     simp (
-      start .is-accepted .ensures,
-      c .before .before .before .is-placed .ensures,
-      c .before .before .has-plans .ensures,
+      crew .is-accepted .ensures,
+      placed .is-placed .ensures,
+      plans .has-plans .ensures,
       c .before .is-stamped .ensures,
       c .has-known-history .ensures,
     )

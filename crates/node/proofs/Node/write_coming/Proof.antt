@@ -33,13 +33,15 @@ returns-2 : tie.Need-returns-2
 returns-2 c =
     let planned = c .before .before .before .before in
     let second = planned .before .before in
-    message-written (second .before .before .before .before .before .pre)
+    let unfirst = second .before .before in
+    message-written (unfirst .before .before .before .pre)
     (confirms (second .if2 .taken) (planned .if3 .taken)) (c .before .before .write-validation .ensures)
 
 returns-3 : tie.Need-returns-3
 returns-3 c =
     let second = c .before .before in
-    silence-written (second .before .before .before .before .before .pre) (second .if2 .taken) (omega arith)
+    let unfirst = second .before .before in
+    silence-written (unfirst .before .before .before .pre) (second .if2 .taken) (omega arith)
 
 write-decision-requires : tie.Need-write-decision-requires
 write-decision-requires c κs = search needs
