@@ -18,7 +18,7 @@ use Rattle.image.specs.Layout.{imageFits, LoadedFrom, StoredIn}
 use Rattle.image.proofs.Loading.{loaded-record}
 use Rattle.boundary.specs.Answers.{refusalUnit, done, itself, Answered, Leaves, onImage, recordAfter}
 use Rattle.boundary.specs.Answers.{resultFrom, fieldsSize, fieldBytes, readInto}
-use Rattle.boundary.specs.Numbers.{Numbered}
+use Rattle.boundary.specs.Promises.{Numbered}
 
 -- the numbers that the code has as constants
 unsound : Numbered 7 7

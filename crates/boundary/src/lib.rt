@@ -52,7 +52,7 @@ ghost use Rattle.boundary.specs.Answers.{
   entryIn,
   entryFrom,
 };
-ghost use Rattle.boundary.specs.Numbers.{Numbered};
+ghost use Rattle.boundary.specs.Promises.{Numbered};
 
 // 01's numbers of the refusals. The engine below answers by name, so this is the one place where its code has them.
 // Accepting a crew.

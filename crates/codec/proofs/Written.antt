@@ -13,7 +13,8 @@ use Rattle.wire.proofs.Tests.{both-true}
 use Rattle.wire.proofs.Numbers.{number-of-bytes}
 use Rattle.wire.specs.Sizes.{planSize, runSize, runLimit}
 use Rattle.message.specs.Fields.{Body, selection, validation, decision, Message}
-use Rattle.message.specs.Bounds.{phaseOk, planOk, bodyOk, entriesOk, within, PlansFit, BodyFits, Fits}
+use Rattle.message.specs.Bounds.{bodyOk, entriesOk, within, PlansFit, BodyFits, Fits}
+use Rattle.wire.specs.Plan.{phaseOk, planOk}
 use Rattle.message.specs.Encoding.{sizeOf, entryBytes, encode}
 use Rattle.message.specs.Reading.{lengthAt, entriesIn, bodyAt, framed, readOf}
 use Rattle.message.proofs.ReadLaws.{Passes, passes-read}

@@ -1,2 +1,2 @@
 pub mod Layout
-pub mod Laying
+pub mod Promises

@@ -31,7 +31,7 @@ ghost use Rattle.image.specs.Layout.{
   LoadedFrom,
   StoredIn,
 };
-ghost use Rattle.image.specs.Laying.{HistoryLaid};
+ghost use Rattle.image.specs.Promises.{HistoryLaid};
 
 // Where the fields stand: each where the one before it ends. A crew is five bytes.
 const CREW_AT: usize = 0;

@@ -16,7 +16,8 @@ use Rattle.wire.specs.Bytes.{AreBytes}
 use Rattle.wire.proofs.Tests.{tests, both-true}
 use Rattle.wire.specs.Sizes.{planLimit, lastPhase}
 use Rattle.message.specs.Fields.{Body, selection, validation, decision}
-use Rattle.message.specs.Bounds.{phaseOk, planOk, entriesOk, bodyOk, BodyFits}
+use Rattle.message.specs.Bounds.{entriesOk, bodyOk, BodyFits}
+use Rattle.wire.specs.Plan.{phaseOk, planOk}
 use Rattle.message.proofs.ReadLaws.{read-passes}
 use Rattle.message.specs.Layout.{slotSize}
 use Rattle.codec.proofs.Read.{encode-of-read}

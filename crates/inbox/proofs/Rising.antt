@@ -8,7 +8,8 @@ use lib.Dec.{leb, ltb}
 use borrow.Author.Tests.{leb-true, ltb-true, le-leb, lt-ltb}
 use Rattle.wire.specs.Entry.{Entry}
 use Rattle.wire.proofs.Tests.{both-true}
-use Rattle.message.specs.Bounds.{planOk, entriesOk}
+use Rattle.message.specs.Bounds.{entriesOk}
+use Rattle.wire.specs.Plan.{planOk}
 
 -- what an entry that keeps its bounds says, with those after it
 pub record FirstKept (least phase : ℕ) (e : Entry) (es : List Entry) : Type 0 where

@@ -14,7 +14,8 @@ use Rattle.wire.specs.Bytes.{numberAt}
 use Rattle.wire.proofs.Tests.{both-true}
 use Rattle.wire.specs.Sizes.{planSize, lastPhase, historySize}
 use Rattle.message.specs.Fields.{Message}
-use Rattle.message.specs.Bounds.{phaseOk, planOk, bodyOk, entriesOk}
+use Rattle.message.specs.Bounds.{bodyOk, entriesOk}
+use Rattle.wire.specs.Plan.{phaseOk, planOk}
 use Rattle.message.specs.Encoding.{kindOf, sizeOf}
 use Rattle.message.specs.Reading.{kindAt, bodyAt, selectionAt, validationAt, decisionAt, readOf}
 use Rattle.message.proofs.EntryLaws.{entries-count}

@@ -16,7 +16,8 @@ use Rattle.wire.specs.Bytes.{numberAt}
 use Rattle.wire.proofs.Tests.{and-false, and-true}
 use Rattle.wire.specs.Sizes.{planSize}
 use Rattle.message.specs.Layout.{entriesPlace, entrySize}
-use Rattle.message.specs.Bounds.{planOk, entriesOk, leastAfter}
+use Rattle.message.specs.Bounds.{entriesOk, leastAfter}
+use Rattle.wire.specs.Plan.{planOk}
 use Rattle.message.specs.Reading.{entriesIn, entryInSlice}
 
 pub entries-count : (k : ℕ) (s : List ℕ) → length (entriesIn k s) ≡ k

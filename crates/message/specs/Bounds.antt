@@ -7,17 +7,10 @@ use mathlib.Core.List.{List, [], _∷_}
 use lib.ListN.{length}
 use lib.Dec.{leb, ltb}
 use Rattle.wire.specs.Entry.{Entry}
-use Rattle.wire.specs.Sizes.{planLimit, runLimit, lastPhase}
+use Rattle.wire.specs.Plan.{planOk, phaseOk}
+use Rattle.wire.specs.Sizes.{planLimit, runLimit}
 use Rattle.message.specs.Layout.{mostEntries}
 use Rattle.message.specs.Fields.{Body, selection, validation, decision, Message}
-
--- "phase 1 to 63"
-abbrev pub phaseOk : ℕ → Bool
-phaseOk phase = leb 1 phase && leb phase lastPhase
-
--- "plans not 0"
-abbrev pub planOk : ℕ → Bool
-planOk plan = leb 1 plan
 
 -- "entries whose phases rise strictly and are below the message's phase": none of these is below `least`
 unfoldable pub entriesOk : ℕ → ℕ → List Entry → Bool

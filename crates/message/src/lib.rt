@@ -14,7 +14,8 @@ ghost use Rattle.wire.specs.Bytes.{numberAt};
 ghost use Rattle.wire.specs.Sizes.{planSize, runSize};
 ghost use Rattle.message.specs.Layout.{runPlace, phasePlace, headerSize, planPlace, stampPlace};
 ghost use Rattle.message.specs.Layout.{countPlace, entriesPlace, entrySize};
-ghost use Rattle.message.specs.Bounds.{phaseOk, planOk, entriesOk, leastAfter, within};
+ghost use Rattle.message.specs.Bounds.{entriesOk, leastAfter, within};
+ghost use Rattle.wire.specs.Plan.{phaseOk, planOk};
 ghost use Rattle.message.specs.Encoding.{sizeOf};
 ghost use Rattle.message.specs.Reading.{
   lengthAt,
@@ -155,20 +156,6 @@ fn is_framed(s: &[u8]) -> bool
     size <= s.len()
 }
 
-// Whether a message may have this phase.
-pub fn is_phase(phase: u8) -> bool
-    ensures { λ r. ⌜ r ≡ phaseOk phase ⌝ }
-{
-    (1 <= phase) & (phase <= LAST_PHASE)
-}
-
-// Whether a number is a plan: 0 means none.
-pub fn is_plan(plan: Plan) -> bool
-    ensures { λ r. ⌜ r ≡ planOk plan ⌝ }
-{
-    1 <= plan
-}
-
 // The least phase that the entry after entry i may have; 0 where entry i breaks a bound: its phase is before `least`,
 // or it has no plan.
 fn least_after(s: &[u8], i: usize, least: u16) -> u16
@@ -223,7 +210,7 @@ fn has_phase(s: &[u8]) -> bool
     requires { ⌜ headerSize ≤ length (now s) ⌝ }
     ensures { λ r. ⌜ r ≡ phaseOk (getD (now (s .entry)) phasePlace 0) ⌝ }
 {
-    is_phase(s[PHASE_AT])
+    wire::is_phase(s[PHASE_AT])
 }
 
 // Whether a plan stands after the header: the vote of a selection or decision, the plan of a validation.
@@ -231,7 +218,7 @@ fn has_plan(s: &[u8]) -> bool
     requires { ⌜ planPlace + planSize ≤ length (now s) ⌝ }
     ensures { λ r. ⌜ r ≡ planOk (numberAt planSize (now (s .entry)) planPlace) ⌝ }
 {
-    is_plan(plan_at(s, PLAN_AT))
+    wire::is_plan(plan_at(s, PLAN_AT))
 }
 
 fn selection_keeps_bounds(s: &[u8]) -> bool

@@ -3,15 +3,13 @@ use mathlib.Core.Path.{_≡_, refl, sym, ap, ap₂, _∙_, subst}
 use mathlib.Core.Bool.{Bool, true, false, not, cond, _&&_, true≢false}
 use mathlib.Core.List.{List}
 use mathlib.Core.Option.{Option, none, some, Option·none-ne-some}
-use Prim.Native.Nat.{ℕ, zero, suc, _+_, _<_, _≤_, max}
+use Prim.Native.Nat.{ℕ, zero, suc, _+_, _<_, max}
 use native.Mathlib.Numerals.{add-one}
 use native.Mathlib.Omega.{arith}
 use lib.Dec.{ltb, eqb}
-use lib.ListN.{length, getD, set, length-set}
+use lib.ListN.{getD, set}
 use borrow.Author.Tests.{ltb-true, ltb-false, ne-eqb}
-use Rattle.wire.proofs.Arrays.{Filled, filled-none, filled-more}
 use Rattle.wire.proofs.Tests.{by-equality}
-use Rattle.crew.specs.Parts.{mostNodes}
 use Rattle.ballot.specs.Count.{tally}
 use Rattle.ballot.specs.Least.{lower, orZero}
 use Rattle.tally.specs.Marks.{
@@ -31,29 +29,6 @@ use Rattle.tally.specs.Marks.{
 use Rattle.tally.specs.Promises.{Counted}
 use Rattle.tally.specs.declared.First.{First}
 use Rattle.tally.specs.declared.First.the-variants.{Slot, NoSlot}
-
--- A loop that fills a column stands before slot q: the column has its places, and the first q slots hold what they
--- should. `Marks` and `Counts` of specs/Marks say this of marks and counts.
-pub record Filling {A : Type 0} (other : A) (is : ℕ → A) (column : List A) (q : ℕ) : Type 0 where
-  pub inside : q ≤ mostNodes
-  pub long : length column ≡ mostNodes
-  pub so-far : Filled is other column q
-
-module _ {A : Type 0} {other : A} {is : ℕ → A} where
-  -- before the first slot, one slot more, and behind the last of n slots
-  pub filling-none : (column : List A) → length column ≡ mostNodes → Filling other is column 0
-  filling-none column long = record { inside = omega arith; long = long; so-far = filled-none is other column }
-
-  pub filling-more : {column : List A} {q : ℕ} (a : A) → q < mostNodes → Filling other is column q → a ≡ is q
-      → Filling other is (set column q a) (q + 1)
-  filling-more {column} {q} a less filling e = record {
-    inside = omega arith;
-    long = length-set column q a ∙ filling .long;
-    so-far = filled-more is other column q a (omega (arith, filling .long)) (filling .so-far) e;
-  }
-
-  pub filling-all : {column : List A} {q n : ℕ} → Filling other is column q → n ≤ q → Filled is other column n
-  filling-all filling ended k less = filling .so-far k (omega arith)
 
 -- one slot more is not marked
 pub none-marked-more : (marks : List Bool) (q : ℕ) → marked marks q ≡ false → NoneMarked marks q

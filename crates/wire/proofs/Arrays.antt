@@ -3,7 +3,7 @@ use mathlib.Core.Path.{_≡_, refl, sym, _∙_}
 use mathlib.Core.List.{List}
 use Prim.Native.Nat.{ℕ, zero, suc, _+_, _≤_, _<_}
 use native.Mathlib.Omega.{arith}
-use lib.ListN.{length, getD, set, replicate}
+use lib.ListN.{length, getD, set, replicate, length-set}
 use lib.Seq.{getD-set-same, getD-set-other, ext-getD}
 use Rattle.wire.proofs.Tests.{by-equality}
 
@@ -35,3 +35,25 @@ module _ {A : Type 0} (f : ℕ → A) (other : A) where
   filled-all l whole i long done so-far is =
       ext-getD other l whole long λ k less.
       so-far k (omega (arith, done, less)) ∙ sym (is k (omega (arith, long, less)))
+
+-- A loop that fills an array of `size` places stands before place i.
+pub record Filling {A : Type 0} (other : A) (f : ℕ → A) (size : ℕ) (l : List A) (i : ℕ) : Type 0 where
+  pub inside : i ≤ size
+  pub long : length l ≡ size
+  pub so-far : Filled f other l i
+
+module _ {A : Type 0} {other : A} {f : ℕ → A} {size : ℕ} where
+  -- before the first place, one place more, and behind the last of n places
+  pub filling-none : (l : List A) → length l ≡ size → Filling other f size l 0
+  filling-none l long = record { inside = omega arith; long = long; so-far = filled-none f other l }
+
+  pub filling-more : {l : List A} {i : ℕ} (a : A) → i < size → Filling other f size l i → a ≡ f i
+      → Filling other f size (set l i a) (i + 1)
+  filling-more {l} {i} a less filling e = record {
+    inside = omega arith;
+    long = length-set l i a ∙ filling .long;
+    so-far = filled-more f other l i a (omega (arith, filling .long)) (filling .so-far) e;
+  }
+
+  pub filling-until : {l : List A} {i n : ℕ} → Filling other f size l i → n ≤ i → Filled f other l n
+  filling-until filling ended k less = filling .so-far k (omega arith)

@@ -4,6 +4,7 @@ ghost use mathlib.Core.Path.{_≡_};
 ghost use mathlib.Core.List.{[], _∷_};
 ghost use Prim.Native.Nat.{_+_, _*_, _<_};
 ghost use lib.Dec.{leb};
+ghost use Rattle.wire.specs.Plan.{planOk, phaseOk};
 ghost use Rattle.wire.specs.Sizes.{planSize};
 ghost use Rattle.wire.specs.Bytes.{numberAt, bytesOf, laid};
 
@@ -21,6 +22,20 @@ pub const LAST_PHASE: u8 = 63;
 
 // A history has an entry for each phase from 0, the time before the first, to the last.
 pub const PHASES: usize = LAST_PHASE as usize + 1;
+
+// Whether a phase has rounds: 0 is the time before the first.
+pub fn is_phase(phase: u8) -> bool
+    ensures { λ r. ⌜ r ≡ phaseOk phase ⌝ }
+{
+    (1 <= phase) & (phase <= LAST_PHASE)
+}
+
+// Whether a number is a plan: 0 means none.
+pub fn is_plan(plan: Plan) -> bool
+    ensures { λ r. ⌜ r ≡ planOk plan ⌝ }
+{
+    1 <= plan
+}
 
 // The number of two bytes, the least first.
 pub fn u16_of(low: u8, high: u8) -> u16

@@ -13,7 +13,8 @@ use Rattle.wire.proofs.Stores.{sets-front}
 use Rattle.wire.proofs.Tests.{both-true}
 use Rattle.wire.specs.Sizes.{lastPhase}
 use Rattle.message.specs.Fields.{Message}
-use Rattle.message.specs.Bounds.{phaseOk, planOk, within}
+use Rattle.message.specs.Bounds.{within}
+use Rattle.wire.specs.Plan.{phaseOk, planOk}
 use Rattle.message.specs.Encoding.{sizeOf, encode}
 use Rattle.writer.specs.Writing.{selectionOf, writeMessageOf, writeSelectionOf}
 use Rattle.writer.specs.Writing.{messageBufferOf, selectionBufferOf}

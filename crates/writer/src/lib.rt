@@ -79,7 +79,7 @@ pub fn write_validation(buf: &mut [u8], run: u32, phase: u8, plan: Plan) -> Writ
     ensures { λ r. ⌜ (writeAnswer r ≡ writeMessageOf (validationOf run phase plan) (now (buf .entry)))
         × (now (buf .exit) ≡ messageBufferOf (validationOf run phase plan) (now (buf .entry))) ⌝ }
 {
-    let allowed = message::is_phase(phase) & message::is_plan(plan);
+    let allowed = wire::is_phase(phase) & wire::is_plan(plan);
     if allowed {
         if buf.len() < VALIDATION_LENGTH as usize {
             return Writing::Refused(WriteRefusal::Short);
@@ -95,7 +95,7 @@ pub fn write_decision(buf: &mut [u8], run: u32, phase: u8, vote: Plan, stamp: u8
     ensures { λ r. ⌜ (writeAnswer r ≡ writeMessageOf (decisionOf run phase vote stamp) (now (buf .entry)))
         × (now (buf .exit) ≡ messageBufferOf (decisionOf run phase vote stamp) (now (buf .entry))) ⌝ }
 {
-    let allowed = message::is_phase(phase) & (message::is_plan(vote) & (stamp <= phase));
+    let allowed = wire::is_phase(phase) & (wire::is_plan(vote) & (stamp <= phase));
     if allowed {
         if buf.len() < DECISION_LENGTH as usize {
             return Writing::Refused(WriteRefusal::Short);
@@ -111,7 +111,7 @@ pub fn write_decision(buf: &mut [u8], run: u32, phase: u8, vote: Plan, stamp: u8
 fn one_if_plan(phase: u8, plan: Plan) -> usize
     ensures { λ r. ⌜ Counts (entryOf phase plan) 1 r ⌝ }
 {
-    if message::is_plan(plan) { 1 } else { 0 }
+    if wire::is_plan(plan) { 1 } else { 0 }
 }
 
 // How many of the first phases have a plan.
@@ -133,7 +133,7 @@ fn put_entry(buf: &mut [u8], place: usize, phase: u8, plan: Plan) -> usize
     requires { ⌜ place + length (entryBytes (entryOf phase plan)) ≤ length (now buf) ⌝ }
     ensures { λ r. ⌜ Put (now (buf .entry)) place (entryOf phase plan) (now (buf .exit)) r ⌝ }
 {
-    if message::is_plan(plan) {
+    if wire::is_plan(plan) {
         buf[place] = phase;
         wire::put_plan(buf, place + 1, plan);
         place + ENTRY_SIZE
@@ -171,7 +171,7 @@ pub fn write_selection(
         × (now (buf .exit) ≡ selectionBufferOf run phase vote stamp history phases (now (buf .entry))) ⌝ }
 {
     let allowed = (phases <= phase)
-        & (message::is_phase(phase) & (message::is_plan(vote) & (stamp < phase)));
+        & (wire::is_phase(phase) & (wire::is_plan(vote) & (stamp < phase)));
     if allowed {
         let count = count_entries(history, phases);
         let size = SELECTION_LENGTH as usize + ENTRY_SIZE * count;

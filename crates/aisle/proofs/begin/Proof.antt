@@ -1,5 +1,6 @@
 -- `begin` meets its contract. The invariant: the first i nodes have started.
-use Rattle.aisle.proofs.Tables.{Filling, filling-none, filling-more, filling-all}
+use Rattle.wire.proofs.Arrays.{filling-none, filling-more}
+use Rattle.aisle.proofs.Tables.{Tabled, tabled-all}
 use Rattle.aisle.specs.Start.{begunOf}
 use Rattle.node.specs.Starting.{startOf}
 use Rattle.node.specs.Record.{blank}
@@ -14,7 +15,7 @@ use Rattle.aisle.proofs.begin.Tie as tie
 
 abbrev Inv-loop : tie.InvT-loop
 Inv-loop crew plans nodes₀ i₀ nodes i =
-    Filling (λ j. valueOr blank (startOf crew j 1 (getD plans j 0))) mostNodes nodes i
+    Tabled (λ j. valueOr blank (startOf crew j 1 (getD plans j 0))) mostNodes nodes i
 
 abbrev μ-loop : tie.MeasureT-loop
 μ-loop crew plans nodes₀ i₀ nodes i = mostNodes - i
@@ -23,7 +24,7 @@ start-node-requires : tie.Need-start-node-requires Inv-loop μ-loop
 start-node-requires c κs = search needs
 
 loop-holds : tie.Need-loop-holds Inv-loop μ-loop
-loop-holds c = filling-none _ mostNodes _ refl
+loop-holds c = filling-none _ refl
 
 mul-start-node : tie.Need-mul-start-node Inv-loop μ-loop
 mul-start-node c = search needs
@@ -49,7 +50,7 @@ loop-less c = search needs
 loop-again : tie.Need-loop-again Inv-loop μ-loop
 loop-again c =
     let turn = c .before in
-    filling-more _ mostNodes _ _ _ (turn .loop-test .taken) (c .start-node2 .ensures) (turn .before .loop .inv)
+    filling-more _ (turn .loop-test .taken) (turn .before .loop .inv) (c .start-node2 .ensures)
 
 honest-of-requires : tie.Need-honest-of-requires Inv-loop μ-loop
 honest-of-requires c κs = search needs
@@ -62,7 +63,7 @@ unfolding begunOf
 returns c =
     let looped = c .before .before in
     rw (
-      ← filling-all _ mostNodes _ _ (looped .loop-test .left) (looped .before .loop .inv),
+      ← tabled-all _ mostNodes _ _ (looped .loop-test .left) (looped .before .loop .inv),
       ← c .before .honest-of .ensures,
       ← c .empty .ensures,
     )

@@ -1,5 +1,6 @@
 -- `honest_of` meets its contract. The invariant: the first i places say whether the node has a plan.
-use Rattle.aisle.proofs.Tables.{Filling, filling-none, filling-more, filling-all}
+use Rattle.wire.proofs.Arrays.{filling-none, filling-more}
+use Rattle.aisle.proofs.Tables.{Tabled, tabled-all}
 use lib.Dec.{leb}
 use lib.ListN.{take, getD}
 use Rattle.crew.specs.Parts.{mostNodes}
@@ -10,13 +11,13 @@ use Rattle.aisle.proofs.honest_of.Statement.{statement}
 use Rattle.aisle.proofs.honest_of.Tie as tie
 
 abbrev Inv-loop : tie.InvT-loop
-Inv-loop plans honest₀ i₀ honest i = Filling (λ j. leb 1 (getD plans j 0)) mostNodes honest i
+Inv-loop plans honest₀ i₀ honest i = Tabled (λ j. leb 1 (getD plans j 0)) mostNodes honest i
 
 abbrev μ-loop : tie.MeasureT-loop
 μ-loop plans honest₀ i₀ honest i = mostNodes - i
 
 loop-holds : tie.Need-loop-holds Inv-loop μ-loop
-loop-holds c = filling-none _ mostNodes _ refl
+loop-holds c = filling-none _ refl
 
 mul-honest : tie.Need-mul-honest Inv-loop μ-loop
 mul-honest c = search needs
@@ -34,10 +35,10 @@ loop-less : tie.Need-loop-less Inv-loop μ-loop
 loop-less c = search needs
 
 loop-again : tie.Need-loop-again Inv-loop μ-loop
-loop-again c = filling-more _ mostNodes _ _ _ (c .loop-test .taken) refl (c .before .loop .inv)
+loop-again c = filling-more _ (c .loop-test .taken) (c .before .loop .inv) refl
 
 returns : tie.Need-returns Inv-loop μ-loop
-returns c = filling-all _ mostNodes _ _ (c .loop-test .left) (c .before .loop .inv)
+returns c = tabled-all _ mostNodes _ _ (c .loop-test .left) (c .before .loop .inv)
 
 pub honest-of-spec : {M : Type 1} → statement M
 honest-of-spec =

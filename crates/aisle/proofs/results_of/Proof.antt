@@ -1,5 +1,6 @@
 -- `results_of` meets its contract. The invariant: the first i results stand in their places.
-use Rattle.aisle.proofs.Tables.{Filling, filling-none, filling-more, filling-all}
+use Rattle.wire.proofs.Arrays.{filling-none, filling-more}
+use Rattle.aisle.proofs.Tables.{Tabled, tabled-all}
 use Rattle.aisle.specs.Round.{resultAt}
 use lib.ListN.{take}
 use Rattle.crew.specs.Parts.{mostNodes}
@@ -10,13 +11,13 @@ use Rattle.aisle.proofs.results_of.Statement.{statement}
 use Rattle.aisle.proofs.results_of.Tie as tie
 
 abbrev Inv-loop : tie.InvT-loop
-Inv-loop state results₀ i₀ results i = Filling (resultAt state) mostNodes results i
+Inv-loop state results₀ i₀ results i = Tabled (resultAt state) mostNodes results i
 
 abbrev μ-loop : tie.MeasureT-loop
 μ-loop state results₀ i₀ results i = mostNodes - i
 
 loop-holds : tie.Need-loop-holds Inv-loop μ-loop
-loop-holds c = filling-none _ mostNodes _ refl
+loop-holds c = filling-none _ refl
 
 mul-node : tie.Need-mul-node Inv-loop μ-loop
 mul-node c = search needs
@@ -37,10 +38,10 @@ loop-less : tie.Need-loop-less Inv-loop μ-loop
 loop-less c = search needs
 
 loop-again : tie.Need-loop-again Inv-loop μ-loop
-loop-again c = filling-more _ mostNodes _ _ _ (c .before .loop-test .taken) refl (c .before .before .loop .inv)
+loop-again c = filling-more _ (c .before .loop-test .taken) (c .before .before .loop .inv) refl
 
 returns : tie.Need-returns Inv-loop μ-loop
-returns c = filling-all _ mostNodes _ _ (c .loop-test .left) (c .before .loop .inv)
+returns c = tabled-all _ mostNodes _ _ (c .loop-test .left) (c .before .loop .inv)
 
 pub results-of-spec : {M : Type 1} → statement M
 results-of-spec =

@@ -1,5 +1,6 @@
 -- `whole_round` meets its contract. The invariant: the first receivers have taken the round.
-use Rattle.aisle.proofs.Tables.{Filling, filling-none, filling-more, filling-all}
+use Rattle.wire.proofs.Arrays.{filling-none, filling-more}
+use Rattle.aisle.proofs.Tables.{Tabled, tabled-all}
 use Rattle.aisle.specs.Round.{nodeAfter, goOf}
 use Rattle.crew.specs.Parts.{mostNodes}
 use Prim.Native.Nat.{_-_}
@@ -9,7 +10,7 @@ use Rattle.aisle.proofs.whole_round.Statement.{statement}
 use Rattle.aisle.proofs.whole_round.Tie as tie
 
 abbrev Inv-loop : tie.InvT-loop
-Inv-loop state crew honest nodes₀ receiver₀ nodes receiver = Filling (nodeAfter state) mostNodes nodes receiver
+Inv-loop state crew honest nodes₀ receiver₀ nodes receiver = Tabled (nodeAfter state) mostNodes nodes receiver
 
 abbrev μ-loop : tie.MeasureT-loop
 μ-loop state crew honest nodes₀ receiver₀ nodes receiver = mostNodes - receiver
@@ -18,7 +19,7 @@ element-copy-out-node : tie.Need-element-copy-out-node Inv-loop μ-loop
 element-copy-out-node c = search needs
 
 loop-holds : tie.Need-loop-holds Inv-loop μ-loop
-loop-holds c = filling-none _ mostNodes _ refl
+loop-holds c = filling-none _ refl
 
 take-round-requires : tie.Need-take-round-requires Inv-loop μ-loop
 take-round-requires c κs = search needs
@@ -38,7 +39,7 @@ loop-less c = search needs
 loop-again : tie.Need-loop-again Inv-loop μ-loop
 loop-again c =
     let turn = c .before in
-    filling-more _ mostNodes _ _ _ (turn .loop-test .taken) (c .take-round .ensures) (turn .before .loop .inv)
+    filling-more _ (turn .loop-test .taken) (turn .before .loop .inv) (c .take-round .ensures)
 
 phase-after-requires : tie.Need-phase-after-requires Inv-loop μ-loop
 phase-after-requires c κs = search needs
@@ -54,7 +55,7 @@ unfolding goOf
 returns c =
     let looped = c .before .before .before in
     rw (
-      ← filling-all _ mostNodes _ _ (looped .loop-test .left) (looped .before .loop .inv),
+      ← tabled-all _ mostNodes _ _ (looped .loop-test .left) (looped .before .loop .inv),
       ← c .before .before .phase-after .ensures,
       ← c .before .round-after .ensures,
       ← c .empty .ensures,

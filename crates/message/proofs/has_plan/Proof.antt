@@ -1,7 +1,7 @@
 -- `has_plan` meets its contract.
 use mathlib.Core.Path.{ap, _∙_}
 use borrow.Author.Needs.{needs}
-use Rattle.message.specs.Bounds.{planOk}
+use Rattle.wire.specs.Plan.{planOk}
 use Rattle.message.proofs.has_plan.Statement.{statement}
 use Rattle.message.proofs.has_plan.Tie as tie
 

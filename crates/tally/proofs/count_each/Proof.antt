@@ -5,7 +5,9 @@ use Prim.Native.Nat.{ℕ, _+_, _-_, _≤_}
 use native.Mathlib.Omega.{arith}
 use borrow.Author.Needs.{needs}
 use denote.Ref.{now}
-use Rattle.tally.proofs.Marking.{Filling, filling-none, filling-more, filling-all, counted-supporters}
+use Rattle.crew.specs.Parts.{mostNodes}
+use Rattle.wire.proofs.Arrays.{Filling, filling-none, filling-more, filling-until}
+use Rattle.tally.proofs.Marking.{counted-supporters}
 use Rattle.tally.specs.Marks.{supporters}
 use Rattle.tally.proofs.count_each.Statement.{statement}
 use Rattle.tally.proofs.count_each.Tie as tie
@@ -14,7 +16,7 @@ use Rattle.tally.proofs.count_each.Tie as tie
 record CountedTo (number : ℕ → ℕ) (counts : List ℕ) (count q : ℕ) : Type 0 where
   started : 1 ≤ q
   last-one : count ≡ number (q - 1)
-  column : Filling 0 number counts q
+  column : Filling 0 number mostNodes counts q
 
 abbrev Inv-loop : tie.InvT-loop
 Inv-loop counts₀ marks votes stamps n stamped below count₀ q₀ counts count q =
@@ -91,7 +93,7 @@ loop-again c =
     }
 
 returns : tie.Need-returns Inv-loop μ-loop
-returns c = filling-all (c .before .loop .inv .column) (c .loop-test .left)
+returns c = filling-until (c .before .loop .inv .column) (c .loop-test .left)
 
 pub count-each-spec : {M : Type 1} → statement M
 count-each-spec =

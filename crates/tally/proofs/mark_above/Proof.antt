@@ -8,11 +8,8 @@ use lib.Dec.{ltb}
 use borrow.Author.Needs.{needs}
 use denote.Ref.{now}
 use Rattle.crew.specs.Parts.{mostNodes}
+use Rattle.wire.proofs.Arrays.{Filling, filling-none, filling-more, filling-until}
 use Rattle.tally.proofs.Marking.{
-  Filling,
-  filling-none,
-  filling-more,
-  filling-all,
   counted-supporters,
   over-next,
   either-below,
@@ -25,7 +22,7 @@ use Rattle.tally.proofs.mark_above.Tie as tie
 record MarkedTo (test : ℕ → Bool) (number : ℕ → ℕ) (out : List Bool) (count last q : ℕ) : Type 0 where
   last-inside : last < mostNodes
   last-count : count ≡ number last
-  column : Filling false test out q
+  column : Filling false test mostNodes out q
 
 abbrev Inv-loop : tie.InvT-loop
 Inv-loop out₀ present marks votes stamps n threshold stamped below count₀ last₀ q₀ out count last q =
@@ -127,7 +124,7 @@ loop-again c =
     }
 
 returns : tie.Need-returns Inv-loop μ-loop
-returns c = filling-all (c .before .loop .inv .column) (c .loop-test .left)
+returns c = filling-until (c .before .loop .inv .column) (c .loop-test .left)
 
 pub mark-above-spec : {M : Type 1} → statement M
 mark-above-spec =

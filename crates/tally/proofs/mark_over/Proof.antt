@@ -5,13 +5,15 @@ use Prim.Native.Nat.{_-_}
 use native.Mathlib.Omega.{arith}
 use lib.ListN.{getD}
 use borrow.Author.Needs.{needs}
-use Rattle.tally.proofs.Marking.{Filling, filling-none, filling-more, filling-all}
+use Rattle.crew.specs.Parts.{mostNodes}
+use Rattle.wire.proofs.Arrays.{Filling, filling-none, filling-more, filling-until}
 use Rattle.tally.specs.Marks.{over}
 use Rattle.tally.proofs.mark_over.Statement.{statement}
 use Rattle.tally.proofs.mark_over.Tie as tie
 
 abbrev Inv-loop : tie.InvT-loop
-Inv-loop out₀ present counts n threshold q₀ out q = Filling false (over present (λ k. getD counts k 0) threshold) out q
+Inv-loop out₀ present counts n threshold q₀ out q =
+    Filling false (over present (λ k. getD counts k 0) threshold) mostNodes out q
 
 abbrev μ-loop : tie.MeasureT-loop
 μ-loop out₀ present counts n threshold q₀ out q = n - q
@@ -41,7 +43,7 @@ loop-again : tie.Need-loop-again Inv-loop μ-loop
 loop-again c = filling-more _ (omega arith) (c .before .before .before .loop .inv) refl
 
 returns : tie.Need-returns Inv-loop μ-loop
-returns c = filling-all (c .before .loop .inv) (c .loop-test .left)
+returns c = filling-until (c .before .loop .inv) (c .loop-test .left)
 
 pub mark-over-spec : {M : Type 1} → statement M
 mark-over-spec =

@@ -4,13 +4,14 @@ use mathlib.Core.Path.{refl}
 use Prim.Native.Nat.{_-_}
 use native.Mathlib.Omega.{arith}
 use borrow.Author.Needs.{needs}
-use Rattle.tally.proofs.Marking.{Filling, filling-none, filling-more, filling-all}
+use Rattle.crew.specs.Parts.{mostNodes}
+use Rattle.wire.proofs.Arrays.{Filling, filling-none, filling-more, filling-until}
 use Rattle.tally.specs.Marks.{stampedWith}
 use Rattle.tally.proofs.mark_stamped.Statement.{statement}
 use Rattle.tally.proofs.mark_stamped.Tie as tie
 
 abbrev Inv-loop : tie.InvT-loop
-Inv-loop out₀ present stamps n stamp q₀ out q = Filling false (stampedWith present stamps stamp) out q
+Inv-loop out₀ present stamps n stamp q₀ out q = Filling false (stampedWith present stamps stamp) mostNodes out q
 
 abbrev μ-loop : tie.MeasureT-loop
 μ-loop out₀ present stamps n stamp q₀ out q = n - q
@@ -37,7 +38,7 @@ loop-again : tie.Need-loop-again Inv-loop μ-loop
 loop-again c = filling-more _ (omega arith) (c .before .before .before .loop .inv) refl
 
 returns : tie.Need-returns Inv-loop μ-loop
-returns c = filling-all (c .before .loop .inv) (c .loop-test .left)
+returns c = filling-until (c .before .loop .inv) (c .loop-test .left)
 
 pub mark-stamped-spec : {M : Type 1} → statement M
 mark-stamped-spec =
