@@ -1,6 +1,7 @@
 -- `rail_start` meets its contract.
-use mathlib.Core.Path.{sym, _∙_, ap}
+use mathlib.Core.Path.{_≡_, sym, _∙_, ap}
 use borrow.Author.Needs.{needs}
+use Rattle.crew.specs.Parts.{crewOf}
 use Rattle.node.specs.Record.{blank}
 use Rattle.node.specs.Starting.{startAnswer}
 use Rattle.boundary.proofs.Verdicts.{record-stored, record-kept, image-kept}
@@ -30,7 +31,10 @@ returns c =
     let told = c .before .before .before .before in
     let started = told .before .before in
     let tested = started .before .before in
-    rw (← started .before .crew-of .ensures)
+    let a = tested .before .before .before .before .args in
+    let made = started .before .crew-of in
+    let is : made .result ≡ crewOf (a .class) (a .n) (a .b) (a .f) (a .d) = made .ensures in
+    rw (← is)
     (record-stored _ blank (tested .before .fits2 .ensures) (tested .if1 .taken) _ (started .start .ensures .0)
     (ap startAnswer (told .enum-told .given .1)) (started .start .ensures .1) (c .before .before .store .ensures))
 
@@ -51,7 +55,10 @@ returns-2 c =
     let told = c .before .before .before in
     let started = told .before .before in
     let tested = started .before .before in
-    rw (← started .before .crew-of .ensures)
+    let a = tested .before .before .before .before .args in
+    let made = started .before .crew-of in
+    let is : made .result ≡ crewOf (a .class) (a .n) (a .b) (a .f) (a .d) = made .ensures in
+    rw (← is)
     (record-kept _ blank (tested .before .fits2 .ensures) (tested .if1 .taken) _ (started .start .ensures .0)
     _ (ap startAnswer (told .answer .given .1)) (c .before .start-number .ensures) (c .refusal .ensures))
 
