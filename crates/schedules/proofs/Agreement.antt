@@ -134,7 +134,8 @@ module _ (s : Schedule) (crew : Crew) (ok : acceptOf crew ≡ accepted tt) (p : 
   }
 
   -- what demand 3 says of a result in the list, it says in the schedule
-  result-from : (v : ℕ) → lists.PlanDecided l crew p v ⊎ ((lists.Decided l crew p → ⊥) × (v ≡ 0)) → Stands (Wins s crew p) v
+  result-from : (v : ℕ) → lists.PlanDecided l crew p v ⊎ ((lists.Decided l crew p → ⊥) × (v ≡ 0))
+      → Stands (Wins s crew p) v
   result-from v (inl d) = inl (plan-from v d)
   result-from v (inr d) = inr (λ x. d .0 (decided-to x), d .1)
 
