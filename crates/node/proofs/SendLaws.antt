@@ -22,16 +22,16 @@ use Rattle.writer.specs.declared.Writing.the-variants.{Refused}
 use Rattle.message.proofs.EncodeLaws.{encode-length}
 use Rattle.node.specs.declared.Node.{Node}
 use Rattle.node.specs.Soundness.{sound}
-use Rattle.node.specs.Sending.{listedPhases, encoded, comingBytes, writeComingOf, comingBufferOf}
-use Rattle.node.specs.Promises.{Due, Writes}
+use Rattle.node.specs.Sending.{listedPhases, encoded, comingBytes, writeComingOf, comingBufferOf, Writes}
+use Rattle.node.specs.Promises.{Due}
 use Rattle.wire.specs.Bytes.{bufferAfter}
 use Rattle.node.proofs.Facts.{sound-facts}
 use Rattle.node.proofs.Coming.{Says, selects, says-coming, coming-silent, selection-allowed, says-within}
 
 -- a record that is due a message: what a message's writer answers and leaves is what the node does
-module _ {d : Node} (due : Due d) {buffer : List ℕ} where
+module _ {d : Node} (due : Due d) (buffer : List ℕ) where
   pub message-written : {m : Message} {outcome : Outcome ℕ} {after : List ℕ} → Says d m
-      → (outcome ≡ writer.writeMessageOf m buffer) × (after ≡ writer.messageBufferOf m buffer)
+      → writer.Written (writer.writeMessageOf m buffer) (writer.messageBufferOf m buffer) outcome after
       → Writes d buffer outcome after
   unfolding writeComingOf writer.writeMessageOf
   message-written {m} says wrote =
@@ -41,15 +41,17 @@ module _ {d : Node} (due : Due d) {buffer : List ℕ} where
       let same : writer.writeMessageOf m buffer ≡ writeComingOf d buffer
       = simp (due .is-sound, unspent, bounds, said, encode-length m) in
       let left = ap₂ (λ outcome bytes. bufferAfter bytes buffer outcome) same (sym (ap encoded said)) in
-      record { answer = wrote .0 ∙ same; left = wrote .1 ∙ left }
+      record { answer = wrote .answer ∙ same; left = wrote .left ∙ left }
 
   pub selection-written : {phases : ℕ} {outcome : Outcome ℕ} {after : List ℕ} → d .round ≡ 1 → phases ≡ listedPhases d
-      → (outcome ≡ writer.writeSelectionOf (d .run) (d .phase) (d .vote) (d .stamp) (d .history) phases buffer)
-      × (after ≡ writer.selectionBufferOf (d .run) (d .phase) (d .vote) (d .stamp) (d .history) phases buffer)
+      → writer.Written
+      (writer.writeSelectionOf (d .run) (d .phase) (d .vote) (d .stamp) (d .history) phases buffer)
+      (writer.selectionBufferOf (d .run) (d .phase) (d .vote) (d .stamp) (d .history) phases buffer) outcome after
       → Writes d buffer outcome after
   selection-written one same wrote =
       let ok = selection-allowed (sound-facts d (due .is-sound)) (due .unspent) one in
-      message-written (selects one) (simp (same, ok .before) at wrote)
+      message-written (selects one)
+      (record { answer = simp (same, ok .before) at (wrote .answer); left = simp (same, ok .before) at (wrote .left) })
 
   -- silence is a length of 0, into any buffer
   pub silence-written : d .round ≡ 2 → d .select ≡ 0 → Writes d buffer (accepted 0) buffer

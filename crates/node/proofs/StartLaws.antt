@@ -8,7 +8,7 @@ use lib.ListN.{length, getD, set, replicate, length-set, length-replicate}
 use lib.Seq.{getD-set-same, getD-set-other}
 use lib.Dec.{leb, ltb}
 use borrow.Author.Tests.{ltb-true, leb-true, lt-ltb, le-ltb, le-leb}
-use Rattle.wire.specs.Outcome.{Outcome, accepted, refused, after, verdict, valueOr}
+use Rattle.wire.specs.Outcome.{Outcome, accepted, refused, after}
 use Rattle.wire.proofs.Arrays.{same-everywhere}
 use Rattle.wire.proofs.Outcomes.{passed, refused-not-accepted}
 use Rattle.wire.specs.Sizes.{planLimit, runLimit, historySize}
@@ -17,7 +17,7 @@ use Rattle.crew.specs.Acceptance.{acceptOf}
 use Rattle.node.specs.declared.Node.{Node}
 use Rattle.node.specs.Record.{begun, blank}
 use Rattle.node.specs.Soundness.{sound}
-use Rattle.node.specs.Starting.{startOf, startNumber, startAnswer}
+use Rattle.node.specs.Starting.{startOf, startNumber, StartedFrom}
 use Rattle.node.specs.Promises.{Refuses}
 use Rattle.node.specs.declared.StartRefusal.{StartRefusal}
 use Rattle.node.specs.declared.Started.{Started}
@@ -45,9 +45,8 @@ module _ (crew : Crew) (own run plan : ℕ) where
 -- a refused start answers its number and shows the blank record
 pub refusal-shown : {why : StartRefusal} {started : Started} (crew : Crew) (own run plan : ℕ) → Refuses why started
     → startOf crew own run plan ≡ refused (startNumber why)
-    → (startAnswer (started .answer) ≡ verdict (startOf crew own run plan))
-    × (started .node ≡ valueOr blank (startOf crew own run plan))
-refusal-shown crew own run plan shown e = (simp (e, shown .answer), simp (e, shown .node))
+    → StartedFrom crew own run plan started
+refusal-shown crew own run plan shown e = record { answer = simp (e, shown .answer); node = simp (e, shown .node) }
 
 -- an operation that goes before another was accepted where the whole is
 after-accepted : {A : Type 0} (before : Outcome (Unit {0})) (next : Outcome A) {value : A}

@@ -1,5 +1,6 @@
 -- What a node writes in its coming round, what writing it answers, and what it leaves in the lent buffer: document 01.
 use Prim.Native.Nat.{ℕ}
+use mathlib.Core.Path.{_≡_}
 use mathlib.Core.Bool.{cond}
 use mathlib.Core.List.{List, []}
 use mathlib.Core.Option.{Option, none, some}
@@ -10,13 +11,14 @@ use Rattle.wire.specs.Bytes.{bufferAfter}
 use Rattle.wire.specs.Sizes.{spentPhase}
 use Rattle.message.specs.Fields.{Message}
 use Rattle.message.specs.Encoding.{encode}
-use Rattle.writer.specs.Writing.{selectionOf, validationOf, decisionOf}
+use Rattle.writer.specs.Writing.{selectionOf, validationOf, decisionOf, Written}
 use Rattle.node.specs.Soundness.{sound}
 use Rattle.node.specs.declared.Node.{Node}
 use Rattle.node.specs.declared.SendRefusal.{SendRefusal}
 use Rattle.node.specs.declared.SendRefusal.the-variants.{Unsound, Spent, Short}
 use Rattle.node.specs.declared.Sending.{Sending}
 use Rattle.node.specs.declared.Sending.the-variants.{Bytes, Refused}
+use Rattle.node.specs.declared.Sent.{Sent}
 
 -- how many phases' entries stand in a selection: "in class 3 only, its non-empty entries of earlier phases"
 abbrev pub listedPhases : Node → ℕ
@@ -64,3 +66,12 @@ sendNumber Short = 9
 abbrev pub sendAnswer : Sending → Outcome ℕ
 sendAnswer (Bytes size) = accepted size
 sendAnswer (Refused why) = refused (sendNumber why)
+
+-- Writing the record's coming message comes to this outcome, and leaves this in the buffer.
+abbrev pub Writes : Node → List ℕ → Outcome ℕ → List ℕ → Type 0
+Writes d buffer outcome after = Written (writeComingOf d buffer) (comingBufferOf d buffer) outcome after
+
+-- What `write` gives: that, and the record as it was handed in.
+pub record SentFrom (d : Node) (buffer : List ℕ) (sent : Sent) (after : List ℕ) : Type 0 where
+  pub written : Writes d buffer (sendAnswer (sent .answer)) after
+  pub node : sent .node ≡ d

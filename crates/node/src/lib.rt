@@ -10,7 +10,7 @@ ghost use mathlib.Core.Path.{_≡_};
 ghost use mathlib.Core.Bool.{_&&_};
 ghost use lib.Dec.{leb};
 ghost use lib.ListN.{getD};
-ghost use Rattle.wire.specs.Outcome.{refused, verdict, valueOr};
+ghost use Rattle.wire.specs.Outcome.{refused};
 ghost use Rattle.writer.specs.Writing.{writeAnswer};
 ghost use Rattle.node.specs.Record.{blank, begun};
 ghost use Rattle.node.specs.Soundness.{
@@ -20,9 +20,9 @@ ghost use Rattle.node.specs.Soundness.{
   restEmpty,
   sound,
 };
-ghost use Rattle.node.specs.Starting.{startOf, startAnswer};
-ghost use Rattle.node.specs.Promises.{Due, Writes, Refuses};
-ghost use Rattle.node.specs.Sending.{listedPhases, writeComingOf, comingBufferOf, sendAnswer};
+ghost use Rattle.node.specs.Starting.{StartedFrom};
+ghost use Rattle.node.specs.Promises.{Due, Refuses};
+ghost use Rattle.node.specs.Sending.{listedPhases, sendAnswer, Writes, SentFrom};
 
 // 01's node record. Any values may stand in it: `is_sound` says whether they are those of a node.
 pub struct Node {
@@ -167,8 +167,7 @@ impl Node {
 
     // Starts a node with its initial plan, or says why not.
     pub fn start(crew: Crew, own: u8, run: u32, plan: Plan) -> Started
-        ensures { λ r. ⌜ (startAnswer (r .answer) ≡ verdict (startOf crew own run plan))
-            × (r .node ≡ valueOr blank (startOf crew own run plan)) ⌝ }
+        ensures { λ r. ⌜ StartedFrom crew own run plan r ⌝ }
     {
         match crew::accept(crew) {
             Acceptance::Refused(why) => refuse_start(StartRefusal::Crew(why)),
@@ -292,9 +291,7 @@ impl Node {
 
     // Writes the coming message to the front of a lent buffer, or says why not; the record comes back unchanged.
     pub fn write(self, buf: &mut [u8]) -> Sent
-        ensures { λ r. ⌜ (sendAnswer (r .answer) ≡ writeComingOf self (now (buf .entry)))
-            × (r .node ≡ self)
-            × (now (buf .exit) ≡ comingBufferOf self (now (buf .entry))) ⌝ }
+        ensures { λ r. ⌜ SentFrom self (now (buf .entry)) r (now (buf .exit)) ⌝ }
     {
         if self.is_sound() {
             if self.phase < Node::SPENT {

@@ -1,6 +1,7 @@
 -- What writing the fields of a message answers, and what it leaves in the lent buffer.
 -- 01: "9 buffer shorter than the message". Fields that break a bound are refused first, with 13.
 use Prim.Native.Nat.{ℕ}
+use mathlib.Core.Path.{_≡_}
 use mathlib.Core.List.{List}
 use lib.ListN.{length}
 use lib.Dec.{leb}
@@ -57,3 +58,8 @@ writeNumber Short = 9
 abbrev pub writeAnswer : Writing → Outcome ℕ
 writeAnswer (Bytes size) = accepted size
 writeAnswer (Refused why) = refused (writeNumber why)
+
+-- What writing to the front of a lent buffer gives: its outcome, and what it leaves in the whole buffer.
+pub record Written (expected : Outcome ℕ) (whole : List ℕ) (outcome : Outcome ℕ) (after : List ℕ) : Type 0 where
+  pub answer : outcome ≡ expected
+  pub left : after ≡ whole

@@ -35,6 +35,7 @@ ghost use Rattle.writer.specs.Writing.{
   messageBufferOf,
   selectionBufferOf,
   writeAnswer,
+  Written,
 };
 ghost use Rattle.writer.specs.Promises.{Counts, HaveRoom, Put};
 ghost use Rattle.wire.specs.Entry.{entryOf, entriesFrom};
@@ -76,8 +77,8 @@ fn put_front(buf: &mut [u8], size: u16, kind: u16, run: u32, phase: u8, plan: Pl
 
 // Writes a validation. Fields that break a bound are refused, then a buffer that is too short.
 pub fn write_validation(buf: &mut [u8], run: u32, phase: u8, plan: Plan) -> Writing
-    ensures { λ r. ⌜ (writeAnswer r ≡ writeMessageOf (validationOf run phase plan) (now (buf .entry)))
-        × (now (buf .exit) ≡ messageBufferOf (validationOf run phase plan) (now (buf .entry))) ⌝ }
+    ensures { λ r. ⌜ Written (writeMessageOf (validationOf run phase plan) (now (buf .entry)))
+        (messageBufferOf (validationOf run phase plan) (now (buf .entry))) (writeAnswer r) (now (buf .exit)) ⌝ }
 {
     let allowed = wire::is_phase(phase) & wire::is_plan(plan);
     if allowed {
@@ -92,8 +93,8 @@ pub fn write_validation(buf: &mut [u8], run: u32, phase: u8, plan: Plan) -> Writ
 
 // Writes a decision. Fields that break a bound are refused, then a buffer that is too short.
 pub fn write_decision(buf: &mut [u8], run: u32, phase: u8, vote: Plan, stamp: u8) -> Writing
-    ensures { λ r. ⌜ (writeAnswer r ≡ writeMessageOf (decisionOf run phase vote stamp) (now (buf .entry)))
-        × (now (buf .exit) ≡ messageBufferOf (decisionOf run phase vote stamp) (now (buf .entry))) ⌝ }
+    ensures { λ r. ⌜ Written (writeMessageOf (decisionOf run phase vote stamp) (now (buf .entry)))
+        (messageBufferOf (decisionOf run phase vote stamp) (now (buf .entry))) (writeAnswer r) (now (buf .exit)) ⌝ }
 {
     let allowed = wire::is_phase(phase) & (wire::is_plan(vote) & (stamp <= phase));
     if allowed {
@@ -167,8 +168,9 @@ pub fn write_selection(
     history: [Plan; PHASES],
     phases: u8,
 ) -> Writing
-    ensures { λ r. ⌜ (writeAnswer r ≡ writeSelectionOf run phase vote stamp history phases (now (buf .entry)))
-        × (now (buf .exit) ≡ selectionBufferOf run phase vote stamp history phases (now (buf .entry))) ⌝ }
+    ensures { λ r. ⌜ Written (writeSelectionOf run phase vote stamp history phases (now (buf .entry)))
+        (selectionBufferOf run phase vote stamp history phases (now (buf .entry))) (writeAnswer r)
+        (now (buf .exit)) ⌝ }
 {
     let allowed = (phases <= phase)
         & (wire::is_phase(phase) & (wire::is_plan(vote) & (stamp < phase)));

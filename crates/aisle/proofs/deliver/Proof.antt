@@ -33,7 +33,7 @@ returns-2 c =
     let honest = c .before .before .before .before .before in
     let uncut = honest .before .before in
     rw (sym (uncut .before .is-cut .ensures) ∙ uncut .if1 .left, honest .if2 .taken)
-    (c .before .before .write .ensures .2)
+    (c .before .before .write .ensures .written .left)
 
 say-of-requires : tie.Need-say-of-requires
 say-of-requires c κs = search needs

@@ -23,7 +23,7 @@ unfolding sayBuffer
 returns-2 c =
     let selects = c .before .before .before .before in
     rw (ne-eqb _ _ (selects .before .if1 .left), eq-eqb _ _ (selects .if2 .taken))
-    (c .before .before .write-selection .ensures .1 ∙ selection-said _ _ _ _ _)
+    (c .before .before .write-selection .ensures .left ∙ selection-said _ _ _ _ _)
 
 write-validation-requires : tie.Need-write-validation-requires
 write-validation-requires c κs = search needs
@@ -35,7 +35,7 @@ returns-3 : tie.Need-returns-3
 returns-3 c =
     let validates = c .before .before .before .before in
     let unselecting = validates .before in
-    c .before .before .write-validation .ensures .1
+    c .before .before .write-validation .ensures .left
     ∙ later-said _ _ _ _ _ (unselecting .before .if1 .left) (unselecting .if2 .left) true
     (eq-eqb _ _ (validates .if3 .taken))
 
@@ -49,7 +49,7 @@ returns-4 : tie.Need-returns-4
 returns-4 c =
     let decides = c .before .before .before .before in
     let unselecting = decides .before in
-    c .before .before .write-decision .ensures .1
+    c .before .before .write-decision .ensures .left
     ∙ later-said _ _ _ _ _ (unselecting .before .if1 .left) (unselecting .if2 .left) false
     (ne-eqb _ _ (decides .if3 .left))
 

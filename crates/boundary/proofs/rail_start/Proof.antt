@@ -35,8 +35,8 @@ returns c =
     let made = started .before .crew-of in
     let is : made .result ≡ crewOf (a .class) (a .n) (a .b) (a .f) (a .d) = made .ensures in
     rw (← is)
-    (record-stored _ blank (tested .before .fits2 .ensures) (tested .if1 .taken) _ (started .start .ensures .0)
-    (ap startAnswer (told .enum-told .given .1)) (started .start .ensures .1) (c .before .before .store .ensures))
+    (record-stored _ blank (tested .before .fits2 .ensures) (tested .if1 .taken) _ (started .start .ensures .answer)
+    (ap startAnswer (told .enum-told .given .1)) (started .start .ensures .node) (c .before .before .store .ensures))
 
 enum-known-answer : tie.Need-enum-known-answer
 enum-known-answer c = search needs
@@ -59,7 +59,7 @@ returns-2 c =
     let made = started .before .crew-of in
     let is : made .result ≡ crewOf (a .class) (a .n) (a .b) (a .f) (a .d) = made .ensures in
     rw (← is)
-    (record-kept _ blank (tested .before .fits2 .ensures) (tested .if1 .taken) _ (started .start .ensures .0)
+    (record-kept _ blank (tested .before .fits2 .ensures) (tested .if1 .taken) _ (started .start .ensures .answer)
     _ (ap startAnswer (told .answer .given .1)) (c .before .start-number .ensures) (c .refusal .ensures))
 
 refusal-requires-2 : tie.Need-refusal-requires-2

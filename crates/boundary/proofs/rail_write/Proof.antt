@@ -21,7 +21,7 @@ sending-answer-requires c κs =
     let written = c .before .before in
     let loaded = written .before .before .before in
     let buffer = now (loaded .before .before .before .args .buffer) in
-    rw (written .write .ensures .0) (omega (arith, write-length (loaded .load .result .node) buffer))
+    rw (written .write .ensures .written .answer) (omega (arith, write-length (loaded .load .result .node) buffer))
 
 same-length : tie.Need-same-length
 same-length c = search needs
@@ -33,10 +33,10 @@ returns c =
     let a = loaded .before .before .before .args in
     let fits = sym (loaded .load .ensures .fits) ∙ written .before .before .if1 .taken in
     let same : sendAnswer (written .write .result .answer) ≡ writeFrom (now (a .image)) (now (a .buffer)) =
-    rw (written .write .ensures .0, loaded .load .ensures .node, fits) in
+    rw (written .write .ensures .written .answer, loaded .load .ensures .node, fits) in
     record {
       told = subst (λ outcome. Answered itself outcome (c .sending-answer .result)) same (c .sending-answer .ensures);
-      left = rw (written .write .ensures .2, loaded .load .ensures .node, fits);
+      left = rw (written .write .ensures .written .left, loaded .load .ensures .node, fits);
     }
 
 refusal-requires : tie.Need-refusal-requires

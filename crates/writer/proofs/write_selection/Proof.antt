@@ -96,10 +96,11 @@ returns-2 c =
     let a = tested .before .before .before .before .args in
     let count = counted .count-entries .ensures .same in
     let done = selection-written (fields-allowed tested) (now (a .buf))
-    (omega (arith, count, roomy .if2 .left)) in (
-      ap (λ (k : ℕ). accepted (entriesPlace + entrySize * k)) count ∙ done .0,
-      simp (entries .put-entries .ensures, put .put-front .ensures, count) (done .1),
-    )
+    (omega (arith, count, roomy .if2 .left)) in
+    record {
+      answer = ap (λ (k : ℕ). accepted (entriesPlace + entrySize * k)) count ∙ done .answer;
+      left = simp (entries .put-entries .ensures, put .put-front .ensures, count) (done .left);
+    }
 
 returns-3 : tie.Need-returns-3
 returns-3 c =

@@ -40,7 +40,7 @@ returns c =
     let args = crew .before .before .before .args in
     let e = start-begins (args .crew) (args .own) (args .run) (args .plan) (crew-accepted crew) (own .if1 .taken)
     (c .before .if2 .taken) in
-    (simp e, simp (e, c .begin .ensures))
+    record { answer = simp e; node = simp (e, c .begin .ensures) }
 
 refuse-start-requires-2 : tie.Need-refuse-start-requires-2
 refuse-start-requires-2 c κs = search needs

@@ -27,17 +27,18 @@ same-length c = search needs
 returns : tie.Need-returns
 returns c =
     let wrote = c .before .before .before .write-coming .ensures in
-    (c .to-sending .ensures ∙ wrote .answer, refl, wrote .left)
+    record {
+      written = record { answer = c .to-sending .ensures ∙ wrote .answer; left = wrote .left };
+      node = refl;
+    }
 
 returns-2 : tie.Need-returns-2
 returns-2 c =
-    let refusal = spent-refused _ _ (tested-sound (c .before .before)) (c .if2 .left) in
-    (refusal .answer, refl, refusal .left)
+    record { written = spent-refused _ _ (tested-sound (c .before .before)) (c .if2 .left); node = refl }
 
 returns-3 : tie.Need-returns-3
 returns-3 c =
-    let refusal = unsound-refused _ _ (sym (c .before .is-sound .ensures) ∙ c .if1 .left) in
-    (refusal .answer, refl, refusal .left)
+    record { written = unsound-refused _ _ (sym (c .before .is-sound .ensures) ∙ c .if1 .left); node = refl }
 
 pub write-spec : {M : Type 1} → statement M
 write-spec =

@@ -20,7 +20,7 @@ returns : tie.Need-returns
 returns c =
     let listed = c .before .before .before .before in
     let first = listed .before .before in
-    selection-written (first .before .before .before .pre) (first .if1 .taken) (listed .listed-phases .ensures)
+    selection-written (first .before .before .before .pre) _ (first .if1 .taken) (listed .listed-phases .ensures)
     (c .before .before .write-selection .ensures)
 
 write-validation-requires : tie.Need-write-validation-requires
@@ -34,14 +34,14 @@ returns-2 c =
     let planned = c .before .before .before .before in
     let second = planned .before .before in
     let unfirst = second .before .before in
-    message-written (unfirst .before .before .before .pre)
+    message-written (unfirst .before .before .before .pre) _
     (confirms (second .if2 .taken) (planned .if3 .taken)) (c .before .before .write-validation .ensures)
 
 returns-3 : tie.Need-returns-3
 returns-3 c =
     let second = c .before .before in
     let unfirst = second .before .before in
-    silence-written (unfirst .before .before .before .pre) (second .if2 .taken) (omega arith)
+    silence-written (unfirst .before .before .before .pre) _ (second .if2 .taken) (omega arith)
 
 write-decision-requires : tie.Need-write-decision-requires
 write-decision-requires c κs = search needs
@@ -55,7 +55,7 @@ returns-4 c =
     let unfirst = last .before .before in
     let due = unfirst .before .before .before .pre in
     let three = last-round (sound-facts _ (due .is-sound)) (unfirst .if1 .left) (last .if2 .left) in
-    message-written due (decides three) (c .before .before .write-decision .ensures)
+    message-written due _ (decides three) (c .before .before .write-decision .ensures)
 
 pub write-coming-spec : {M : Type 1} → statement M
 write-coming-spec =
