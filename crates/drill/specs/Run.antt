@@ -34,8 +34,7 @@ isLast [] = true
 isLast (w ∷ ws) = false
 
 -- The lines from number l on.
--- 01: "The end prints `end`."; "A bad line L (also a missing, empty or unended one ..) prints `bad L` and stops,
--- without `end`."
+-- 01: "A bad line L (also a missing, empty or unended one ..) prints `bad L` and stops, without `end`."
 unfoldable pub follow : State → ℕ → List (List ℕ) → List ℕ
 follow st l [] = []
 follow st l (w ∷ ws) =

@@ -11,4 +11,3 @@ pub mod Phases
 pub mod GoodPhase
 pub mod GoodRun
 pub mod Theorems
-pub mod Example

@@ -18,8 +18,7 @@ use Rattle.rounds.specs.declared.Asking.{Asking}
 use Rattle.rounds.specs.declared.Asking.the-variants.{Plan, Any, Nothing, Refused}
 use Rattle.rounds.specs.declared.Asked.{Asked}
 
--- 01: "only asking for the coming selection (answered as the plan, 'any' or 'none'): 7; 8; 14 inbox length not 202n.
--- Asking outside round 1 is also 7."
+-- Refused as taking a round is, and 01: "Asking outside round 1 is also 7."
 unfoldable pub askOf : Node → List ℕ → Outcome Choice
 askOf d bytes =
     require (sound d && eqb (d .round) 1) 7

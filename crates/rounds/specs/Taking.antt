@@ -79,7 +79,8 @@ afterRound d heard =
     (cond (eqb (d .round) 2) (afterValidation d (validated (d .crew) heard))
     (afterDecision d (decision (classOf (d .crew)) (d .crew) (d .phase) heard)))
 
--- 01: "Taking a round ..: 7; 8; 14 inbox length not 202n."
+-- 01: "Taking a round, or only asking for the coming selection (answered as the plan, 'any' or 'none'): 7; 8; 14 inbox
+-- length not 202n."
 unfoldable pub takeOf : Node → List ℕ → Outcome Node
 takeOf d bytes =
     require (sound d) 7

@@ -1,5 +1,5 @@
--- What demand 3 says of results, agreement and common start in a schedule's lock-step run, it says of the schedule.
--- 02: "Agreement and common start follow for it without a fresh argument."
+-- What demand 3 says of results, agreement and common start in a schedule's lock-step run, it says of the schedule:
+-- `OutOfStep` of specs/Schedule.
 use mathlib.Core.Path.{_≡_, sym, ap, _∙_, subst}
 use mathlib.Core.Bool.{Bool}
 use mathlib.Core.List.{List}

@@ -1,6 +1,5 @@
--- Two neighbouring steps of different nodes can change places.
--- 02: "Two steps of different nodes, neither of which takes what the other writes, give the same records in either
--- order, each handed the same inbox."
+-- Two neighbouring steps of different nodes, neither of which takes what the other writes, can change places:
+-- `Exchange` of specs/Schedule.
 use mathlib.Core.Path.{_≡_, refl, sym, ap, ap₂, _∙_, subst}
 use mathlib.Core.List.{List, [], _∷_, _++_, append-assoc, head-eq-of-cons-eq, tail-eq-of-cons-eq}
 use mathlib.Core.Logic.{inl, inr, _≢_}

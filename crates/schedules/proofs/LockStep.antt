@@ -1,7 +1,6 @@
 -- A schedule in lock step: the run in which every node goes through its own rounds, one a round, with an empty inbox in
--- those that it did not take, meets the premises of demand 3 and has the schedule's records.
--- 02: "For every such schedule, one lock-step run with the same starts and premises, and with losses, gives each node
--- the same record after as many rounds as that node took."
+-- those that it did not take, meets the premises of demand 3 and has the schedule's records: `LockStep` of
+-- specs/Schedule.
 use mathlib.Core.Path.{_≡_, refl, sym, ap, ap₂, _∙_, subst}
 use mathlib.Core.Bool.{Bool, true, false, cond}
 use mathlib.Core.List.{List, [], _∷_, _++_, flatten, append-nil, append-assoc}

@@ -532,7 +532,7 @@ fn any_if(enough: bool) -> Choice
     if enough { Choice::Any } else { Choice::Nothing }
 }
 
-// 01, classes 1 and 2: "Exactly one: that plan. Otherwise 'any' if .., else 'none'."
+// Classes 1 and 2: a plan that alone is backed; else 'any' goes by the slots that count.
 fn answer_below_three(backing: Backing, enough: bool) -> Choice
     ensures { λ r. ⌜ AnsweredAlike (backingAs backing) enough (choiceAs r) ⌝ }
 {
@@ -543,7 +543,7 @@ fn answer_below_three(backing: Backing, enough: bool) -> Choice
     }
 }
 
-// 01, class 3: "Exactly one plan: that plan. More: 'any'. None: 'any' if .., else 'none'."
+// Class 3: several plans that are backed give 'any' as well, whatever counts.
 fn answer_three(backing: Backing, enough: bool) -> Choice
     ensures { λ r. ⌜ choiceAs r ≡ answer three (backingAs backing) enough ⌝ }
 {

@@ -1,5 +1,5 @@
 -- What writing the fields of a message answers, and what it leaves in the lent buffer.
--- 01: "9 buffer shorter than the message". Fields that break a bound are refused first, with 13.
+-- Fields that break a bound are refused first, with 13, then a buffer that is shorter than the message, with 9.
 use Prim.Native.Nat.{ℕ}
 use mathlib.Core.Path.{_≡_}
 use mathlib.Core.List.{List}
