@@ -180,7 +180,7 @@ phaseAt crew j = phaseIf (eqb (crew .class) 1) j
 abbrev pub roundAt : Crew → ℕ → ℕ
 roundAt crew j = roundIf (eqb (crew .class) 1) j
 
--- 01: "phases 1 to 63"; "Phase 64 means spent."
+-- before the records are spent
 abbrev pub Early : Crew → ℕ → Type 0
 Early crew j = phaseAt crew j < spentPhase
 
@@ -224,8 +224,7 @@ abbrev pub isFor : Crew → ℕ → ℕ → Ballot → Bool
 isFor crew phase v m = fresh (classOf crew) phase m && votes v m
 
 -- In round j the plan v wins for a node with this record, which took this inbox.
--- 01: "in some round 3 that it took, at least D counting slots held one plan (in classes 2 and 3 with the phase as
--- stamp)"
+-- 01: "at least D counting slots held one plan (in classes 2 and 3 with the phase as stamp)"
 abbrev pub WinsOn : Crew → ℕ → Node → Option (List ℕ) → ℕ → Type 0
 WinsOn crew j d taken v =
     (roundAt crew j ≡ 3)
@@ -271,7 +270,7 @@ ballotsIn d (some inbox) = ballots d inbox
 abbrev pub heard : Execution → ℕ → ℕ → List Ballot
 heard l p j = ballotsIn (recordAt l p j) (inboxAt l p j)
 
--- 01: "silence (length 0, nothing written) if select is 0". A node whose writes are all refused is not silent by that.
+-- Nothing is to be written. A node whose writes are all refused is not silent by that.
 abbrev pub Silent : Execution → ℕ → ℕ → Type 0
 Silent l q j = comingOf (recordAt l q j) ≡ none
 

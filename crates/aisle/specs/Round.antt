@@ -40,7 +40,6 @@ abbrev pub sayBody : ℕ → ℕ → ℕ → Body
 sayBody round plan stamp =
     cond (eqb round 1) (selection plan stamp []) (cond (eqb round 2) (validation plan) (decision plan stamp))
 
--- 01: "Run is 1."
 abbrev pub sayMessage : ℕ → ℕ → ℕ → ℕ → Message
 sayMessage phase round plan stamp = record { run = 1; phase = phase; body = sayBody round plan stamp }
 

@@ -13,7 +13,7 @@ use Rattle.aisle.specs.declared.State.{State}
 use Rattle.aisle.specs.Round.{table}
 
 -- The drill after line 2. A node with plan 0 is not honest: its start is refused.
--- 01: "n initial plans, 0 for a node that is not honest"; "Run is 1."
+-- 01: "0 for a node that is not honest"; "Run is 1."
 unfoldable pub begunOf : Crew → List ℕ → State
 begunOf crew plans = record {
   crew = crew;

@@ -92,7 +92,7 @@ ballot-self a =
     (T-and (eqb (a .stamp) (a .stamp)) (sameEntries (a .entries) (a .entries)) (eqb-refl (a .stamp))
     (entries-self (a .entries)))
 
--- 01: "the same counting messages, each in as many slots of one as of the other"
+-- lists with each ballot as often in one as in the other are the same to the rules
 pub same-inboxes : (l k : List Ballot) → ((m : Ballot) → countIf (sameBallot m) l ≡ countIf (sameBallot m) k) → Same l k
 same-inboxes l k h = same-counts sameBallot ballot-sound ballot-self l k h
 

@@ -15,7 +15,7 @@ unfoldable pub least : (Ballot → Bool) → List Ballot → Option ℕ
 least p [] = none
 least p (m ∷ ms) = cond (p m) (lower (m .vote) (least p ms)) (least p ms)
 
--- 01: "0 means none"
+-- 0 where there is none
 abbrev pub orZero : Option ℕ → ℕ
 orZero none = 0
 orZero (some v) = v

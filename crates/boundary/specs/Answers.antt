@@ -46,10 +46,10 @@ pub record Answered {A : Type 0} (value : A → ℕ) (outcome : Outcome A) (answ
   pub apart : Apart value outcome
 
 -- The same of a function that is lent bytes to write: what it leaves in them goes by the outcome too.
-pub record Leaves {A : Type 0} (value : A → ℕ) (outcome : Outcome A) (after : Outcome A → List ℕ) (answer : ℕ)
+pub record Leaves {A : Type 0} (value : A → ℕ) (outcome : Outcome A) (lent : Outcome A → List ℕ) (answer : ℕ)
     (bytes : List ℕ) : Type 0 where
   pub told : Answered value outcome answer
-  pub left : bytes ≡ after outcome
+  pub left : bytes ≡ lent outcome
 
 -- the value of what has none to give
 abbrev pub done : {A : Type 0} → A → ℕ

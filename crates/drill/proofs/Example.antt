@@ -49,8 +49,7 @@ abbrev examples : List Example
 examples =
     -- 01: "Input `3 4 1 0 3`, `5 5 5 0`, three `go`. Whole output:"
     ("3 4 1 0 3\n5 5 5 0\ngo\ngo\ngo\n" prints "1 1 0 0 0 -\n1 2 0 0 0 -\n1 3 5 5 5 -\nend\n")
-    -- 01: "A bad line L (also a missing, empty or unended one, a say from an honest node ..)": no input, line 2
-    -- missing, an empty line 3, a go that is not ended, and a say from node 0
+    -- bad lines: no input, line 2 missing, an empty line 3, a go that is not ended, a say from node 0, an honest one
     ∷ ("" prints "bad 1\n")
     ∷ ("3 4 1 0 3\n" prints "bad 2\n")
     ∷ ("3 4 1 0 3\n5 5 5 0\n\n" prints "bad 3\n")

@@ -68,6 +68,6 @@ abbrev pub wholeOf : List ℕ → List ℕ
 wholeOf input = drillOf input ++ drop (length (drillOf input)) (replicate mostPrinted 0)
 
 -- An output has that text, and the size of the script's output.
-pub record Whole (input : List ℕ) (output : Output) : Type 0 where
+pub record OutputOf (input : List ℕ) (output : Output) : Type 0 where
   pub text : output .text ≡ wholeOf input
   pub size : output .size ≡ length (drillOf input)

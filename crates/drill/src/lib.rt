@@ -18,7 +18,7 @@ ghost use Rattle.script.specs.Lines.{newline, split};
 ghost use Rattle.print.specs.Texts.{Wrote, badLine, endLine, longLine};
 ghost use Rattle.aisle.specs.Round.{Ready};
 ghost use Rattle.drill.specs.Steps.{stampFits, allowed};
-ghost use Rattle.drill.specs.Run.{follow, second, drillOf, Whole};
+ghost use Rattle.drill.specs.Run.{follow, second, drillOf, OutputOf};
 ghost use Rattle.drill.specs.Promises.{Followable, Performable, Performed};
 
 // A script has at most so many bytes.
@@ -258,7 +258,7 @@ pub struct Output {
 
 // The drill with a buffer that holds every output: nothing is ever cut.
 pub fn run_whole(input: &[u8]) -> Output
-    ensures { λ r. ⌜ Whole (now (input .entry)) r ⌝ }
+    ensures { λ r. ⌜ OutputOf (now (input .entry)) r ⌝ }
 {
     let mut text = [0u8; MOST_PRINTED];
     let size = run(input, &mut text);

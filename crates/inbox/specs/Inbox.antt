@@ -24,7 +24,7 @@ ballotOf (selection vote stamp entries) = record { vote = vote; stamp = stamp; e
 ballotOf (validation plan) = record { vote = plan; stamp = 0; entries = [] }
 ballotOf (decision vote stamp) = record { vote = vote; stamp = stamp; entries = [] }
 
--- 01: "its run, kind and phase are those of the node's coming round": round k takes kind k
+-- the message's run, kind and phase are these: round k takes kind k
 abbrev pub isOf : ℕ → ℕ → ℕ → Message → Bool
 isOf run phase round m = eqb (m .run) run && eqb (kindOf (m .body)) round && eqb (m .phase) phase
 

@@ -15,7 +15,7 @@ unfolding entryBytes
 entry-bytes-length [] = refl
 entry-bytes-length (e ∷ es) = omega (arith, entry-bytes-length es)
 
--- 01: "length (2, counting every byte of the message)"
+-- the length counts every byte of the message
 pub encode-length : (m : Message) → length (encode m) ≡ sizeOf (m .body)
 unfolding encode
 encode-length m = go (m .body)

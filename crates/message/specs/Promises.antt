@@ -25,7 +25,7 @@ pub record Framed (s : List ℕ) (kind : ℕ) : Type 0 where
   pub of-kind : OfKind s kind
 
 -- the slice holds a message of its kind in full, and is of this kind
-pub record Held (s : List ℕ) (kind : ℕ) : Type 0 where
+pub record HeldInFull (s : List ℕ) (kind : ℕ) : Type 0 where
   pub whole : sizeOf (bodyAt s) ≤ length s
   pub of-kind : OfKind s kind
 

@@ -38,7 +38,7 @@ ghost use Rattle.message.specs.Reading.{
   readAnswer,
 };
 ghost use Rattle.message.specs.Lookup.{hasEntry};
-ghost use Rattle.message.specs.Promises.{Widened, Framed, Held, Until};
+ghost use Rattle.message.specs.Promises.{Widened, Framed, HeldInFull, Until};
 
 // Where the fields stand, each where the one before it ends, as in specs/Layout.antt.
 pub const LENGTH_AT: usize = 0;
@@ -237,7 +237,10 @@ fn validation_keeps_bounds(s: &[u8]) -> bool
     requires { ⌜ planPlace + planSize ≤ length (now s) ⌝ }
     ensures { λ r. ⌜ r ≡ within (messageWith (now (s .entry)) (validationAt (now (s .entry)))) ⌝ }
 {
-    has_phase(s) & has_plan(s)
+    if has_phase(s) {
+        return has_plan(s);
+    }
+    false
 }
 
 fn decision_keeps_bounds(s: &[u8]) -> bool
@@ -276,7 +279,7 @@ fn has_length(s: &[u8], kind: u16) -> bool
 
 // Whether the fields of a message that the slice holds in full keep their bounds: 01's 13.
 fn keeps_bounds(s: &[u8], kind: u16) -> bool
-    requires { ⌜ Held (now s) kind ⌝ }
+    requires { ⌜ HeldInFull (now s) kind ⌝ }
     ensures { λ r. ⌜ r ≡ within (messageWith (now (s .entry)) (bodyAt (now (s .entry)))) ⌝ }
 {
     if kind == SELECTION {
@@ -290,7 +293,7 @@ fn keeps_bounds(s: &[u8], kind: u16) -> bool
 
 // What a message that the slice holds in full says, by its kind.
 fn body_in(s: &[u8], kind: u16) -> Body
-    requires { ⌜ Held (now s) kind ⌝ }
+    requires { ⌜ HeldInFull (now s) kind ⌝ }
     ensures { λ r. ⌜ bodyAs r (now (s .entry)) ≡ bodyAt (now (s .entry)) ⌝ }
 {
     let vote = plan_at(s, PLAN_AT);

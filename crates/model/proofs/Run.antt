@@ -1,5 +1,5 @@
 -- Agreement from a lock: what one round must keep, and what then holds of every list of rounds.
--- Builds on specs/Run.antt.
+-- Builds on Engine.antt.
 use mathlib.Core.Path.{_≡_, refl, sym, subst}
 use mathlib.Core.Bool.{Bool, true, false, cond}
 use Prim.Native.Nat.{ℕ, zero, suc, _≤_, _<_}

@@ -1,5 +1,5 @@
--- A node's place: the phase and the number of its coming round, and the place after a round. Document 01, 'The three
--- rounds'.
+-- A node's place: the phase and the number of its coming round, and the place after a round. Document 01, 'Crew and
+-- node': "round (1 selection, 2 validation, 3 decision)"; and 'The three rounds'.
 use Prim.Native.Nat.{ℕ, _+_}
 use mathlib.Core.Bool.{cond}
 use lib.Dec.{eqb}

@@ -20,7 +20,7 @@ use Rattle.node.specs.declared.Sending.{Sending}
 use Rattle.node.specs.declared.Sending.the-variants.{Bytes, Refused}
 use Rattle.node.specs.declared.Sent.{Sent}
 
--- how many phases' entries stand in a selection: "in class 3 only, its non-empty entries of earlier phases"
+-- how many phases' entries stand in a selection: only class 3 lists its history
 abbrev pub listedPhases : Node → ℕ
 listedPhases d = cond (eqb (d .crew .class) 3) (d .phase) 0
 

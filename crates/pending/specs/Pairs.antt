@@ -23,7 +23,7 @@ placeOf sender receiver = mostNodes * sender + receiver
 unfoldable pub nothing : Pending
 nothing = record { cut = replicate pairs false; plan = replicate pairs 0; stamp = replicate pairs 0 }
 
--- 01: "`cut s r` (s to r is lost)"
+-- 01: "(s to r is lost)"
 unfoldable pub withCut : Pending → ℕ → ℕ → Pending
 withCut p s r =
     cond (known s r)

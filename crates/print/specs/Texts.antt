@@ -25,7 +25,6 @@ abbrev pub placeOf : ℕ → ℕ → List ℕ
 placeOf v p = cond (leb p v) ((48 + v / p % 10) ∷ []) []
 
 -- A number below 100,000, more than any that is printed: plans end at 65,535, and a script has at most 65,536 bytes.
--- 01: "decimal without leading zeros"
 unfoldable pub decimalOf : ℕ → List ℕ
 decimalOf v = placeOf v 10000 ++ (placeOf v 1000 ++ (placeOf v 100 ++ (placeOf v 10 ++ ((48 + v % 10) ∷ []))))
 
@@ -69,7 +68,7 @@ resultMost = decimalMost + 1 + decimalMost + fieldMost * mostNodes + 1
 abbrev pub wordOf : ℕ → ℕ → ℕ → ℕ → List ℕ
 wordOf w x y z = w ∷ x ∷ y ∷ z ∷ []
 
--- 01: "A bad line L .. prints `bad L`"
+-- the line for a bad line of that number
 unfoldable pub badLine : ℕ → List ℕ
 badLine l = wordOf 98 97 100 space ++ (decimalOf l ++ (newline ∷ []))
 
@@ -81,6 +80,6 @@ badMost = 4 + decimalMost + 1
 abbrev pub endLine : List ℕ
 endLine = wordOf 101 110 100 newline
 
--- 01: "over 65,536 bytes: prints `long` only"
+-- the line for a script that is too long
 abbrev pub longLine : List ℕ
 longLine = wordOf 108 111 110 103 ++ (newline ∷ [])

@@ -19,7 +19,7 @@ use Rattle.ballot.specs.Count.{tally, holds}
 use Rattle.ballot.proofs.Counting.{tally-le, tally-none, nobody-of}
 use Rattle.node.specs.declared.Node.{Node}
 use Rattle.inbox.specs.Inbox.{ballotAt}
-use Rattle.agreement.specs.Statement as lists
+use Rattle.agreement.specs.Statement as demand
 use Rattle.agreement.specs.Statement.{Execution, answerTo, made, numbered, callsOf, recordAt, inboxAt, phaseAt, Every}
 use Rattle.agreement.specs.Statement.{isFor, AnyWin, FirstWin, Conclusions}
 use Rattle.agreement.proofs.Calls.{taken-inside}
@@ -82,14 +82,14 @@ module _ (s : Schedule) (crew : Crew) (ok : acceptOf crew ≡ accepted tt) (p : 
   Enough j v inbox d =
       crew .d ≤ tally (λ q. holds (isFor crew (phaseAt crew j) v) (ballotAt d inbox q)) (crew .n)
 
-  wins-to : (j v : ℕ) → Wins s crew p j v → lists.Wins l crew p j v
+  wins-to : (j v : ℕ) → Wins s crew p j v → demand.Wins l crew p j v
   wins-to j v w =
       let took = took-round s p j (w .1) (w .2) in
       let same = carries .records j (omega arith) in
       (w .0, w .1, carries .inboxes j took ∙ w .2, subst (Enough j v (w .1)) (sym same) (w .3))
 
   -- with an empty inbox nothing is won
-  lost : (j v : ℕ) → roundsTaken s p ≤ j → lists.Wins l crew p j v → ⊥
+  lost : (j v : ℕ) → roundsTaken s p ≤ j → demand.Wins l crew p j v → ⊥
   lost j v over w =
       let d = recordAt l p j in
       let empty = carries .losses j over (w .1) (w .2) in
@@ -103,7 +103,7 @@ module _ (s : Schedule) (crew : Crew) (ok : acceptOf crew ≡ accepted tt) (p : 
             (ap (λ x. ballotAt d x q) empty ∙ nothing-counts d (crew .n) q) t),
       )
 
-  wins-from : (j v : ℕ) → lists.Wins l crew p j v → Wins s crew p j v
+  wins-from : (j v : ℕ) → demand.Wins l crew p j v → Wins s crew p j v
   wins-from j v w = elim (decLt j (roundsTaken s p)) [
     | yes took ↦
         let same = carries .records j (omega arith) in
@@ -111,13 +111,13 @@ module _ (s : Schedule) (crew : Crew) (ok : acceptOf crew ≡ accepted tt) (p : 
     | no over ↦ absurd (lost j v (omega arith) w)
   ]
 
-  decided-to : Decided s crew p → lists.Decided l crew p
+  decided-to : Decided s crew p → demand.Decided l crew p
   decided-to d = (d .0, d .1, wins-to (d .0) (d .1) (d .2))
 
-  decided-from : lists.Decided l crew p → Decided s crew p
+  decided-from : demand.Decided l crew p → Decided s crew p
   decided-from d = (d .0, d .1, wins-from (d .0) (d .1) (d .2))
 
-  plan-to : (v : ℕ) → PlanDecided s crew p v → lists.PlanDecided l crew p v
+  plan-to : (v : ℕ) → PlanDecided s crew p v → demand.PlanDecided l crew p v
   plan-to v d = record {
     round = d .round;
     win = wins-to (d .round) v (d .win);
@@ -125,7 +125,7 @@ module _ (s : Schedule) (crew : Crew) (ok : acceptOf crew ≡ accepted tt) (p : 
     first = λ i w before x. d .first i w before (wins-from i w x);
   }
 
-  plan-from : (v : ℕ) → lists.PlanDecided l crew p v → PlanDecided s crew p v
+  plan-from : (v : ℕ) → demand.PlanDecided l crew p v → PlanDecided s crew p v
   plan-from v d = record {
     round = d .round;
     win = wins-from (d .round) v (d .win);
@@ -134,7 +134,7 @@ module _ (s : Schedule) (crew : Crew) (ok : acceptOf crew ≡ accepted tt) (p : 
   }
 
   -- what demand 3 says of a result in the list, it says in the schedule
-  result-from : (v : ℕ) → lists.PlanDecided l crew p v ⊎ ((lists.Decided l crew p → ⊥) × (v ≡ 0))
+  result-from : (v : ℕ) → demand.PlanDecided l crew p v ⊎ ((demand.Decided l crew p → ⊥) × (v ≡ 0))
       → Stands (Wins s crew p) v
   result-from v (inl d) = inl (plan-from v d)
   result-from v (inr d) = inr (λ x. d .0 (decided-to x), d .1)
@@ -145,7 +145,7 @@ module _ (s : Schedule) (crew : Crew) (run : ℕ) (l : Execution) (inStep : InLo
   abbrev ok : acceptOf crew ≡ accepted tt
   ok = inStep .premises .crew-accepted
 
-  honest-in : (p : ℕ) → T (isHonest s p) → T (lists.honest l p)
+  honest-in : (p : ℕ) → T (isHonest s p) → T (demand.honest l p)
   honest-in p h = subst (λ starts. T (ltb 0 (numbered p (made starts)))) (sym (inStep .starts)) h
 
   run-carries : (p : ℕ) → T (isHonest s p) → Carries s (crew .n) p l
@@ -163,7 +163,7 @@ module _ (s : Schedule) (crew : Crew) (run : ℕ) (l : Execution) (inStep : InLo
   result : (p : ℕ) → T (isHonest s p) → Stands (Wins s crew p) (standing s p)
   result p h =
       subst (Stands (Wins s crew p)) (ap (λ (d : Node). d .result) end)
-      (result-from s crew ok p short short-carries (lists.standing short p)
+      (result-from s crew ok p short short-carries (demand.standing short p)
       (after-every-round l crew run (inStep .premises) m .result p (honest-in p h)))
     where
       m : ℕ
@@ -186,10 +186,10 @@ module _ (s : Schedule) (crew : Crew) (run : ℕ) (l : Execution) (inStep : InLo
       end = ap (recordAt short p) m-rounds ∙ record-same l m p m (omega arith) ∙ inStep .last p h
 
   -- so a node's result stays what it is in the rounds that others took and it did not
-  same-standing : (p : ℕ) (h : T (isHonest s p)) → lists.standing l p ≡ standing s p
+  same-standing : (p : ℕ) (h : T (isHonest s p)) → demand.standing l p ≡ standing s p
   same-standing p h =
       stands-once (Wins s crew p)
-      (result-from s crew ok p l (run-carries p h) (lists.standing l p) (concludes .result p (honest-in p h)))
+      (result-from s crew ok p l (run-carries p h) (demand.standing l p) (concludes .result p (honest-in p h)))
       (result p h)
 
   agreement : (p q : ℕ) → T (isHonest s p) → T (isHonest s q)
@@ -204,19 +204,19 @@ module _ (s : Schedule) (crew : Crew) (run : ℕ) (l : Execution) (inStep : InLo
         ∙ same-standing q hq,
   )
     where
-      agree : (lists.standing l p ≡ lists.standing l q) ↔ (lists.Decided l crew p ↔ lists.Decided l crew q)
+      agree : (demand.standing l p ≡ demand.standing l q) ↔ (demand.Decided l crew p ↔ demand.Decided l crew q)
       agree = concludes .agreement p q (honest-in p hp) (honest-in q hq)
 
-      p-to : Decided s crew p → lists.Decided l crew p
+      p-to : Decided s crew p → demand.Decided l crew p
       p-to = decided-to s crew ok p l (run-carries p hp)
 
-      p-from : lists.Decided l crew p → Decided s crew p
+      p-from : demand.Decided l crew p → Decided s crew p
       p-from = decided-from s crew ok p l (run-carries p hp)
 
-      q-to : Decided s crew q → lists.Decided l crew q
+      q-to : Decided s crew q → demand.Decided l crew q
       q-to = decided-to s crew ok q l (run-carries q hq)
 
-      q-from : lists.Decided l crew q → Decided s crew q
+      q-from : demand.Decided l crew q → Decided s crew q
       q-from = decided-from s crew ok q l (run-carries q hq)
 
   common-start : (v : ℕ) → Every (λ x. T (isAccepted (answerTo x)) → x .plan ≡ v) (s .starts)
@@ -227,7 +227,7 @@ module _ (s : Schedule) (crew : Crew) (run : ℕ) (l : Execution) (inStep : InLo
       p w (honest-in p h) (plan-to s crew ok p l (run-carries p h) w d)
 
   -- Good phases, which 02 does not ask for: every node in the circle of a phase that is good in the run has decided.
-  pub good-phase : (phase : ℕ) (circle : ℕ → Bool) → 1 ≤ phase → phase < spentPhase → lists.Good l crew phase circle
+  pub good-phase : (phase : ℕ) (circle : ℕ → Bool) → 1 ≤ phase → phase < spentPhase → demand.Good l crew phase circle
       → (p : ℕ) → T (circle p) → (j : ℕ) × (v : ℕ) × (phaseAt crew j ≤ phase) × Wins s crew p j v
   good-phase phase circle from early good p inside =
       let h = subst (λ starts. T (ltb 0 (numbered p (made starts)))) (inStep .starts) (good .inside p inside) in

@@ -39,11 +39,11 @@ noPlans = record { good = false; plans = replicate mostNodes 0 }
 abbrev pub plansOf : Numbers → ℕ → Plans
 plansOf w n = cond (has w n) (record { good = true; plans = w .values }) noPlans
 
--- 01: "`cut s r`"; a node's number is one byte
+-- a cut; a node's number is one byte
 abbrev pub cutOf : Numbers → Command
 cutOf w = cond (has w 2 && byte w 0 && byte w 1) (Cut (nth w 0) (nth w 1)) BadLine
 
--- 01: "`say s r v t`"; a stamp is one byte as well
+-- a say; a stamp is one byte as well
 abbrev pub sayOf : Numbers → Command
 sayOf w =
     cond (has w 4 && byte w 0 && byte w 1 && byte w 3) (Say (nth w 0) (nth w 1) (nth w 2) (nth w 3)) BadLine

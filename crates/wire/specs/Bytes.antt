@@ -1,4 +1,4 @@
--- Numbers in bytes, the least byte first: once over the width, in bytes.
+-- Numbers in bytes, the least byte first: once over the width, in bytes. Then bytes in a buffer.
 -- 01: "byte order is little-endian"
 use Prim.Native.Nat.{ℕ, zero, suc, _+_, _*_, _/_, _%_, _<_}
 use mathlib.Core.Bool.{cond}

@@ -5,14 +5,13 @@ use mathlib.Core.Bool.{Bool, cond, _&&_}
 use lib.Dec.{leb, eqb}
 use Rattle.wire.specs.Sizes.{lastPhase}
 
--- 01: "0 means none": the new value where v is a plan, the old one where it is 0
+-- the new value where v is a plan, the old one where it is 0
 abbrev pub ifPlan : {A : Type 0} → ℕ → A → A → A
 ifPlan v new old = cond (eqb v 0) old new
 
--- 01: "plans not 0"
+-- whether a number is a plan, and whether a phase has rounds: two of the bounds of a message
 abbrev pub planOk : ℕ → Bool
 planOk plan = leb 1 plan
 
--- 01: "phase 1 to 63"
 abbrev pub phaseOk : ℕ → Bool
 phaseOk phase = leb 1 phase && leb phase lastPhase

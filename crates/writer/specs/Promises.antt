@@ -11,7 +11,7 @@ use Rattle.message.specs.Layout.{entriesPlace}
 use Rattle.message.specs.Encoding.{entryBytes}
 
 -- there are so many entries, and no more than `most`
-pub record Counts (entries : List Entry) (most count : ℕ) : Type 0 where
+pub record CountsEntries (entries : List Entry) (most count : ℕ) : Type 0 where
   pub same : count ≡ length entries
   pub few : count ≤ most
 

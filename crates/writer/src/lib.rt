@@ -37,7 +37,7 @@ ghost use Rattle.writer.specs.Writing.{
   writeAnswer,
   Written,
 };
-ghost use Rattle.writer.specs.Promises.{Counts, HaveRoom, Put};
+ghost use Rattle.writer.specs.Promises.{CountsEntries, HaveRoom, Put};
 ghost use Rattle.wire.specs.Entry.{entryOf, entriesFrom};
 
 // Why writing refuses; `writeNumber` in specs/Writing.antt has 01's numbers.
@@ -110,7 +110,7 @@ pub fn write_decision(buf: &mut [u8], run: u32, phase: u8, vote: Plan, stamp: u8
 
 // 1 for a phase that has a plan, else 0.
 fn one_if_plan(phase: u8, plan: Plan) -> usize
-    ensures { λ r. ⌜ Counts (entryOf phase plan) 1 r ⌝ }
+    ensures { λ r. ⌜ CountsEntries (entryOf phase plan) 1 r ⌝ }
 {
     if wire::is_plan(plan) { 1 } else { 0 }
 }
@@ -118,7 +118,7 @@ fn one_if_plan(phase: u8, plan: Plan) -> usize
 // How many of the first phases have a plan.
 fn count_entries(history: [Plan; PHASES], phases: u8) -> usize
     requires { ⌜ phases ≤ lastPhase ⌝ }
-    ensures { λ r. ⌜ Counts (entriesFrom history 0 phases) phases r ⌝ }
+    ensures { λ r. ⌜ CountsEntries (entriesFrom history 0 phases) phases r ⌝ }
 {
     let mut count: usize = 0;
     let mut phase: u8 = 0;

@@ -13,7 +13,7 @@ use Rattle.message.specs.Layout.{headerSize}
 use Rattle.message.specs.Bounds.{within}
 use Rattle.message.specs.Encoding.{sizeOf}
 use Rattle.message.specs.Reading.{lengthAt, messageWith, bodyAt, framed, kindKnown, tested, readOf}
-use Rattle.message.specs.Promises.{Held}
+use Rattle.message.specs.Promises.{HeldInFull}
 use Rattle.message.proofs.ReadLaws.{framed-long, size-held}
 use Rattle.message.proofs.read.Statement.{statement}
 use Rattle.message.proofs.read.Tie as tie
@@ -69,7 +69,7 @@ module _ (c : tie.Then3) where
   sized : eqb (lengthAt s) (sizeOf (bodyAt s)) ≡ true
   sized = sym (c .before .has-length .ensures) ∙ c .if3 .taken
 
-  held : Held s (kind-read (c .before .before) .u16-at .result)
+  held : HeldInFull s (kind-read (c .before .before) .u16-at .result)
   held = record {
     whole = size-held s (frame framed-at) sized;
     of-kind = record { same = kind-read (c .before .before) .u16-at .ensures };

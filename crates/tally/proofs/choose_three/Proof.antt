@@ -44,12 +44,12 @@ abbrev readOf : tie.Start → Columns
 readOf c = columns (now (c .args .present)) (now (c .args .votes)) (now (c .args .stamps))
 
 -- once the backed slots are told, selection's answer goes by how many slots have no stamp
-answered : (c : tie.After-backing-listed) (slots : Bool) (choice : Choice)
+answers : (c : tie.After-backing-listed) (slots : Bool) (choice : Choice)
     → let a = startOf c .args in
     let ballots = polled (readOf (startOf c)) (historiesIn (now (a .inbox))) (a .crew .n) in
     choice ≡ answer three (backingAs (c .backing-listed .result)) slots
     → slots ≡ enough three (a .crew) ballots → choice ≡ selection three (a .crew) ballots
-answered c slots choice is is-enough =
+answers c slots choice is is-enough =
     let marks = c .before .before .mark-above in
     let bounded = c .before .before .before .before .bound in
     let start = startOf c in
@@ -69,7 +69,7 @@ returns : tie.Need-returns
 returns c =
     let listed = c .before .before .before in
     let some = sym (c .before .before .is-backed .ensures) ∙ c .before .if1 .taken in
-    answered listed _ _ (c .answer-three .ensures ∙ backed-anyway (backingAs (listed .backing-listed .result)) _ some)
+    answers listed _ _ (c .answer-three .ensures ∙ backed-anyway (backingAs (listed .backing-listed .result)) _ some)
     refl
 
 mark-stamped-requires : tie.Need-mark-stamped-requires
@@ -91,7 +91,7 @@ returns-2 c =
     let crew = start .args .crew in
     let slots = enough-three crew (readOf start) (historiesIn (now (start .args .inbox))) (crew .n)
     (unstamped .last .0) (c .before .count-marks .ensures) (bounded .ensures) (unstamped .ensures) in
-    answered listed _ _ (c .answer-three2 .ensures) slots
+    answers listed _ _ (c .answer-three2 .ensures) slots
 
 pub choose-three-spec : {M : Type 1} → statement M
 choose-three-spec =
