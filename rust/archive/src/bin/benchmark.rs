@@ -40,9 +40,11 @@ enum Votes {
     Gaps,
     /// All slots have one vote, with two stamps in turn, as after a validation that some nodes missed.
     Stamps,
+    /// Two votes in turn, a tie, with one stamp: two plans are backed, but in class 3, where no slot is possible.
+    Tie,
 }
 
-const VOTES: [Votes; 4] = [Votes::Agreed, Votes::Mixed, Votes::Gaps, Votes::Stamps];
+const VOTES: [Votes; 5] = [Votes::Agreed, Votes::Mixed, Votes::Gaps, Votes::Stamps, Votes::Tie];
 
 struct Row {
     operation: Operation,
@@ -50,7 +52,14 @@ struct Row {
     round: u8,
     phase: u8,
     /// For each of `VOTES`.
-    times: [Times; 4],
+    times: [Times; VOTES.len()],
+}
+
+impl Row {
+    /// `VOTES` has the kinds in their order.
+    fn times_of(&self, votes: Votes) -> Times {
+        self.times[votes as usize]
+    }
 }
 
 /// Medians over the repetitions: nanoseconds for each call, and the engine's time over the second engine's.
@@ -118,12 +127,13 @@ fn inbox(node: &Node, votes: Votes) -> Vec<u8> {
 fn message(node: &Node, votes: Votes, q: usize) -> Fields {
     let plan = match votes {
         Votes::Mixed => 5 + (q % 3) as Plan,
+        Votes::Tie => 5 + (q % 2) as Plan,
         _ => 5,
     };
     let highest = if node.round == 1 { node.phase - 1 } else { node.phase };
     let stamp = match (node.crew.class, votes) {
         (1, _) => 0,
-        (_, Votes::Agreed | Votes::Gaps) => highest,
+        (_, Votes::Agreed | Votes::Gaps | Votes::Tie) => highest,
         (_, Votes::Mixed) => highest - (q % 4).min(usize::from(highest)) as u8,
         (_, Votes::Stamps) => highest - (q % 2).min(usize::from(highest)) as u8,
     };
@@ -249,27 +259,16 @@ fn print_rows(rows: &[Row]) {
     println!("Nanoseconds.");
     println!();
     print!("| | class | round | phase | n | agreed: engine | second | ratio | mixed: engine | second | ratio ");
-    println!("| gaps: ratio | stamps: ratio | floor |");
-    println!("|---|---|---|---|---|---|---|---|---|---|---|---|---|---|");
+    println!("| gaps: ratio | stamps: ratio | tie: ratio | floor |");
+    println!("|---|---|---|---|---|---|---|---|---|---|---|---|---|---|---|");
     for row in rows {
-        let [agreed, mixed, gaps, stamps] = row.times;
-        println!(
-            "| {} | {} | {} | {} | {} | {:.0} | {:.0} | {:.2} | {:.0} | {:.0} | {:.2} | {:.2} | {:.2} | {:.0} |",
-            name(row.operation),
-            row.crew.class,
-            row.round,
-            row.phase,
-            row.crew.n,
-            agreed.engine,
-            agreed.second,
-            agreed.ratio,
-            mixed.engine,
-            mixed.second,
-            mixed.ratio,
-            gaps.ratio,
-            stamps.ratio,
-            agreed.floor,
-        );
+        let [agreed, mixed, gaps, stamps, tie] = row.times;
+        let Row { operation, crew, round, phase, .. } = *row;
+        print!("| {} | {} | {round} | {phase} | {} ", name(operation), crew.class, crew.n);
+        for times in [agreed, mixed] {
+            print!("| {:.0} | {:.0} | {:.2} ", times.engine, times.second, times.ratio);
+        }
+        println!("| {:.2} | {:.2} | {:.2} | {:.0} |", gaps.ratio, stamps.ratio, tie.ratio, agreed.floor);
     }
     println!();
 }
@@ -287,22 +286,16 @@ fn print_growth(rows: &[Row]) {
     println!();
     println!("The time of n = 32 over the time of n = 4, for 8 times the bytes.");
     println!();
-    println!("| | class | round | phase | agreed: engine | second | mixed: engine | second |");
-    println!("|---|---|---|---|---|---|---|---|");
+    println!("| | class | round | phase | agreed: engine | second | mixed: engine | second | tie: engine | second |");
+    println!("|---|---|---|---|---|---|---|---|---|---|");
     for crews in rows.chunks_exact(3) {
         let (few, many) = (&crews[0], &crews[2]);
-        let growth = |of: fn(&Times) -> f64, votes: usize| of(&many.times[votes]) / of(&few.times[votes]);
-        println!(
-            "| {} | {} | {} | {} | {:.1} | {:.1} | {:.1} | {:.1} |",
-            name(few.operation),
-            few.crew.class,
-            few.round,
-            few.phase,
-            growth(|times| times.engine, 0),
-            growth(|times| times.second, 0),
-            growth(|times| times.engine, 1),
-            growth(|times| times.second, 1),
-        );
+        print!("| {} | {} | {} | {} ", name(few.operation), few.crew.class, few.round, few.phase);
+        for votes in [Votes::Agreed, Votes::Mixed, Votes::Tie] {
+            let (few, many) = (few.times_of(votes), many.times_of(votes));
+            print!("| {:.1} | {:.1} ", many.engine / few.engine, many.second / few.second);
+        }
+        println!("|");
     }
     println!();
 }
