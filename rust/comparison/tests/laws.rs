@@ -2,8 +2,9 @@
 
 use comparison::seeds::seeds;
 use generators::{crews, inboxes, messages, plans, records, Random};
-use second_engine::inbox::SLOT;
-use second_engine::{message, rounds, Node, Refusal, Selection};
+use second_engine::inbox::{Ballot, SLOT};
+use second_engine::message::{ENTRY, ENTRY_PLAN};
+use second_engine::{message, plan, rounds, Node, Refusal, Selection};
 use std::collections::BTreeSet;
 use std::iter::once;
 
@@ -53,6 +54,21 @@ fn fields_within_bounds_round_trip() {
         let mut short = vec![9; layout.len() - 1];
         assert_eq!(message::encode(&read, entries, &mut short), Err(Refusal::ShortBuffer), "seed {seed}");
         assert!(short.iter().all(|&byte| byte == 9), "seed {seed}");
+    }
+}
+
+/// A look at every entry finds what the second engine looks up, also at phases that no message has.
+#[test]
+fn what_is_listed_at_a_phase_is_found() {
+    for seed in seeds("what_is_listed_at_a_phase_is_found", 2_000) {
+        let slice = messages::any_within(&mut Random::new(seed)).layout();
+        let entries = message::entries(&slice);
+        let ballot = Ballot { entries, ..Ballot::default() };
+        for phase in 0..=u8::MAX {
+            let entry = entries.chunks_exact(ENTRY).find(|entry| entry[0] == phase);
+            let listed = entry.map(|entry| plan::at(entry, ENTRY_PLAN));
+            assert_eq!(ballot.listed_at(phase), listed, "seed {seed}, phase {phase}");
+        }
     }
 }
 

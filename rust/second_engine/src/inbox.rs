@@ -18,16 +18,22 @@ pub struct Ballot<'a> {
 }
 
 impl Ballot<'_> {
-    /// Whether the entries list the plan at the phase. Their phases rise strictly, so entry i has at least phase i and
-    /// the one of phase t stands no later than place t: the search goes back from there.
     pub fn is_listing(&self, plan: Plan, phase: u8) -> bool {
-        let end = self.entries.len().min(message::ENTRY * (usize::from(phase) + 1));
-        for entry in self.entries[..end].rchunks_exact(message::ENTRY) {
-            if entry[0] <= phase {
-                return entry[0] == phase && plan::at(entry, message::ENTRY_PLAN) == plan;
-            }
-        }
-        false
+        self.listed_at(phase) == Some(plan)
+    }
+
+    /// The plan that the entries list at the phase. Their phases rise strictly, so the entry of phase t stands at place
+    /// t where no earlier phase is missing, else before it, where halving finds it.
+    /// This is another way than the proved engine's, which lays the entries of all slots into one array by slot and
+    /// phase: an error in the one is hardly an error in the other.
+    pub fn listed_at(&self, phase: u8) -> Option<Plan> {
+        let (entries, _) = self.entries.as_chunks::<{ message::ENTRY }>();
+        let latest = usize::from(phase);
+        let place = match entries.get(latest) {
+            Some(entry) if entry[0] == phase => latest,
+            _ => entries[..entries.len().min(latest)].binary_search_by_key(&phase, |entry| entry[0]).ok()?,
+        };
+        Some(plan::at(&entries[place], message::ENTRY_PLAN))
     }
 }
 
