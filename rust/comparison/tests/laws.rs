@@ -3,8 +3,8 @@
 use comparison::seeds::seeds;
 use generators::{crews, inboxes, messages, plans, records, Random};
 use second_engine::inbox::{Ballot, SLOT};
-use second_engine::message::{ENTRY, ENTRY_PLAN};
-use second_engine::{message, plan, rounds, Node, Refusal, Selection};
+use second_engine::message::{ENTRY, ENTRY_PLAN, LAST_PHASE};
+use second_engine::{message, plan, rounds, Crew, Node, Refusal, Selection};
 use std::collections::BTreeSet;
 use std::iter::once;
 
@@ -176,6 +176,22 @@ fn accepted_takes_leave_sound_records_and_refused_ones_leave_all() {
     assert_eq!(validated.len(), 4);
     // A result stands for good, so three of the four combinations in each class.
     assert_eq!(decided.len(), 9);
+}
+
+/// Selections of class 3, in which places are told by slot and phase, come up with every number of slots and in every
+/// phase.
+#[test]
+fn selections_of_class_3_are_of_every_size_and_phase() {
+    let (mut sizes, mut phases) = (BTreeSet::new(), BTreeSet::new());
+    for seed in seeds("selections_of_class_3_are_of_every_size_and_phase", 40_000) {
+        let (node, inbox) = inboxes::case(&mut Random::new(seed));
+        if node.crew.class == 3 && rounds::ask(&node, &inbox).is_ok() {
+            sizes.insert(node.crew.n);
+            phases.insert(node.phase);
+        }
+    }
+    assert!(sizes.into_iter().eq(1..=Crew::MOST_NODES as u8));
+    assert!(phases.into_iter().eq(1..=LAST_PHASE));
 }
 
 /// 01: "Two inboxes with the same counting messages, each in as many slots of one as of the other, give the same

@@ -1,14 +1,18 @@
 //! Inboxes for a record: every mixture of counting, foreign, malformed and hostile slots, with counts at the bounds.
 
 use crate::messages::{self, Fields};
-use crate::plans;
 use crate::random::Random;
+use crate::{histories, plans};
 use second_engine::inbox::SLOT;
 use second_engine::message::{HEADER, LAST_PHASE};
+use second_engine::node::SELECTION;
 use second_engine::{Crew, Node, Plan};
 
 /// An inbox with a slot for each node, for the record's coming round.
 pub fn whole(random: &mut Random, node: &Node, pool: &[Plan]) -> Vec<u8> {
+    if (node.crew.class, node.round) == (3, SELECTION) && random.chance(1, 2) {
+        return histories::inbox(random, node, pool);
+    }
     let n = usize::from(node.crew.n);
     let mut inbox = vec![0; SLOT * n];
     let count = near_bound(random, node.crew);
@@ -38,10 +42,14 @@ pub fn of_any_length(random: &mut Random, node: &Node) -> Vec<u8> {
     random.bytes(length)
 }
 
+/// 01's E, also for a crew that is not accepted.
+pub fn e(crew: Crew) -> usize {
+    (usize::from(crew.n) + usize::from(crew.b)).saturating_sub(usize::from(crew.d))
+}
+
 /// A number of slots at, just below or just above one of the bounds of the rules.
 fn near_bound(random: &mut Random, crew: Crew) -> usize {
-    let (n, b, d) = (usize::from(crew.n), usize::from(crew.b), usize::from(crew.d));
-    let e = (n + b).saturating_sub(d);
+    let (n, b, d, e) = (usize::from(crew.n), usize::from(crew.b), usize::from(crew.d), e(crew));
     let any_count = random.between(0, n);
     let bound = random.pick(&[e, 2 * e, e + b, d, b, (n + b) / 2, n, n, any_count]);
     (bound + random.below(3)).saturating_sub(1).min(n)
@@ -138,13 +146,30 @@ pub fn absent(random: &mut Random, slot: &mut [u8], node: &Node, pool: &[Plan]) 
     fill(random, slot, &bytes);
 }
 
+/// The message made such that it hardly ever counts: of another run or phase, or refused.
+pub fn not_counting(random: &mut Random, mut fields: Fields) -> Vec<u8> {
+    match random.below(4) {
+        0 => fields.run ^= 1 << random.below(32),
+        1 => {
+            // The stamp, and an entry of its phase, stay within the bounds.
+            let least = usize::from(fields.stamp) + usize::from(fields.kind == 1);
+            fields.phase = random.between(least.max(1), usize::from(LAST_PHASE)) as u8;
+            fields.entries.retain(|&(phase, _)| phase < fields.phase);
+            fields.k = fields.entries.len() as u8;
+        }
+        _ => return almost_counting(random, fields),
+    }
+    fields.layout()
+}
+
 /// A message of the coming round with one bound broken or the length wrong, beyond the slot too.
 fn almost_counting(random: &mut Random, mut fields: Fields) -> Vec<u8> {
     match random.below(5) {
         0 => fields.plan = 0,
-        1 => fields.stamp = fields.phase + 1,
+        // The least stamp that breaks the bound of its kind.
+        1 => fields.stamp = fields.phase + u8::from(fields.kind != 1),
         2 => fields.k = fields.k.wrapping_add(1),
-        3 => fields.entries.iter_mut().for_each(|entry| entry.1 = 0),
+        3 => messages::damage_entries(random, &mut fields),
         _ => {
             let mut bytes = fields.layout();
             let length = random.pick(&[SLOT + 1, 0, HEADER - 1, bytes.len() - 1, bytes.len() + 1]);

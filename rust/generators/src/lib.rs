@@ -4,6 +4,7 @@
 
 pub mod crews;
 pub mod drills;
+pub mod histories;
 pub mod inboxes;
 pub mod messages;
 pub mod plans;

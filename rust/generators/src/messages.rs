@@ -113,7 +113,7 @@ pub fn damaged(random: &mut Random) -> Vec<u8> {
 }
 
 /// Breaks a bound of the entries: a plan 0, a phase repeated, out of order or too high.
-fn damage_entries(random: &mut Random, fields: &mut Fields) {
+pub fn damage_entries(random: &mut Random, fields: &mut Fields) {
     if fields.entries.is_empty() {
         fields.kind = 1;
         fields.stamp = 0;

@@ -280,8 +280,8 @@ impl Scene<'_> {
         match self.weather.behaviour {
             Behaviour::Silent => None,
             Behaviour::Random => Some(self.fields(random).layout()),
-            Behaviour::Please => Some(self.push(random, plan)),
-            Behaviour::Push => Some(self.push(random, self.weather.favourite[0])),
+            Behaviour::Please => Some(self.push(random, plan).layout()),
+            Behaviour::Push => Some(self.push(random, self.weather.favourite[0]).layout()),
             Behaviour::Echo => {
                 let written: Vec<&Vec<u8>> = self.written.iter().flatten().collect();
                 if written.is_empty() {
@@ -298,7 +298,7 @@ impl Scene<'_> {
     }
 
     /// The plan, mostly with the newest stamp there can be, and listed at every phase.
-    fn push(&self, random: &mut Random, plan: Plan) -> Vec<u8> {
+    fn push(&self, random: &mut Random, plan: Plan) -> Fields {
         let mut fields = self.fields(random);
         let newest = if self.round == 1 { self.phase - 1 } else { self.phase };
         fields.plan = plan;
@@ -307,7 +307,7 @@ impl Scene<'_> {
             fields.entries = (0..self.phase).map(|phase| (phase, plan)).collect();
             fields.k = self.phase;
         }
-        fields.layout()
+        fields
     }
 
     /// Fills a slot; without a message it holds something that does not count.
@@ -319,11 +319,17 @@ impl Scene<'_> {
     }
 
     fn absent(&self, random: &mut Random, slot: &mut [u8]) {
-        match random.below(4) {
+        match random.below(5) {
             0 | 1 => slot.fill(0),
             2 if !self.old.is_empty() => {
                 let place = random.below(self.old.len());
                 inboxes::fill(random, slot, &self.old[place]);
+            }
+            // One more that says what Byzantine nodes say, but does not count.
+            3 => {
+                let fields = self.push(random, self.weather.favourite[0]);
+                let bytes = inboxes::not_counting(random, fields);
+                inboxes::fill(random, slot, &bytes);
             }
             _ => {
                 let bytes = messages::any(random);
