@@ -42,6 +42,8 @@ impl Ballot<'_> {
 pub struct Counting<'a> {
     ballots: [Ballot<'a>; Crew::MOST_NODES],
     count: usize,
+    /// How many at the array's end are of slots that do not count; only mutants have any.
+    strays: usize,
 }
 
 impl<'a> Counting<'a> {
@@ -49,9 +51,19 @@ impl<'a> Counting<'a> {
         &self.ballots[..self.count]
     }
 
+    /// Slots that do not count and that list all the same, with a mutant. Only their entries are there.
+    pub fn strays(&self) -> &[Ballot<'a>] {
+        &self.ballots[Crew::MOST_NODES - self.strays..]
+    }
+
     fn push(&mut self, ballot: Ballot<'a>) {
         self.ballots[self.count] = ballot;
         self.count += 1;
+    }
+
+    fn push_stray(&mut self, entries: &'a [u8]) {
+        self.strays += 1;
+        self.ballots[Crew::MOST_NODES - self.strays] = Ballot { entries, ..Ballot::default() };
     }
 }
 
@@ -63,7 +75,7 @@ pub fn is_whole(crew: Crew, inbox: &[u8]) -> bool {
 /// 01: "A slot counts when reading it succeeds and its run, kind and phase are those of the node's coming round; a slot
 /// that reading refuses is simply absent."
 pub fn counting<'a>(node: &Node, inbox: &'a [u8], mutation: Mutation) -> Counting<'a> {
-    let mut counting = Counting { ballots: [Ballot::default(); Crew::MOST_NODES], count: 0 };
+    let mut counting = Counting { ballots: [Ballot::default(); Crew::MOST_NODES], count: 0, strays: 0 };
     // 01: "slot q is the part that starts at byte 202 times q"
     for slot in inbox.chunks_exact(SLOT) {
         match message::read_with_entries(slot) {
@@ -80,8 +92,11 @@ pub fn counting<'a>(node: &Node, inbox: &'a [u8], mutation: Mutation) -> Countin
             }
         }
     }
-    if mutation == Mutation::DistinctContents {
-        remove_repeated(&mut counting);
+    match mutation {
+        Mutation::DistinctContents => remove_repeated(&mut counting),
+        Mutation::NeighboursHistory => shift_histories(&mut counting, node, inbox),
+        Mutation::ForeignSlotsList | Mutation::RefusedSlotsList => add_strays(&mut counting, node, inbox, mutation),
+        _ => (),
     }
     counting
 }
@@ -97,6 +112,40 @@ fn remove_repeated(counting: &mut Counting) {
     for &ballot in all.ballots() {
         if !counting.ballots().contains(&ballot) {
             counting.push(ballot);
+        }
+    }
+}
+
+/// A mutant's rule: each counting slot has the entries of the slot before it, none where that one does not count.
+fn shift_histories<'a>(counting: &mut Counting<'a>, node: &Node, inbox: &'a [u8]) {
+    let mut before: &[u8] = &[];
+    let mut place = 0;
+    for slot in inbox.chunks_exact(SLOT) {
+        match message::read_with_entries(slot) {
+            Ok((message, entries)) if is_of_coming_round(node, &message) => {
+                counting.ballots[place].entries = before;
+                place += 1;
+                before = entries;
+            }
+            _ => before = &[],
+        }
+    }
+}
+
+/// The rule of two mutants: slots that do not count list all the same. In the one they are read and of another run or
+/// phase; in the other they are of the coming round and break a bound, and list what stands before an entry that does.
+fn add_strays<'a>(counting: &mut Counting<'a>, node: &Node, inbox: &'a [u8], mutation: Mutation) {
+    for slot in inbox.chunks_exact(SLOT) {
+        let Ok((message, entries)) = message::parse(slot) else {
+            continue;
+        };
+        let (is_coming, is_read) = (is_of_coming_round(node, &message), message.is_within_bounds(entries));
+        let is_stray = match mutation {
+            Mutation::ForeignSlotsList => is_read && !is_coming,
+            _ => is_coming && !is_read,
+        };
+        if is_stray {
+            counting.push_stray(message::entries_before_a_broken_one(message.phase, entries));
         }
     }
 }

@@ -109,6 +109,15 @@ fn are_entries_within_bounds(phase: u8, entries: &[u8]) -> bool {
     true
 }
 
+/// The entries before the first that breaks a bound. Only a mutant asks: a message is read with all of them or refused.
+pub(crate) fn entries_before_a_broken_one(phase: u8, entries: &[u8]) -> &[u8] {
+    let mut end = entries.len();
+    while !are_entries_within_bounds(phase, &entries[..end]) {
+        end -= ENTRY;
+    }
+    &entries[..end]
+}
+
 /// Reads the message at the slice's front.
 pub fn read(slice: &[u8]) -> Result<Message, Refusal> {
     read_with_entries(slice).map(|(message, _)| message)
@@ -122,6 +131,16 @@ pub fn entries(slice: &[u8]) -> &[u8] {
 
 /// Both answers to a read at once.
 pub fn read_with_entries(slice: &[u8]) -> Result<(Message, &[u8]), Refusal> {
+    let (message, entries) = parse(slice)?;
+    // 01: "13 a bound broken, or k above 63"
+    if !message.is_within_bounds(entries) {
+        return Err(Refusal::Bound);
+    }
+    Ok((message, entries))
+}
+
+/// What the layout gives, not yet held to the bounds.
+pub(crate) fn parse(slice: &[u8]) -> Result<(Message, &[u8]), Refusal> {
     // 01: "10 slice under 9 bytes, length under 9, or length beyond the slice"
     if slice.len() < HEADER {
         return Err(Refusal::Slice);
@@ -159,12 +178,7 @@ pub fn read_with_entries(slice: &[u8]) -> Result<(Message, &[u8]), Refusal> {
         }
         _ => return Err(Refusal::Kind),
     };
-    // 01: "13 a bound broken, or k above 63"
-    let message = Message { run, phase, body };
-    if !message.is_within_bounds(entries) {
-        return Err(Refusal::Bound);
-    }
-    Ok((message, entries))
+    Ok((Message { run, phase, body }, entries))
 }
 
 /// 01: "byte order is little-endian"

@@ -42,11 +42,24 @@ pub enum Mutation {
     GreatestOnTie,
     /// and "result becomes the least", in the decision.
     GreatestDecides,
+    /// Against 02 (C-18): "the histories as one flat array with a place for each slot and phase". A history stands in
+    /// the next slot's place, and is lost where that slot does not count,
+    NeighboursHistory,
+    /// or where a slot lists nothing, what the slots before it listed there still stands,
+    HistoryOfTheSlotBefore,
+    /// or an entry stands at the phase after its own.
+    EntriesOnePhaseLate,
+    /// Against 01: "A slot counts when reading it succeeds and its run, kind and phase are those of the node's coming
+    /// round". Slots of another run or phase list all the same,
+    ForeignSlotsList,
+    /// and, against "a slot that reading refuses is simply absent", so do slots that break a bound, with the entries
+    /// before it.
+    RefusedSlotsList,
 }
 
 impl Mutation {
     /// Every mutant; the engine of the paper is not among them.
-    pub const MUTANTS: [Mutation; 18] = [
+    pub const MUTANTS: [Mutation; 23] = [
         Mutation::MajorityOfArrivalsSelects,
         Mutation::MajorityOfArrivalsValidates,
         Mutation::MajorityOfArrivalsDecides,
@@ -65,5 +78,10 @@ impl Mutation {
         Mutation::MoreThanD,
         Mutation::GreatestOnTie,
         Mutation::GreatestDecides,
+        Mutation::NeighboursHistory,
+        Mutation::HistoryOfTheSlotBefore,
+        Mutation::EntriesOnePhaseLate,
+        Mutation::ForeignSlotsList,
+        Mutation::RefusedSlotsList,
     ];
 }

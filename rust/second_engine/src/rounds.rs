@@ -2,7 +2,7 @@
 //! Every rule takes the mutation that makes it wrong; the public operations pass none.
 
 use crate::crew::Crew;
-use crate::inbox::{self, Ballot};
+use crate::inbox::{self, Ballot, Counting};
 use crate::mutation::Mutation;
 use crate::node::{self, Node};
 use crate::plan::Plan;
@@ -48,7 +48,7 @@ pub fn ask_mutated(node: &Node, inbox: &[u8], mutation: Mutation) -> Result<Sele
     }
     check(node, inbox)?;
     let counting = inbox::counting(node, inbox, mutation);
-    Ok(selection(node.crew, counting.ballots(), mutation))
+    Ok(selection(node.crew, &counting, mutation))
 }
 
 /// Takes the coming round with this inbox. A refusal leaves the record as it was.
@@ -61,7 +61,7 @@ pub fn take_mutated(node: &mut Node, inbox: &[u8], mutation: Mutation) -> Result
     check(node, inbox)?;
     let counting = inbox::counting(node, inbox, mutation);
     match node.round {
-        node::SELECTION => take_selection(node, counting.ballots(), mutation),
+        node::SELECTION => take_selection(node, &counting, mutation),
         node::VALIDATION => take_validation(node, counting.ballots(), mutation),
         _ => take_decision(node, counting.ballots(), mutation),
     }
@@ -78,7 +78,8 @@ fn check(node: &Node, inbox: &[u8]) -> Result<(), Refusal> {
 }
 
 /// The selection that the counting slots give.
-fn selection(crew: Crew, ballots: &[Ballot], mutation: Mutation) -> Selection {
+fn selection(crew: Crew, counting: &Counting, mutation: Mutation) -> Selection {
+    let ballots = counting.ballots();
     if mutation == Mutation::NewestStampWins {
         return newest_stamp(ballots);
     }
@@ -99,7 +100,7 @@ fn selection(crew: Crew, ballots: &[Ballot], mutation: Mutation) -> Selection {
         2 => (backed_by_possible(most, few, ballots), ballots.len() + slack > e + b),
         // 01: "Exactly one plan: that plan. More: 'any'. None: 'any' if more than E slots have stamp 0, else 'none'."
         _ => {
-            let backed = backed_by_history(most, few, ballots);
+            let backed = backed_by_history(most, few, counting, mutation);
             (backed, backed == Backed::More || count_unstamped(ballots) + slack > e)
         }
     };
@@ -142,13 +143,14 @@ fn backed_by_possible(e: usize, b: usize, ballots: &[Ballot]) -> Backed {
 }
 
 /// 01: "Class 3: backed is the vote v of a possible slot with stamp t where more than b slots list v at phase t."
-fn backed_by_history(e: usize, b: usize, ballots: &[Ballot]) -> Backed {
+fn backed_by_history(e: usize, b: usize, counting: &Counting, mutation: Mutation) -> Backed {
+    let ballots = counting.ballots();
     let mut backed = Backed::None;
     for ballot in ballots {
         // A plan already known as the one that is backed adds nothing.
         if backed != Backed::One(ballot.vote)
             && is_possible(e, ballot, ballots)
-            && count_listing(ballot.vote, ballot.stamp, ballots) > b
+            && count_listing(ballot.vote, ballot.stamp, counting, mutation) > b
         {
             backed = backed.with(ballot.vote);
         }
@@ -165,8 +167,29 @@ fn count_votes(plan: Plan, ballots: &[Ballot]) -> usize {
     ballots.iter().filter(|ballot| ballot.vote == plan).count()
 }
 
-fn count_listing(plan: Plan, phase: u8, ballots: &[Ballot]) -> usize {
-    ballots.iter().filter(|ballot| ballot.is_listing(plan, phase)).count()
+/// How many slots list the plan at the phase: those that count and list it there, but for the mutants.
+fn count_listing(plan: Plan, phase: u8, counting: &Counting, mutation: Mutation) -> usize {
+    let count = |phase: u8, ballots: &[Ballot]| ballots.iter().filter(|ballot| ballot.is_listing(plan, phase)).count();
+    let ballots = counting.ballots();
+    match mutation {
+        Mutation::HistoryOfTheSlotBefore => count_standing(plan, phase, ballots),
+        Mutation::EntriesOnePhaseLate => phase.checked_sub(1).map_or(0, |earlier| count(earlier, ballots)),
+        Mutation::ForeignSlotsList | Mutation::RefusedSlotsList => {
+            count(phase, ballots) + count(phase, counting.strays())
+        }
+        _ => count(phase, ballots),
+    }
+}
+
+/// A mutant's rule: what a slot lists at the phase stands until another slot lists something there.
+fn count_standing(plan: Plan, phase: u8, ballots: &[Ballot]) -> usize {
+    let mut standing = None;
+    let mut count = 0;
+    for ballot in ballots {
+        standing = ballot.listed_at(phase).or(standing);
+        count += usize::from(standing == Some(plan));
+    }
+    count
 }
 
 fn count_unstamped(ballots: &[Ballot]) -> usize {
@@ -196,11 +219,11 @@ fn newest_stamp(ballots: &[Ballot]) -> Selection {
     plan.map_or(Selection::None, Selection::Plan)
 }
 
-fn take_selection(node: &mut Node, ballots: &[Ballot], mutation: Mutation) {
+fn take_selection(node: &mut Node, counting: &Counting, mutation: Mutation) {
     // 01: "Select is the plan, or 0 for 'none'; a plan becomes the vote and the phase's history entry."
-    node.select = match selection(node.crew, ballots, mutation) {
+    node.select = match selection(node.crew, counting, mutation) {
         Selection::Plan(plan) => plan,
-        Selection::Any => most_voted(ballots, mutation),
+        Selection::Any => most_voted(counting.ballots(), mutation),
         Selection::None => 0,
     };
     if node.select != 0 {
