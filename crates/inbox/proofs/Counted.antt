@@ -1,4 +1,5 @@
--- A slot that counts: it is read to a message of the coming round, and says what that message puts forward.
+-- A slot that counts: it is read to a message of the coming round, and says what that message puts forward. It is one
+-- in which such a message is found where it is expected.
 use mathlib.Core.Path.{_≡_, refl}
 use mathlib.Core.Bool.{Bool, true, false, cond}
 use mathlib.Core.List.{List}
@@ -7,8 +8,11 @@ use Prim.Native.Nat.{ℕ}
 use Rattle.wire.specs.Outcome.{Outcome, accepted, refused}
 use Rattle.message.specs.Fields.{Message}
 use Rattle.message.specs.Reading.{readOf}
+use Rattle.message.specs.Laying.{bears, expectedIn}
+use Rattle.message.specs.declared.Header.{Header}
 use Rattle.ballot.specs.Ballot.{Ballot}
 use Rattle.inbox.specs.Inbox.{isOf, ballotOf, counted}
+use Rattle.inbox.specs.Columns.{ballotIf}
 
 pub record Counted (run phase round : ℕ) (slot : List ℕ) (m : Ballot) : Type 0 where
   pub message : Message
@@ -30,3 +34,13 @@ counted-message run phase round slot m e = by-reading (readOf slot) refl e
         → Counted run phase round slot m
     by-reading (accepted k) read e = by-coming k read (isOf run phase round k) refl e
     by-reading (refused number) read e = absurd (Option·none-ne-some _ e)
+
+-- where a message of the coming round is expected, what is found is what counts
+pub expected-counts : (coming : Header) (o : Outcome Message)
+    → ballotIf (expectedIn coming o) ≡ counted (coming .run) (coming .phase) (coming .kind) o
+expected-counts coming (accepted m) = by-header (bears coming m)
+  where
+    by-header : (b : Bool) → ballotIf (cond b (some (m .body)) none) ≡ cond b (some (ballotOf (m .body))) none
+    by-header true = refl
+    by-header false = refl
+expected-counts coming (refused number) = refl

@@ -1,32 +1,37 @@
 -- An inbox as columns: the ballots of the columns that its slots were read into are the ballots that count.
-use mathlib.Core.Path.{_≡_, sym, ap, _∙_}
-use mathlib.Core.Bool.{true, false}
+use mathlib.Core.Path.{_≡_, ap, _∙_}
 use mathlib.Core.List.{List}
-use mathlib.Core.Option.{Option, some}
-use Prim.Native.Nat.{ℕ, _*_, _/_, _≤_, _<_}
+use mathlib.Core.Option.{Option}
+use Prim.Native.Nat.{ℕ, suc, _*_, _/_, _≤_, _<_}
+use native.Mathlib.Nat.{mul-le-mul-left}
 use native.Mathlib.Omega.{arith}
-use lib.ListN.{length, getD}
-use Rattle.crew.specs.Parts.{mostNodes}
-use Rattle.message.specs.Reading.{readOf}
+use lib.ListN.{length, getD, replicate, drop, length-replicate}
+use lib.Seq.{getD-take, getD-drop}
+use borrow.Author.Tests.{le-leb}
 use Rattle.wire.specs.Entry.{Entry}
+use Rattle.wire.proofs.Arrays.{same-everywhere}
+use Rattle.crew.specs.declared.Crew.{Crew}
+use Rattle.crew.specs.Parts.{mostNodes}
 use Rattle.message.specs.Layout.{slotSize}
-use Rattle.ballot.specs.Count.{gather}
+use Rattle.message.specs.declared.Header.{Header}
 use Rattle.ballot.specs.Ballot.{Ballot}
-use Rattle.inbox.specs.Inbox.{slotAt, counted}
+use Rattle.inbox.specs.Inbox.{slotAt, ballotIn, ballotsFor}
 use Rattle.inbox.specs.Columns.{
   Columns,
   empty,
   slotsIn,
   filled,
+  rowAt,
+  historiesAfter,
+  ReadInto,
   entriesOf,
-  Listable,
-  historiesIn,
-  rowOf,
+  listedIn,
   slotOf,
   polled,
 }
-use Rattle.inbox.proofs.Selections.{selection-shown}
-use Rattle.inbox.proofs.Meaning.{Histories, columns-mean, gather-same}
+use Rattle.inbox.proofs.Histories.{row-long, own-history}
+use Rattle.inbox.proofs.Selections.{row-lists}
+use Rattle.inbox.proofs.Meaning.{AreHistories, filled-mean, gather-same}
 
 -- an inbox of n slots has n slots to read
 slots-in : (bytes n : ℕ) → n ≤ mostNodes → bytes ≡ slotSize * n → slotsIn bytes ≡ n
@@ -34,40 +39,59 @@ slots-in bytes n room long =
     let whole : bytes / slotSize ≡ n = omega arith in
     rw whole (omega arith)
 
--- Columns that the slots of a whole inbox were read into.
-module _ (slots : ℕ → Option Ballot) (bytes : List ℕ) (n : ℕ) (read : Columns) (room : n ≤ mostNodes)
-    (long : length bytes ≡ slotSize * n) (is : read ≡ filled empty slots (slotsIn (length bytes))) where
-  whole : read ≡ filled empty slots n
-  whole = is ∙ ap (filled empty slots) (slots-in (length bytes) n room long)
+-- a row of zeros has 0 in each of its places
+row-clear : (places width q place : ℕ) → place < width → getD (rowAt (replicate places 0) width q) place 0 ≡ 0
+row-clear places width q place less =
+    getD-take width (drop (width * q) (replicate places 0)) place 0 less
+    ∙ getD-drop (width * q) (replicate places 0) place 0
+    ∙ same-everywhere places _ 0
 
-  pub slots-mean : (histories : ℕ → List Entry) → Histories histories slots → (q : ℕ) → q < n
-      → slotOf read histories q ≡ slots q
-  slots-mean histories are q less = rw whole (columns-mean slots histories are n room q less)
+-- Columns that a crew's inbox was read into, with an array that had so many places, all 0.
+module _ (crew : Crew) (coming : Header) (bytes : List ℕ) (places : ℕ) (read : Columns) (histories : List ℕ)
+    (room : crew .n ≤ mostNodes) (long : length bytes ≡ slotSize * crew .n)
+    (is : ReadInto coming bytes empty (replicate places 0) read histories) where
+  abbrev slots : ℕ → Option Ballot
+  slots q = ballotIn (coming .run) (coming .phase) (coming .kind) bytes q
 
-  -- their ballots are those of the slots
-  pub polled-slots : (histories : ℕ → List Entry) → Histories histories slots
-      → polled read histories n ≡ gather slots n
-  polled-slots histories are = gather-same (slotOf read histories) slots n (slots-mean histories are)
+  abbrev Polls : (ℕ → List Entry) → Type 0
+  Polls lists =
+      polled read lists (crew .n) ≡ ballotsFor crew (coming .run) (coming .phase) (coming .kind) bytes
 
--- what the slots that count list
-pub own-histories : (slots : ℕ → Option Ballot) → Histories (λ q. entriesOf (slots q)) slots
-own-histories slots q m e = ap entriesOf e
+  -- their ballots are those that count, where each slot that counts is taken with the history that it lists
+  polled-with : (lists : ℕ → List Entry) → AreHistories lists slots (crew .n) → Polls lists
+  polled-with lists are =
+      let whole : read ≡ filled empty slots (crew .n) =
+      is .said ∙ ap (filled empty slots) (slots-in (length bytes) (crew .n) room long) in
+      gather-same (slotOf read lists) slots (crew .n) (λ q less.
+      rw whole (filled-mean slots lists (crew .n) room are q less))
 
--- The slots of an inbox of selections.
-module _ (run phase : ℕ) (bytes : List ℕ) where
-  abbrev selections : ℕ → Option Ballot
-  selections q = counted run phase 1 (readOf (slotAt bytes q))
+  -- so with the slots' own histories
+  polled-heard : Polls (λ q. entriesOf (slots q))
+  polled-heard = polled-with (λ q. entriesOf (slots q)) (λ q m less e. ap entriesOf e)
 
-  -- what they list stands in them
-  pub selections-list : Histories (historiesIn bytes) selections
-  selections-list q m e = selection-shown run phase (slotAt bytes q) m e .same
+  -- and of selections with those that the array lists, where it has room for the rows
+  polled-listed : coming .kind ≡ 1 → coming .phase * crew .n ≤ places → Polls (listedIn histories (coming .phase))
+  polled-listed first fits =
+      let blank : List ℕ = replicate places 0 in
+      let size : length blank ≡ places = length-replicate {A = ℕ} places 0 in
+      let all = slots-in (length bytes) (crew .n) room long in
+      let array : histories ≡ historiesAfter coming bytes blank (coming .phase) (crew .n) =
+      rw (all, size, le-leb _ _ fits) at (is .listed) in
+      polled-with (listedIn histories (coming .phase)) (λ q m less e.
+      let inside : coming .phase * suc q ≤ length blank =
+      omega (arith, size, mul-le-mul-left {m = suc q} {n = crew .n} (coming .phase) less) in
+      rw (array, own-history coming bytes blank (coming .phase) (crew .n) q less (omega (arith, size)))
+      (row-lists coming (slotAt bytes q) (rowAt blank (coming .phase) q) m first e
+      (omega (arith, row-long blank (coming .phase) q inside))
+      (row-clear places (coming .phase) q)))
 
-  -- a slot that is present can be looked up in
-  pub selections-listable : (n : ℕ) (read : Columns) → n ≤ mostNodes → length bytes ≡ slotSize * n
-      → read ≡ filled empty selections (slotsIn (length bytes)) → (q : ℕ) → q < n
-      → getD (read .present) q false ≡ true
-      → Listable (slotAt bytes q)
-  selections-listable n read room long is q less present =
-      let said : some (rowOf read (historiesIn bytes) q) ≡ selections q =
-      rw present at (slots-mean selections bytes n read room long is (historiesIn bytes) selections-list q less) in
-      selection-shown run phase (slotAt bytes q) _ (sym said) .listable
+  -- what the columns mean: the ballots that count, in any round with what each slot that counts lists; and in a selection
+  -- with what the array lists, where it has a place for each slot and each phase before the coming one
+  pub record Mean : Type 0 where
+    pub heard : Polls (λ q. entriesOf (slots q))
+    pub listed : coming .kind ≡ 1 → coming .phase * crew .n ≤ places → Polls (listedIn histories (coming .phase))
+
+  -- The columns mean the slots: read into empty columns and an array of zeros, any inbox of the crew's length gives the
+  -- ballots that count for a record with this run, phase and coming round.
+  pub columns-mean : Mean
+  columns-mean = record { heard = polled-heard; listed = polled-listed }

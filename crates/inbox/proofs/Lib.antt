@@ -1,8 +1,9 @@
 pub mod Rising
+pub mod Rows
+pub mod Histories
 pub mod Counted
 pub mod Selections
-pub mod Filling
+pub mod Walk
 pub mod Meaning
 pub mod Inboxes
-pub mod Lookups
 pub mod Plans

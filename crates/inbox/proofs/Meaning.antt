@@ -47,49 +47,51 @@ put-shape read n (some m) shape room = record {
       getD-set-other (read .present) n q true false (λ e. omega arith) ∙ shape .absent q (omega arith);
 }
 
--- These are the histories of the slots that count.
-abbrev pub Histories : (ℕ → List Entry) → (ℕ → Option Ballot) → Type 0
-Histories histories slots = (q : ℕ) (m : Ballot) → slots q ≡ some m → histories q ≡ m .entries
+-- These are the histories of those of the first n slots that count.
+abbrev pub AreHistories : (ℕ → List Entry) → (ℕ → Option Ballot) → ℕ → Type 0
+AreHistories histories slots n = (q : ℕ) (m : Ballot) → q < n → slots q ≡ some m → histories q ≡ m .entries
 
-module _ (slots : ℕ → Option Ballot) (histories : ℕ → List Entry) (are : Histories histories slots) where
-  filled-shape : (n : ℕ) → n ≤ mostNodes → Shape (filled empty slots n) n
-  unfolding filled
-  filled-shape zero room = empty-shape
-  filled-shape (suc n) room =
-      put-shape (filled empty slots n) n (slots n) (filled-shape n (omega arith)) (omega arith)
+filled-shape : (slots : ℕ → Option Ballot) (n : ℕ) → n ≤ mostNodes → Shape (filled empty slots n) n
+unfolding filled
+filled-shape slots zero room = empty-shape
+filled-shape slots (suc n) room =
+    put-shape (filled empty slots n) n (slots n) (filled-shape slots n (omega arith)) (omega arith)
 
-  -- the slot that was put says its ballot
-  put-new : (read : Columns) (n : ℕ) → Shape read n → n < mostNodes → (slot : Option Ballot) → slots n ≡ slot
-      → slotOf (put read n slot) histories n ≡ slot
-  put-new read n shape room none e = rw (shape .absent n (omega arith))
-  put-new read n shape room (some m) e =
-      let here = getD-set-same (read .present) n true false (omega (arith, shape .present-long)) in
-      let vote = getD-set-same (read .votes) n (m .vote) 0 (omega (arith, shape .votes-long)) in
-      let stamp = getD-set-same (read .stamps) n (m .stamp) 0 (omega (arith, shape .stamps-long)) in
-      rw here (ap some (λ i. record { vote = vote i; stamp = stamp i; entries = are n m e i }))
+-- the slot that was put says its ballot
+put-new : (histories : ℕ → List Entry) (read : Columns) (n : ℕ) → Shape read n → n < mostNodes → (slot : Option Ballot)
+    → ((m : Ballot) → slot ≡ some m → histories n ≡ m .entries) → slotOf (put read n slot) histories n ≡ slot
+put-new histories read n shape room none are = rw (shape .absent n (omega arith))
+put-new histories read n shape room (some m) are =
+    let here = getD-set-same (read .present) n true false (omega (arith, shape .present-long)) in
+    let vote = getD-set-same (read .votes) n (m .vote) 0 (omega (arith, shape .votes-long)) in
+    let stamp = getD-set-same (read .stamps) n (m .stamp) 0 (omega (arith, shape .stamps-long)) in
+    rw here (ap some (λ i. record { vote = vote i; stamp = stamp i; entries = are m refl i }))
 
-  -- slots before it say what they said
-  put-old : (read : Columns) (n : ℕ) (slot : Option Ballot) (q : ℕ) → q < n
-      → slotOf (put read n slot) histories q ≡ slotOf read histories q
-  put-old read n none q less = refl
-  put-old read n (some m) q less =
-      let other : q ≢ n = (λ e. omega arith) in
-      rw (
-        getD-set-other (read .present) n q true false other,
-        getD-set-other (read .votes) n q (m .vote) 0 other,
-        getD-set-other (read .stamps) n q (m .stamp) 0 other,
-      )
+-- slots before it say what they said
+put-old : (histories : ℕ → List Entry) (read : Columns) (n : ℕ) (slot : Option Ballot) (q : ℕ) → q < n
+    → slotOf (put read n slot) histories q ≡ slotOf read histories q
+put-old histories read n none q less = refl
+put-old histories read n (some m) q less =
+    let other : q ≢ n = (λ e. omega arith) in
+    rw (
+      getD-set-other (read .present) n q true false other,
+      getD-set-other (read .votes) n q (m .vote) 0 other,
+      getD-set-other (read .stamps) n q (m .stamp) 0 other,
+    )
 
-  -- what the columns say of each slot is its ballot
-  pub columns-mean : (n : ℕ) → n ≤ mostNodes → (q : ℕ) → q < n → slotOf (filled empty slots n) histories q ≡ slots q
-  unfolding filled
-  columns-mean zero room q less = absurd (omega arith)
-  columns-mean (suc n) room q less =
-      let before = filled empty slots n in
-      by-equality q n
-      (λ e. rw e (put-new before n (filled-shape n (omega arith)) (omega arith) (slots n) refl))
-      (λ e.
-      put-old before n (slots n) q (omega (arith, e)) ∙ columns-mean n (omega arith) q (omega (arith, e)))
+-- what the columns say of each slot is its ballot
+pub filled-mean : (slots : ℕ → Option Ballot) (histories : ℕ → List Entry) (n : ℕ) → n ≤ mostNodes
+    → AreHistories histories slots n → (q : ℕ) → q < n → slotOf (filled empty slots n) histories q ≡ slots q
+unfolding filled
+filled-mean slots histories zero room are q less = absurd (omega arith)
+filled-mean slots histories (suc n) room are q less =
+    let before = filled empty slots n in
+    by-equality q n
+    (λ e. rw e (put-new histories before n (filled-shape slots n (omega arith)) (omega arith) (slots n)
+    (λ m. are n m (omega arith))))
+    (λ e.
+    put-old histories before n (slots n) q (omega (arith, e))
+    ∙ filled-mean slots histories n (omega arith) (λ k m earlier. are k m (omega arith)) q (omega (arith, e)))
 
 -- ballots gathered from slots that say the same are the same
 pub gather-same : (a b : ℕ → Option Ballot) (n : ℕ) → ((q : ℕ) → q < n → a q ≡ b q) → gather a n ≡ gather b n

@@ -2,6 +2,7 @@
 use mathlib.Core.Path.{_≡_, refl}
 use mathlib.Core.Bool.{true, _&&_}
 use mathlib.Core.List.{List, [], _∷_}
+use mathlib.Core.Logic.{_≢_}
 use Prim.Native.Nat.{ℕ, _+_, _<_, _≤_}
 use native.Mathlib.Omega.{arith}
 use lib.Dec.{leb, ltb}
@@ -9,6 +10,7 @@ use borrow.Author.Tests.{leb-true, ltb-true, le-leb, lt-ltb}
 use Rattle.wire.specs.Entry.{Entry}
 use Rattle.wire.proofs.Tests.{both-true}
 use Rattle.message.specs.Bounds.{entriesOk}
+use Rattle.message.specs.Laying.{keptOf}
 use Rattle.wire.specs.Plan.{planOk}
 
 -- what an entry that keeps its bounds says, with those after it
@@ -33,12 +35,22 @@ first-kept least phase e es ok =
       rest = parts .1;
     }
 
--- entries that rise below a phase rise below any later one
-pub ok-later : (least phase later : ℕ) (es : List Entry) → phase ≤ later → entriesOk least phase es ≡ true
-    → entriesOk least later es ≡ true
+-- entries that keep their bounds keep them from any phase on that is not after their first
+from-other : (least other phase : ℕ) (e : Entry) (es : List Entry) → entriesOk least phase (e ∷ es) ≡ true
+    → other ≤ e .phase → entriesOk other phase (e ∷ es) ≡ true
 unfolding entriesOk
-ok-later least phase later [] h ok = refl
-ok-later least phase later (e ∷ es) h ok =
+from-other least other phase e es ok from =
     let r = first-kept least phase e es ok in
-    let below : e .phase < later = omega (arith, r .below) in
-    simp (le-leb _ _ (r .from), lt-ltb _ _ below, r .full, ok-later (e .phase + 1) phase later es h (r .rest))
+    simp (le-leb _ _ from, lt-ltb _ _ (r .below), r .full, r .rest)
+
+-- those that do not begin with the least phase keep them from the next one on
+pub from-next : (least phase : ℕ) (e : Entry) (es : List Entry) → entriesOk least phase (e ∷ es) ≡ true
+    → e .phase ≢ least → entriesOk (least + 1) phase (e ∷ es) ≡ true
+from-next least phase e es ok other =
+    from-other least (least + 1) phase e es ok (omega (arith, first-kept least phase e es ok .from, other))
+
+-- of entries that keep their bounds all are kept
+pub all-kept : (least phase : ℕ) (es : List Entry) → entriesOk least phase es ≡ true → keptOf phase es ≡ es
+unfolding keptOf
+all-kept least phase [] ok = refl
+all-kept least phase (e ∷ es) ok = rw (from-other least (e .phase) phase e es ok (omega arith))

@@ -1,77 +1,95 @@
--- What is known of a slot that counts as a selection: its ballot lists the entries that stand in it, they have room in
--- it, and their phases rise.
+-- What is known of a slot that counts as a selection: its ballot lists the entries that stand in it, their phases rise,
+-- and all of them are laid into its row, from which they are listed again.
 use mathlib.Core.Path.{_≡_, refl, sym, ap, _∙_}
 use mathlib.Core.Bool.{Bool, true, false, cond, _&&_}
 use mathlib.Core.List.{List}
 use mathlib.Core.Option.{some}
-use Prim.Native.Nat.{ℕ, _≤_}
+use Prim.Native.Nat.{ℕ, _<_, _≤_}
 use native.Mathlib.Omega.{arith}
 use lib.Dec.{leb, ltb, eqb}
-use lib.ListN.{length, getD, drop}
-use borrow.Author.Tests.{leb-true, eqb-true}
-use Rattle.wire.specs.Outcome.{accepted}
+use lib.ListN.{length, getD}
+use borrow.Author.Tests.{eqb-true, eq-eqb, le-leb}
 use Rattle.wire.specs.Bytes.{numberAt}
+use Rattle.wire.specs.Entry.{entriesFrom}
 use Rattle.wire.proofs.Tests.{both-true}
-use Rattle.wire.specs.Sizes.{planSize, lastPhase, historySize}
-use Rattle.message.specs.Fields.{Message}
-use Rattle.message.specs.Bounds.{bodyOk, entriesOk}
+use Rattle.wire.specs.Sizes.{planSize, runSize}
 use Rattle.wire.specs.Plan.{phaseOk, planOk}
+use Rattle.message.specs.Fields.{Message}
+use Rattle.message.specs.Bounds.{bodyOk, entriesOk, within}
 use Rattle.message.specs.Encoding.{kindOf, sizeOf}
 use Rattle.message.specs.Reading.{kindAt, bodyAt, selectionAt, validationAt, decisionAt, readOf}
-use Rattle.message.proofs.EntryLaws.{entries-count}
-use Rattle.message.proofs.ReadLaws.{read-passes, read-fits}
-use Rattle.message.specs.Layout.{planPlace, stampPlace, countPlace, entriesPlace}
+use Rattle.message.specs.Laying.{entriesAt, isSelection, rowAfter}
+use Rattle.message.specs.Layout.{runPlace, phasePlace, planPlace, stampPlace, mostEntries}
+use Rattle.message.specs.declared.Header.{Header}
+use Rattle.message.proofs.ReadLaws.{read-passes, kind-one}
 use Rattle.ballot.specs.Ballot.{Ballot}
-use Rattle.inbox.specs.Inbox.{ballotOf, counted}
-use Rattle.inbox.specs.Columns.{historyIn, Listable}
+use Rattle.inbox.specs.Inbox.{ballotOf, isOf, counted}
 use Rattle.inbox.proofs.Counted.{counted-message}
-use Rattle.inbox.proofs.Rising.{ok-later}
+use Rattle.inbox.proofs.Rising.{all-kept}
+use Rattle.inbox.proofs.Rows.{listed-laid}
 
-pub record Shown (slot : List ℕ) (m : Ballot) : Type 0 where
-  pub same : historyIn slot ≡ m .entries
-  pub listable : Listable slot
+record Shown (coming : Header) (slot : List ℕ) (m : Ballot) : Type 0 where
+  is : isSelection coming slot ≡ true
+  lists : entriesAt slot ≡ m .entries
+  rises : entriesOk 0 (coming .phase) (m .entries) ≡ true
 
--- a body of kind 1 that stands after the header is a selection's
-selection-body : (slot : List ℕ) → kindOf (bodyAt slot) ≡ 1 → bodyAt slot ≡ selectionAt slot
+-- a body of kind 1 stands in a slot of kind 1
+kind-shown : (slot : List ℕ) → kindOf (bodyAt slot) ≡ 1 → kindAt slot ≡ 1
 unfolding bodyAt
-selection-body slot e = by-kind (eqb (kindAt slot) 1) (eqb (kindAt slot) 2) e
+kind-shown slot e = by-kind (eqb (kindAt slot) 1) (eqb (kindAt slot) 2) refl e
   where
-    by-kind : (first second : Bool)
+    by-kind : (first second : Bool) → eqb (kindAt slot) 1 ≡ first
         → kindOf (cond first (selectionAt slot) (cond second (validationAt slot) (decisionAt slot))) ≡ 1
-        → cond first (selectionAt slot) (cond second (validationAt slot) (decisionAt slot)) ≡ selectionAt slot
-    by-kind true second e = refl
-    by-kind false true e = absurd (omega arith)
-    by-kind false false e = absurd (omega arith)
+        → kindAt slot ≡ 1
+    by-kind true second is e = eqb-true (kindAt slot) 1 is
+    by-kind false true is e = absurd (omega arith)
+    by-kind false false is e = absurd (omega arith)
 
--- the message of a slot whose kind is 1
-message-shown : (slot : List ℕ) (m : Message) → readOf slot ≡ accepted m → kindOf (m .body) ≡ 1
-    → Shown slot (ballotOf (m .body))
-message-shown slot m read kind =
-    let passes = read-passes slot m read in
-    let body = ap (λ (k : Message). k .body) (passes .fields) in
-    let is : m .body ≡ selectionAt slot = sym body ∙ selection-body slot (ap kindOf body ∙ kind) in
-    let parts = both-true (phaseOk (m .phase)) (bodyOk (m .phase) (m .body)) (passes .in-bounds) in
-    let last : m .phase ≤ lastPhase =
-    leb-true _ _ (both-true (leb 1 (m .phase)) (leb (m .phase) lastPhase) (parts .0) .1) in
-    let bounds = ap (bodyOk (m .phase)) (sym is) ∙ parts .1 in
+selection-shown : (coming : Header) (slot : List ℕ) (m : Ballot) → coming .kind ≡ 1
+    → counted (coming .run) (coming .phase) (coming .kind) (readOf slot) ≡ some m → Shown coming slot m
+selection-shown coming slot m first e =
+    let c = counted-message (coming .run) (coming .phase) (coming .kind) slot m e in
+    let passes = read-passes slot (c .message) (c .read) in
+    let phase : ℕ = getD slot phasePlace 0 in
+    let run-test : Bool = eqb (numberAt runSize slot runPlace) (coming .run) in
+    let kind-test : Bool = eqb (kindOf (bodyAt slot)) (coming .kind) in
+    let tests = both-true (run-test && kind-test) (eqb phase (coming .phase))
+    (ap (isOf (coming .run) (coming .phase) (coming .kind)) (passes .fields) ∙ c .coming) in
+    let run-kind = both-true run-test kind-test (tests .0) in
+    let kind : kindAt slot ≡ 1 = kind-shown slot (eqb-true _ _ (run-kind .1) ∙ first) in
+    let body : bodyAt slot ≡ selectionAt slot = kind-one (record { same = sym kind }) refl in
+    let lists : entriesAt slot ≡ m .entries =
+    ap (λ b. ballotOf b .entries) (sym body)
+    ∙ ap (λ (k : Message). ballotOf (k .body) .entries) (passes .fields)
+    ∙ ap (λ (b : Ballot). b .entries) (c .says) in
     let scalars = planOk (numberAt planSize slot planPlace)
-    && ltb (getD slot stampPlace 0) (m .phase)
-    && leb (length (historyIn slot)) lastPhase in
-    let size : sizeOf (selectionAt slot) ≤ length slot = rw is at (read-fits slot m read) in
+    && ltb (getD slot stampPlace 0) phase
+    && leb (length (entriesAt slot)) mostEntries in
+    let bounds = both-true (phaseOk phase) (bodyOk phase (bodyAt slot))
+    (ap within (passes .fields) ∙ passes .in-bounds) in
+    let rises = both-true scalars (entriesOk 0 phase (entriesAt slot)) (ap (bodyOk phase) (sym body) ∙ bounds .1) .1 in
+    let size = passes .long ∙ ap (λ (k : Message). sizeOf (k .body)) (sym (passes .fields)) in
     record {
-      same = sym (ap (λ b. ballotOf b .entries) is);
-      listable = (
-        omega (arith, size, entries-count (getD slot countPlace 0) (drop entriesPlace slot)),
-        ok-later 0 (m .phase) historySize (historyIn slot) (omega arith)
-            (both-true scalars (entriesOk 0 (m .phase) (historyIn slot)) bounds .1),
+      is = simp (
+        passes .is-framed,
+        eq-eqb _ _ first,
+        eq-eqb _ _ (kind ∙ sym first),
+        run-kind .0,
+        tests .1,
+        eq-eqb _ _ size,
       );
+      lists = lists;
+      rises = rw (lists, eqb-true phase (coming .phase) (tests .1)) at rises;
     }
 
-pub selection-shown : (run phase : ℕ) (slot : List ℕ) (m : Ballot) → counted run phase 1 (readOf slot) ≡ some m
-    → Shown slot m
-selection-shown run phase slot m e =
-    let c = counted-message run phase 1 slot m e in
-    let k = c .message in
-    let place = both-true (eqb (k .run) run && eqb (kindOf (k .body)) 1) (eqb (k .phase) phase) (c .coming) in
-    let kind = eqb-true _ _ (both-true (eqb (k .run) run) (eqb (kindOf (k .body)) 1) (place .0) .1) in
-    rw (sym (c .says)) (message-shown slot k (c .read) kind)
+-- its row lists what it does
+pub row-lists : (coming : Header) (slot row : List ℕ) (m : Ballot) → coming .kind ≡ 1
+    → counted (coming .run) (coming .phase) (coming .kind) (readOf slot) ≡ some m
+    → coming .phase ≤ length row → ((place : ℕ) → place < coming .phase → getD row place 0 ≡ 0)
+    → entriesFrom (rowAfter coming slot row) 0 (coming .phase) ≡ m .entries
+unfolding rowAfter
+row-lists coming slot row m first e long clear =
+    let shown = selection-shown coming slot m first e in
+    let all = all-kept 0 (coming .phase) (m .entries) (shown .rises) in
+    rw (shown .is, le-leb _ _ long, shown .lists, all)
+    (listed-laid 0 (coming .phase) (coming .phase) row (m .entries) (omega arith) long (shown .rises) clear)

@@ -1,24 +1,23 @@
 -- The columns of an inbox: its ballots by slot, read once from the raw bytes. The rules run over them.
--- A column of presence, one of votes and one of stamps. The entries of a history stay in the slot: reading has tested
--- them there, and the one rule that looks at histories looks up single entries.
+-- A column of presence, one of votes and one of stamps; and the histories as one flat array with a place for each slot
+-- and phase, which the one rule that looks at histories asks for.
 -- What the crates below rounds promise each other: no public contract of rounds cites this file.
-use Prim.Native.Nat.{ℕ, zero, suc, _+_, _*_, _/_, _≤_, min}
+use Prim.Native.Nat.{ℕ, zero, suc, _*_, _/_, min}
 use mathlib.Core.Path.{_≡_}
-use mathlib.Core.Bool.{Bool, true, false, cond, _&&_}
-use mathlib.Core.List.{List, []}
+use mathlib.Core.Bool.{Bool, true, false, cond}
+use mathlib.Core.List.{List, [], _++_}
 use mathlib.Core.Option.{Option, none, some}
-use lib.Dec.{ltb}
-use lib.ListN.{length, getD, set, replicate, drop}
-use Rattle.wire.specs.Entry.{Entry}
-use Rattle.wire.specs.Sizes.{historySize}
+use lib.Dec.{leb}
+use lib.ListN.{length, getD, set, replicate, take, drop}
+use Rattle.wire.specs.Entry.{Entry, entriesFrom}
 use Rattle.crew.specs.Parts.{mostNodes}
-use Rattle.message.specs.Bounds.{entriesOk}
-use Rattle.message.specs.Reading.{entriesIn}
-use Rattle.message.specs.Lookup.{hasEntry}
-use Rattle.message.specs.Layout.{countPlace, entriesPlace, entrySize, slotSize}
+use Rattle.message.specs.Fields.{Body}
+use Rattle.message.specs.Laying.{rowAfter}
+use Rattle.message.specs.Layout.{slotSize}
+use Rattle.message.specs.declared.Header.{Header}
 use Rattle.ballot.specs.Count.{gather}
 use Rattle.ballot.specs.Ballot.{Ballot}
-use Rattle.inbox.specs.Inbox.{slotAt}
+use Rattle.inbox.specs.Inbox.{slotAt, ballotOf, ballotIn}
 
 pub record Columns : Type 0 where
   pub present : List Bool
@@ -38,6 +37,11 @@ put before q none = before
 put before q (some m) =
     columns (set (before .present) q true) (set (before .votes) q (m .vote)) (set (before .stamps) q (m .stamp))
 
+-- what the body that reading answers puts forward, where it answers one
+abbrev pub ballotIf : Option Body → Option Ballot
+ballotIf none = none
+ballotIf (some body) = some (ballotOf body)
+
 -- how many slots are read of an inbox of so many bytes: the whole ones, as far as the columns have places
 abbrev pub slotsIn : ℕ → ℕ
 slotsIn bytes = min (bytes / slotSize) mostNodes
@@ -47,23 +51,43 @@ unfoldable pub filled : Columns → (ℕ → Option Ballot) → ℕ → Columns
 filled before slots zero = before
 filled before slots (suc n) = put (filled before slots n) n (slots n)
 
+-- how many places a row of the histories has: one for each phase before the coming one; none where the array has no
+-- room for n rows, as where nobody looks at histories
+abbrev pub rowWidth : (phase n places : ℕ) → ℕ
+rowWidth phase n places = cond (leb (phase * n) places) phase 0
+
+-- the row of slot q: the rows stand one after the other, slot by slot
+abbrev pub rowAt : List ℕ → (width q : ℕ) → List ℕ
+rowAt histories width q = take width (drop (width * q) histories)
+
+-- the rows of the first n slots, after each slot was read into its own
+unfoldable pub rowsAfter : Header → (bytes before : List ℕ) → (width n : ℕ) → List ℕ
+rowsAfter coming bytes before width zero = []
+rowsAfter coming bytes before width (suc n) =
+    rowsAfter coming bytes before width n ++ rowAfter coming (slotAt bytes n) (rowAt before width n)
+
+-- the array then: these rows, and the places after them as they were
+abbrev pub historiesAfter : Header → (bytes before : List ℕ) → (width n : ℕ) → List ℕ
+historiesAfter coming bytes before width n = rowsAfter coming bytes before width n ++ drop (width * n) before
+
+-- The columns and the array after the walk over an inbox, by what they were before it: each whole slot is in them,
+-- read as a message of the coming round.
+pub record ReadInto (coming : Header) (bytes : List ℕ) (before : Columns) (blank : List ℕ) (after : Columns)
+    (histories : List ℕ) : Type 0 where
+  pub said : after
+      ≡ filled before (ballotIn (coming .run) (coming .phase) (coming .kind) bytes) (slotsIn (length bytes))
+  pub listed : histories
+      ≡ historiesAfter coming bytes blank (rowWidth (coming .phase) (slotsIn (length bytes)) (length blank))
+      (slotsIn (length bytes))
+
 -- what a slot lists, where it counts
 abbrev pub entriesOf : Option Ballot → List Entry
 entriesOf none = []
 entriesOf (some m) = m .entries
 
--- the entries of a selection, as they stand in its slot
-abbrev pub historyIn : List ℕ → List Entry
-historyIn slot = entriesIn (getD slot countPlace 0) (drop entriesPlace slot)
-
--- a slot that a history can be looked up in: its entries have room in it, and their phases rise
-abbrev pub Listable : List ℕ → Type 0
-Listable slot = (entriesPlace + entrySize * getD slot countPlace 0 ≤ length slot)
-    × (entriesOk 0 historySize (historyIn slot) ≡ true)
-
--- the histories of an inbox of selections, by slot
-abbrev pub historiesIn : List ℕ → ℕ → List Entry
-historiesIn bytes q = historyIn (slotAt bytes q)
+-- what slot q lists by its row
+abbrev pub listedIn : List ℕ → (width q : ℕ) → List Entry
+listedIn histories width q = entriesFrom (rowAt histories width q) 0 width
 
 -- what the columns have in the places of slot q, with what the slot lists
 abbrev pub rowOf : Columns → (ℕ → List Entry) → ℕ → Ballot
@@ -80,7 +104,3 @@ slotOf read histories q = cond (getD (read .present) q false) (some (rowOf read 
 -- the ballots of the first n slots, as the columns have them
 abbrev pub polled : Columns → (ℕ → List Entry) → ℕ → List Ballot
 polled read histories n = gather (slotOf read histories) n
-
--- slot q, where the inbox has it, lists the plan at the phase
-abbrev pub slotHasEntry : List ℕ → ℕ → ℕ → ℕ → Bool
-slotHasEntry bytes q plan phase = ltb q (slotsIn (length bytes)) && hasEntry (slotAt bytes q) plan phase

@@ -1,9 +1,12 @@
-// From an inbox's bytes to columns: the slots are read once, and what those that count say is put into columns, but for
-// the entries, which are looked up in the slots.
-// What a slot says stands in specs/Inbox.antt, the columns in specs/Columns.antt. Crate tally runs the rules over them.
+// From an inbox's bytes to columns, in one walk: each slot is handed to the reader once, and what a slot that counts
+// says is put into the columns of presence, votes and stamps. The reader lays a selection's entries into the flat array
+// of histories, each slot's into a row of its own, where the array has room for the rows.
+// What a slot says stands in specs/Inbox.antt, the columns in specs/Columns.antt. Crate tally runs the rules over them,
+// and nothing after the walk looks at the inbox.
 use crew::MOST_NODES;
 use message::Body;
-use message::Reading;
+use message::Expected;
+use message::Header;
 use message::SLOT;
 use node::Node;
 use wire::Plan;
@@ -11,28 +14,13 @@ ghost use mathlib.Core.Path.{_≡_};
 ghost use mathlib.Core.Bool.{true};
 ghost use mathlib.Core.List.{List};
 ghost use mathlib.Core.Option.{some};
-ghost use Prim.Native.Nat.{ℕ, _*_, _<_};
-ghost use lib.ListN.{length, set};
+ghost use Prim.Native.Nat.{ℕ, _<_, _≤_};
+ghost use lib.ListN.{set};
 ghost use Rattle.crew.specs.Parts.{mostNodes};
-ghost use Rattle.message.specs.Encoding.{kindOf};
-ghost use Rattle.message.specs.Reading.{readOf, bodyAs};
-ghost use Rattle.inbox.specs.Inbox.{slotAt, ballotOf, counted};
-ghost use Rattle.inbox.specs.Columns.{columns, put, slotsIn, filled, slotHasEntry};
-
-// The number of a message's kind.
-fn kind_of(body: Body) -> u16
-    ensures { λ r. ⌜ ((slot : List ℕ) → r ≡ kindOf (bodyAs body slot)) ⌝ }
-{
-    match body {
-        Body::Selection {
-            vote: _,
-            stamp: _,
-            count: _,
-        } => message::SELECTION,
-        Body::Validation { plan: _ } => message::VALIDATION,
-        Body::Decision { vote: _, stamp: _ } => message::DECISION,
-    }
-}
+ghost use Rattle.message.specs.Reading.{bodyAs};
+ghost use Rattle.message.specs.Laying.{expectedAs};
+ghost use Rattle.inbox.specs.Inbox.{ballotOf};
+ghost use Rattle.inbox.specs.Columns.{columns, put, slotsIn, rowWidth, ballotIf, ReadInto};
 
 // Puts a vote and its stamp into the places of slot q.
 fn put_vote(
@@ -53,7 +41,7 @@ fn put_vote(
     stamps[q] = stamp;
 }
 
-// Puts what a message says into the places of slot q. A validation has no stamp; entries stay where they stand.
+// Puts what a message says into the places of slot q. A validation has no stamp; entries were laid by the reader.
 fn put_body(
     q: usize,
     body: Body,
@@ -78,32 +66,25 @@ fn put_body(
     }
 }
 
-// Puts what a slot says into the columns. One that reading refuses is absent, and so is one whose run, kind or phase
-// are not those of the coming round. Round k takes kind k.
-fn read_slot(
-    slot: &[u8],
+// Puts what a slot says into its places. One that does not hold what is expected is absent: its places keep what they
+// had.
+fn put_expected(
     q: usize,
-    run: u32,
-    phase: u8,
-    round: u8,
+    expected: Expected,
     present: &mut [bool; MOST_NODES],
     votes: &mut [Plan; MOST_NODES],
     stamps: &mut [u8; MOST_NODES],
 )
     requires { ⌜ q < mostNodes ⌝ }
-    ensures { λ _. ⌜ columns (now (present .exit)) (now (votes .exit)) (now (stamps .exit))
+    ensures { λ _. ⌜ ((slot : List ℕ)
+        → columns (now (present .exit)) (now (votes .exit)) (now (stamps .exit))
         ≡ put (columns (now (present .entry)) (now (votes .entry)) (now (stamps .entry)))
-        q (counted run phase round (readOf (now (slot .entry)))) ⌝ }
+        q (ballotIf (expectedAs expected slot))) ⌝ }
 {
-    let reading = message::read(slot);
-    let Reading::Message(message) = reading else {
+    let Expected::Body(body) = expected else {
         return;
     };
-    let body = message.body;
-    let counts = (message.run == run) & (kind_of(body) == round as u16) & (message.phase == phase);
-    if counts {
-        put_body(q, body, present, votes, stamps);
-    }
+    put_body(q, body, present, votes, stamps);
 }
 
 // How many slots of an inbox have a place in the columns; a slot that is not whole is none.
@@ -118,49 +99,42 @@ fn slots_in(length: usize) -> usize
     }
 }
 
-// Reads the slots of an inbox, once, into the columns. The places of a slot that does not count keep what they had.
+// How many places a row of the histories has: one for each phase before the coming one. None where the array has no
+// room for n rows, as where nobody looks at histories.
+fn row_width(phase: u8, n: usize, places: usize) -> usize
+    requires { ⌜ n ≤ mostNodes ⌝ }
+    ensures { λ r. ⌜ r ≡ rowWidth phase n places ⌝ }
+{
+    let width = phase as usize;
+    if width * n <= places { width } else { 0 }
+}
+
+// Walks the slots of an inbox, once, into the columns; kind, run and phase are those of the coming round. The places of
+// a slot that does not count keep what they had, but for its row, where entries may have been laid before the reader
+// came to one that breaks a bound: presence tells which rows say something.
 pub fn read_slots(
     inbox: &[u8],
-    run: u32,
-    phase: u8,
-    round: u8,
+    coming: Header,
     present: &mut [bool; MOST_NODES],
     votes: &mut [Plan; MOST_NODES],
     stamps: &mut [u8; MOST_NODES],
+    histories: &mut [Plan],
 )
-    ensures { λ _. ⌜ columns (now (present .exit)) (now (votes .exit)) (now (stamps .exit))
-        ≡ filled (columns (now (present .entry)) (now (votes .entry)) (now (stamps .entry)))
-        (λ q. counted run phase round (readOf (slotAt (now (inbox .entry)) q)))
-        (slotsIn (length (now (inbox .entry)))) ⌝ }
+    ensures { λ _. ⌜ ReadInto coming (now (inbox .entry))
+        (columns (now (present .entry)) (now (votes .entry)) (now (stamps .entry))) (now (histories .entry))
+        (columns (now (present .exit)) (now (votes .exit)) (now (stamps .exit))) (now (histories .exit)) ⌝ }
 {
     let n = slots_in(inbox.len());
+    let width = row_width(coming.phase, n, histories.len());
+    let mut from = 0;
     let mut q = 0;
     while q < n {
         let start = SLOT * q;
         let end = start + SLOT;
-        read_slot(
-            &inbox[start..end],
-            q,
-            run,
-            phase,
-            round,
-            present,
-            votes,
-            stamps,
-        );
+        let to = from + width;
+        let expected = message::read_expected(&inbox[start..end], coming, &mut histories[from..to]);
+        put_expected(q, expected, present, votes, stamps);
+        from = to;
         q = q + 1;
     }
-}
-
-// Whether the selection in slot q lists the plan at a phase, for slots that count in a selection: see
-// `message::has_entry`.
-pub fn slot_has_entry(inbox: &[u8], q: usize, plan: Plan, phase: u8) -> bool
-    ensures { λ r. ⌜ r ≡ slotHasEntry (now (inbox .entry)) q plan phase ⌝ }
-{
-    if q < slots_in(inbox.len()) {
-        let start = SLOT * q;
-        let end = start + SLOT;
-        return message::has_entry(&inbox[start..end], plan, phase);
-    }
-    false
 }

@@ -2,4 +2,5 @@ pub mod Sizes
 pub mod EncodeLaws
 pub mod EntryLaws
 pub mod ReadLaws
-pub mod LookupTurns
+pub mod LayLaws
+pub mod ExpectedLaws

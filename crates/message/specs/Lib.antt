@@ -3,5 +3,5 @@ pub mod Fields
 pub mod Bounds
 pub mod Encoding
 pub mod Reading
-pub mod Lookup
+pub mod Laying
 pub mod Promises

@@ -1,13 +1,18 @@
--- What the private functions ask of a slice, and what they tell of a number.
+-- What the private functions ask of a slice and a row, and what they tell of a number and of the row.
 -- Promises of private functions: no public contract cites this file.
 use Prim.Native.Nat.{ℕ, _+_, _*_, _<_, _≤_}
+use mathlib.Core.Bool.{Bool, cond, _&&_}
 use mathlib.Core.Path.{_≡_}
 use mathlib.Core.List.{List}
-use lib.ListN.{length}
-use Rattle.message.specs.Layout.{headerSize, entriesPlace, entrySize}
+use lib.Dec.{leb, ltb, eqb}
+use lib.ListN.{length, getD, set}
+use Rattle.wire.specs.Entry.{Entry}
+use Rattle.wire.specs.Plan.{planOk}
+use Rattle.message.specs.Layout.{phasePlace, headerSize, entriesPlace, entrySize}
+use Rattle.message.specs.Bounds.{entriesOk, within}
 use Rattle.message.specs.Encoding.{sizeOf}
-use Rattle.message.specs.Reading.{lengthAt, kindAt, bodyAt}
-use Rattle.message.specs.Lookup.{entriesUntil}
+use Rattle.message.specs.Reading.{lengthAt, kindAt, messageWith, selectionAt, bodyAt}
+use Rattle.message.specs.Laying.{laid, keptOf, entriesAt}
 
 -- a byte, taken wide, is the same number
 pub record Widened (byte wide : ℕ) : Type 0 where
@@ -29,7 +34,39 @@ pub record HeldInFull (s : List ℕ) (kind : ℕ) : Type 0 where
   pub whole : sizeOf (bodyAt s) ≤ length s
   pub of-kind : OfKind s kind
 
--- so many entries can be of a phase or an earlier one, and the slice has room for them
-pub record Until (s : List ℕ) (phase count : ℕ) : Type 0 where
-  pub same : count ≡ entriesUntil s phase
+-- the slice has room for so many entries, and the row a place for each phase before this one
+pub record RowFor (s : List ℕ) (count phase : ℕ) (row : List ℕ) : Type 0 where
   pub room : entriesPlace + entrySize * count ≤ length s
+  pub places : phase ≤ length row
+
+-- the bounds that an entry keeps by itself, where the next one's phase is known
+abbrev pub keepsBefore : ℕ → Entry → Bool
+keepsBefore before e = ltb (e .phase) before && planOk (e .plan)
+
+-- what stands for the phase of an entry that breaks a bound; no byte is so large
+abbrev pub broken : ℕ
+broken = 256
+
+-- an entry that keeps its bounds is laid into the row, and its phase told
+pub record LaidEntry (e : Entry) (before : ℕ) (row : List ℕ) (r : ℕ) (after : List ℕ) : Type 0 where
+  pub byte : e .phase < broken
+  pub answer : r ≡ cond (keepsBefore before e) (e .phase) broken
+  pub lays : after ≡ cond (keepsBefore before e) (set row (e .phase) (e .plan)) row
+
+-- entries are laid from the last one back as long as they keep their bounds; told is whether all do
+pub record LaidEntries (es : List Entry) (phase : ℕ) (row : List ℕ) (r : Bool) (after : List ℕ) : Type 0 where
+  pub answer : r ≡ entriesOk 0 phase es
+  pub lays : after ≡ laid row (keptOf phase es)
+
+-- the same of the entries of a selection; told is whether all its fields keep their bounds
+pub record LaidSelection (s row : List ℕ) (r : Bool) (after : List ℕ) : Type 0 where
+  pub answer : r ≡ within (messageWith s (selectionAt s))
+  pub lays : after ≡ laid row (keptOf (getD s phasePlace 0) (entriesAt s))
+
+-- the same of any message; only a selection's entries are laid, where the row has a place for each phase before its own
+pub record KeptLaying (s : List ℕ) (kind : ℕ) (row : List ℕ) (r : Bool) (after : List ℕ) : Type 0 where
+  pub answer : r ≡ within (messageWith s (bodyAt s))
+  pub lays : after
+      ≡ cond (eqb kind 1 && leb (getD s phasePlace 0) (length row))
+      (laid row (keptOf (getD s phasePlace 0) (entriesAt s)))
+      row

@@ -1,13 +1,13 @@
 // Messages: their layout and bounds, and reading any bytes. It knows nothing of crews.
-// What a slice is read to stands in specs/Reading.antt, a message's bytes in specs/Encoding.antt, its bounds in
-// specs/Bounds.antt, looking an entry up in specs/Lookup.antt. Crate writer writes messages; that reading and writing
-// undo each other is proved in crate codec.
+// What a slice is read to stands in specs/Reading.antt, where a message is expected in specs/Laying.antt; a message's
+// bytes in specs/Encoding.antt, its bounds in specs/Bounds.antt. Crate writer
+// writes messages; that reading and writing undo each other is proved in crate codec.
 use wire::LAST_PHASE;
 use wire::PLAN_SIZE;
 use wire::Plan;
 use wire::RUN_SIZE;
 ghost use mathlib.Core.Path.{_≡_};
-ghost use Prim.Native.Nat.{_+_, _*_, _≤_, min};
+ghost use Prim.Native.Nat.{_+_, _*_, _≤_};
 ghost use lib.ListN.{length, getD, drop};
 ghost use lib.Dec.{eqb};
 ghost use Rattle.wire.specs.Bytes.{numberAt};
@@ -37,8 +37,9 @@ ghost use Rattle.message.specs.Reading.{
   bodyAs,
   readAnswer,
 };
-ghost use Rattle.message.specs.Lookup.{hasEntry};
-ghost use Rattle.message.specs.Promises.{Widened, Framed, HeldInFull, Until};
+ghost use Rattle.message.specs.Laying.{headed, ExpectedFrom};
+ghost use Rattle.message.specs.Promises.{Widened, Framed, HeldInFull};
+ghost use Rattle.message.specs.Promises.{RowFor, LaidEntry, LaidEntries, LaidSelection, KeptLaying};
 
 // Where the fields stand, each where the one before it ends, as in specs/Layout.antt.
 pub const LENGTH_AT: usize = 0;
@@ -79,6 +80,9 @@ pub const DECISION_LENGTH: u16 = (STAMP_AT + 1) as u16;
 
 pub const SELECTION_LENGTH: u16 = ENTRIES_AT as u16;
 
+// No phase: a byte does not hold it.
+const BROKEN: u16 = 256;
+
 // Why reading refuses; `readNumber` in specs/Reading.antt has 01's numbers.
 pub enum ReadRefusal {
     // The slice ends before the message does, or before its header does.
@@ -105,6 +109,20 @@ pub struct Message {
 pub enum Reading {
     Message(Message),
     Refused(ReadRefusal),
+}
+
+// What stands in the header of a message that is expected, beside its length.
+pub struct Header {
+    pub kind: u16,
+    pub run: u32,
+    pub phase: u8,
+}
+
+// What reading answers where a message with such a header is expected: what it says; or that the slice holds another
+// message or none.
+pub enum Expected {
+    Body(Body),
+    Other,
 }
 
 // An entry of a history: the plan of a phase.
@@ -205,6 +223,56 @@ fn are_entries(s: &[u8], count: usize, phase: u16) -> bool
     least <= phase
 }
 
+// Lays entry i into its place of the row and answers its phase; the limit of a byte where it breaks a bound: its phase
+// is not before `before`, or it has no plan.
+fn lay_entry(s: &[u8], i: usize, before: u16, row: &mut [Plan]) -> u16
+    requires { ⌜ RowFor (now s) (i + 1) before (now row) ⌝ }
+    ensures { λ r. ⌜ LaidEntry (entryInSlice (now (s .entry)) i) before (now (row .entry)) r (now (row .exit)) ⌝ }
+{
+    let place = ENTRIES_AT + ENTRY_SIZE * i;
+    let phase = wide(s[place]);
+    if before <= phase {
+        return BROKEN;
+    }
+    let plan = plan_at(s, place + 1);
+    if plan == 0 {
+        return BROKEN;
+    }
+    let at = phase as usize;
+    row[at] = plan;
+    phase
+}
+
+// Lays the entries into the row, each at its phase, and answers whether they keep their bounds. It goes from the last
+// entry back: so one comparison tells both that the phases rise and that the row has the place.
+fn lay_entries(s: &[u8], count: usize, phase: u16, row: &mut [Plan]) -> bool
+    requires { ⌜ RowFor (now s) count phase (now row) ⌝ }
+    ensures { λ r. ⌜ LaidEntries (entriesIn count (drop entriesPlace (now (s .entry)))) phase
+        (now (row .entry)) r (now (row .exit)) ⌝ }
+{
+    // The phase that entry i - 1 must be before: that of entry i, and the message's for the last one.
+    let mut before = phase;
+    let mut i = count;
+    // Two entries a turn, as in `are_entries`.
+    while 1 < i {
+        let later = lay_entry(s, i - 1, before, row);
+        if later == BROKEN {
+            return false;
+        }
+        let earlier = lay_entry(s, i - 2, later, row);
+        if earlier == BROKEN {
+            return false;
+        }
+        before = earlier;
+        i = i - 2;
+    }
+    // Of an odd number of entries the first is left.
+    if 0 < i {
+        return lay_entry(s, 0, before, row) < BROKEN;
+    }
+    true
+}
+
 // Whether the header's phase keeps its bound.
 fn has_phase(s: &[u8]) -> bool
     requires { ⌜ headerSize ≤ length (now s) ⌝ }
@@ -231,6 +299,18 @@ fn selection_keeps_bounds(s: &[u8]) -> bool
             & (s[STAMP_AT] < s[PHASE_AT])
             & (s[COUNT_AT] <= MOST_ENTRIES)
             & are_entries(s, count, wide(s[PHASE_AT])))
+}
+
+// The same, with the entries laid into the row.
+fn lay_selection(s: &[u8], row: &mut [Plan]) -> bool
+    requires { ⌜ RowFor (now s) (getD (now s) countPlace 0) (getD (now s) phasePlace 0) (now row) ⌝ }
+    ensures { λ r. ⌜ LaidSelection (now (s .entry)) (now (row .entry)) r (now (row .exit)) ⌝ }
+{
+    let count = wide(s[COUNT_AT]) as usize;
+    let phase = wide(s[PHASE_AT]);
+    let laid = lay_entries(s, count, phase, row);
+    has_phase(s)
+        & (has_plan(s) & (s[STAMP_AT] < s[PHASE_AT]) & (s[COUNT_AT] <= MOST_ENTRIES) & laid)
 }
 
 fn validation_keeps_bounds(s: &[u8]) -> bool
@@ -334,6 +414,54 @@ pub fn read(s: &[u8]) -> Reading
     Reading::Refused(ReadRefusal::Cut)
 }
 
+// Whether a message with this header stands at the front of the slice, whatever follows it.
+fn has_header(s: &[u8], header: Header) -> bool
+    ensures { λ r. ⌜ r ≡ headed header (now (s .entry)) ⌝ }
+{
+    if is_framed(s) {
+        return (u16_at(s, KIND_AT) == header.kind)
+            & (run_of(s) == header.run)
+            & (s[PHASE_AT] == header.phase);
+    }
+    false
+}
+
+// As `keeps_bounds`; the entries of a selection are laid into the row where it has a place for each phase before the
+// message's. The kinds are tried here again and not by `keeps_bounds`: as the walk's alone, this is compiled into it.
+fn keeps_bounds_laying(s: &[u8], kind: u16, row: &mut [Plan]) -> bool
+    requires { ⌜ HeldInFull (now s) kind ⌝ }
+    ensures { λ r. ⌜ KeptLaying (now (s .entry)) kind (now (row .entry)) r (now (row .exit)) ⌝ }
+{
+    if kind == SELECTION {
+        if wide(s[PHASE_AT]) as usize <= row.len() {
+            return lay_selection(s, row);
+        }
+        return selection_keeps_bounds(s);
+    }
+    if kind == VALIDATION {
+        return validation_keeps_bounds(s);
+    }
+    decision_keeps_bounds(s)
+}
+
+// Reads the message at the front of a slice where one with this header is expected, and lays the entries of a selection
+// into the row. The header is held against the expected one before anything else is looked at.
+pub fn read_expected(s: &[u8], header: Header, row: &mut [Plan]) -> Expected
+    ensures { λ r. ⌜ ExpectedFrom header (now (s .entry)) (now (row .entry)) r (now (row .exit)) ⌝ }
+{
+    let kind = header.kind;
+    if is_kind(kind) {
+        if has_header(s, header) {
+            if has_length(s, kind) {
+                if keeps_bounds_laying(s, kind, row) {
+                    return Expected::Body(body_in(s, kind));
+                }
+            }
+        }
+    }
+    Expected::Other
+}
+
 // The bytes of a selection's entries where reading it has told how many there are, as a part of the slice. Empty where
 // the slice is too short for so many.
 fn entries_counted(s: &[u8], count: u8) -> &[u8]
@@ -389,49 +517,4 @@ pub fn entry_at(part: &[u8], i: usize) -> Entry
     } else {
         Entry { phase: 0, plan: 0 }
     }
-}
-
-fn lower(a: usize, b: usize) -> usize
-    ensures { λ r. ⌜ r ≡ min a b ⌝ }
-{
-    if a < b { a } else { b }
-}
-
-// How many entries can be of a phase or an earlier one: phases rise from 0, so that entry i is of phase i or a later
-// one. A slice that reading refuses may count more entries than it has room for.
-fn entries_until(s: &[u8], phase: u8) -> usize
-    requires { ⌜ entriesPlace ≤ length (now s) ⌝ }
-    ensures { λ r. ⌜ Until (now (s .entry)) phase r ⌝ }
-{
-    let room = (s.len() - ENTRIES_AT) / ENTRY_SIZE;
-    let held = lower(wide(s[COUNT_AT]) as usize, room);
-    lower(held, wide(phase) as usize + 1)
-}
-
-// The entries are looked at where they stand, from the last that can be of the phase back to the first that is not
-// later.
-fn look_up(s: &[u8], plan: Plan, phase: u8) -> bool
-    requires { ⌜ entriesPlace ≤ length (now s) ⌝ }
-    ensures { λ r. ⌜ r ≡ hasEntry (now (s .entry)) plan phase ⌝ }
-{
-    let mut i = entries_until(s, phase);
-    while 0 < i {
-        let place = ENTRIES_AT + ENTRY_SIZE * (i - 1);
-        if s[place] <= phase {
-            return (s[place] == phase) & (plan_at(s, place + 1) == plan);
-        }
-        i = i - 1;
-    }
-    false
-}
-
-// Whether a selection that reading accepts lists the plan at a phase. It is not read again: the look-up goes by the
-// phases' rising, which reading has tested. Of other bytes it tells what `hasEntry` says, which nobody asks.
-pub fn has_entry(s: &[u8], plan: Plan, phase: u8) -> bool
-    ensures { λ r. ⌜ r ≡ hasEntry (now (s .entry)) plan phase ⌝ }
-{
-    if s.len() < ENTRIES_AT {
-        return false;
-    }
-    look_up(s, plan, phase)
 }

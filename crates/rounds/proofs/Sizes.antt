@@ -1,86 +1,94 @@
--- A sound record's crew, with an inbox of its own, can be counted with: a round then comes to the plan of the rules.
+-- A sound record's crew has a place for each node in the columns, an inbox of its own can be walked, and what its round
+-- comes to is what the rules say of its ballots.
 use mathlib.Core.Path.{_≡_, refl, sym, ap, _∙_}
 use mathlib.Core.Bool.{Bool, true, false, cond}
 use mathlib.Core.List.{List}
-use Prim.Native.Nat.{ℕ, _*_}
+use Prim.Native.Nat.{ℕ, _*_, _<_, _≤_}
 use native.Mathlib.Omega.{arith}
 use lib.Dec.{eqb}
-use lib.ListN.{length}
-use borrow.Author.Tests.{eqb-true, eqb-false}
-use Rattle.crew.specs.Thresholds.{classOf}
-use Rattle.crew.proofs.Facts.{accepts, quorum-positive}
+use lib.ListN.{length, getD, replicate, length-replicate}
+use borrow.Author.Tests.{eqb-true, eqb-false, eq-eqb}
+use Rattle.wire.specs.Sizes.{spentPhase}
+use Rattle.crew.specs.declared.Crew.{Crew}
+use Rattle.crew.specs.Thresholds.{Class, one, two, three, classOf}
+use Rattle.crew.proofs.Facts.{accepts}
 use Rattle.message.specs.Layout.{slotSize}
-use Rattle.ballot.specs.Selection.{taken}
+use Rattle.ballot.specs.Ballot.{Ballot}
+use Rattle.ballot.specs.Selection.{plan, nothing, taken}
 use Rattle.ballot.specs.Validation.{validated}
 use Rattle.ballot.specs.Decision.{decision}
 use Rattle.node.specs.declared.Node.{Node}
-use Rattle.node.specs.Soundness.{sound}
+use Rattle.node.specs.Soundness.{firstUnselected, sound}
 use Rattle.node.proofs.Facts.{sound-facts}
-use Rattle.inbox.specs.Inbox.{ballotsFor, ballots}
-use Rattle.tally.specs.Rules.{countable, selected, validIn, decidedIn}
-use Rattle.tally.proofs.Countable.{facts-countable, selected-rule, valid-rule, decided-rule}
 use Rattle.rounds.specs.Taking.{afterSelection, afterValidation, afterDecision, afterRound}
-use Rattle.rounds.specs.Steps.{planOf, afterPlan}
+use Rattle.rounds.specs.Steps.{comingRound, planIf, planIn, ruled, Heard, afterPlan}
 
-pub sound-countable : (d : Node) (size : ℕ) → sound d ≡ true → size ≡ slotSize * d .crew .n
-    → countable (d .crew) size ≡ true
-sound-countable d size ok whole =
-    let crew = accepts (d .crew) (sound-facts d ok .crew) in
-    facts-countable (d .crew) size (record {
-      places = crew .size-to;
-      some = quorum-positive crew;
-      within = omega (arith, crew .reach);
-      whole = whole;
-    })
+-- the classes by number, which tells them apart
+abbrev pub number : Class → ℕ
+number one = 1
+number two = 2
+number three = 3
 
--- what the node hears in its coming round are the ballots of its inbox
-pub heard-ballots : (d : Node) (bytes : List ℕ) (round : ℕ) → d .round ≡ round
-    → ballotsFor (d .crew) (d .run) (d .phase) round bytes ≡ ballots d bytes
-heard-ballots d bytes round is = rw (sym is)
+-- a crew that selects as class 3 does is of class 3, where its class is one of the three
+pub three-is : (crew : Crew) → 1 ≤ crew .class → crew .class ≤ 3 → classOf crew ≡ three → crew .class ≡ 3
+three-is crew from to is = go (eqb (crew .class) 1) refl (eqb (crew .class) 2) refl (ap number is)
+  where
+    go : (first : Bool) → eqb (crew .class) 1 ≡ first → (second : Bool) → eqb (crew .class) 2 ≡ second
+        → number (cond first one (cond second two three)) ≡ 3 → crew .class ≡ 3
+    go true e second f is = absurd (omega arith)
+    go false e true f is = absurd (omega arith)
+    go false e false f is = omega (arith, eqb-false (crew .class) 1 e, eqb-false (crew .class) 2 f)
 
--- The plan that the round comes to is that of its rule.
-module _ (d : Node) (bytes : List ℕ) (ok : sound d ≡ true) (whole : length bytes ≡ slotSize * d .crew .n) where
-  counted : countable (d .crew) (length bytes) ≡ true
-  counted = sound-countable d (length bytes) ok whole
+-- a sound record that is not spent, with an inbox of its own
+pub sound-heard : (d : Node) (asked : Bool) (bytes : List ℕ) (fill : ℕ) → sound d ≡ true → d .phase < spentPhase
+    → length bytes ≡ slotSize * d .crew .n → fill ≡ getD (d .history) (d .phase) 0
+    → Heard (comingRound d asked) bytes fill
+sound-heard d asked bytes fill ok early whole is =
+    let facts = sound-facts d ok in
+    let crew = accepts (d .crew) (facts .crew) in
+    record {
+      own = record { places = crew .size-to; whole = whole };
+      class-from = crew .class-from;
+      class-to = crew .class-to;
+      early = early;
+      empty = λ first.
+          let from : firstUnselected d ≤ d .phase = rw (eq-eqb _ _ first) (omega arith) in
+          is ∙ facts .empty (d .phase) from early;
+    }
 
-  selects : d .round ≡ 1
-      → selected (d .crew) (d .run) (d .phase) bytes ≡ taken (classOf (d .crew)) (d .crew) (ballots d bytes)
-  selects is =
-      selected-rule (d .crew) (d .run) (d .phase) bytes counted
-      ∙ ap (taken (classOf (d .crew)) (d .crew)) (heard-ballots d bytes 1 is)
+-- the plan that an answer stands for
+plan-kept : (v : ℕ) → planIn (planIf v) ≡ v
+plan-kept v = go (eqb v 0) refl
+  where
+    go : (b : Bool) → eqb v 0 ≡ b → planIn (cond b nothing (plan v)) ≡ v
+    go true e = sym (eqb-true v 0 e)
+    go false e = refl
 
-  validates : d .round ≡ 2
-      → validIn (d .crew) (d .run) (d .phase) bytes ≡ validated (d .crew) (ballots d bytes)
-  validates is =
-      valid-rule (d .crew) (d .run) (d .phase) bytes counted ∙ ap (validated (d .crew)) (heard-ballots d bytes 2 is)
+-- the record after what a round comes to is the record after the round
+pub after-ruled : (d : Node) (heard : List Ballot)
+    → afterPlan d (planIn (ruled (comingRound d false) heard)) ≡ afterRound d heard
+unfolding afterRound
+after-ruled d heard = by-round (eqb (d .round) 1) (eqb (d .round) 2)
+  where
+    selected : ℕ
+    selected = taken (classOf (d .crew)) (d .crew) heard
 
-  decides : d .round ≡ 3
-      → decidedIn (d .crew) (d .run) (d .phase) bytes
-      ≡ decision (classOf (d .crew)) (d .crew) (d .phase) (ballots d bytes)
-  decides is =
-      decided-rule (d .crew) (d .run) (d .phase) bytes counted
-      ∙ ap (decision (classOf (d .crew)) (d .crew) (d .phase)) (heard-ballots d bytes 3 is)
+    valid : ℕ
+    valid = validated (d .crew) heard
 
-  -- the record after that plan is the record after the round
-  pub after-plan-round : afterPlan d (planOf (d .crew) (d .run) (d .phase) (d .round) bytes)
-      ≡ afterRound d (ballots d bytes)
-  unfolding afterRound
-  after-plan-round = by-round (eqb (d .round) 1) (eqb (d .round) 2) refl refl
-    where
-      by-round : (first second : Bool) → eqb (d .round) 1 ≡ first → eqb (d .round) 2 ≡ second
-          → afterPlan d (planOf (d .crew) (d .run) (d .phase) (d .round) bytes)
-          ≡ cond (eqb (d .round) 1) (afterSelection d (taken (classOf (d .crew)) (d .crew) (ballots d bytes)))
-          (cond (eqb (d .round) 2) (afterValidation d (validated (d .crew) (ballots d bytes)))
-          (afterDecision d (decision (classOf (d .crew)) (d .crew) (d .phase) (ballots d bytes))))
-      by-round true second one other = rw one (ap (afterSelection d) (selects (eqb-true _ _ one)))
-      by-round false true one two = rw (one, two) (ap (afterValidation d) (validates (eqb-true _ _ two)))
-      by-round false false one two =
-          let facts = sound-facts d ok in
-          let last : d .round ≡ 3 = omega (
-            arith,
-            facts .round-from,
-            facts .round-to,
-            eqb-false (d .round) 1 one,
-            eqb-false (d .round) 2 two,
-          ) in
-          rw (one, two) (ap (afterDecision d) (decides last))
+    decided : ℕ
+    decided = decision (classOf (d .crew)) (d .crew) (d .phase) heard
+
+    after : Bool → Bool → ℕ → Node
+    after first second v = cond first (afterSelection d v) (cond second (afterValidation d v) (afterDecision d v))
+
+    by-round : (first second : Bool)
+        → after first second (planIn (cond first (planIf selected) (cond second (planIf valid) (planIf decided))))
+        ≡ cond first (afterSelection d selected) (cond second (afterValidation d valid) (afterDecision d decided))
+    by-round true second = ap (afterSelection d) (plan-kept selected)
+    by-round false true = ap (afterValidation d) (plan-kept valid)
+    by-round false false = ap (afterDecision d) (plan-kept decided)
+
+-- an array that is filled with nothing is empty
+pub clear-array : (places : ℕ) {fill : ℕ} → fill ≡ 0 → replicate places fill ≡ replicate (length (replicate places fill)) 0
+clear-array places {fill} is = ap (replicate places) is ∙ ap (λ n. replicate n 0) (sym (length-replicate places fill))

@@ -1,12 +1,25 @@
--- Taking a round in two steps: the plan that it comes to, and the record after it.
+-- Taking a round in two steps: what it comes to, and the record after it.
 -- Promises of private functions: no public contract cites this file.
-use Prim.Native.Nat.{ℕ}
-use mathlib.Core.Bool.{cond}
+use Prim.Native.Nat.{ℕ, _*_, _/_, _≤_, _<_}
+use mathlib.Core.Path.{_≡_}
+use mathlib.Core.Bool.{Bool, cond}
 use mathlib.Core.List.{List}
+use lib.ListN.{length, replicate}
 use lib.Dec.{eqb}
+use Rattle.wire.specs.Entry.{Entry}
+use Rattle.wire.specs.Sizes.{spentPhase, historySize}
 use Rattle.crew.specs.declared.Crew.{Crew}
+use Rattle.crew.specs.Parts.{mostNodes}
+use Rattle.crew.specs.Thresholds.{three, classOf}
+use Rattle.message.specs.Layout.{slotSize}
+use Rattle.ballot.specs.Ballot.{Ballot}
+use Rattle.ballot.specs.Selection.{Choice, plan, any, nothing, selection, taken}
+use Rattle.ballot.specs.Validation.{validated}
+use Rattle.ballot.specs.Decision.{decision}
 use Rattle.node.specs.declared.Node.{Node}
-use Rattle.tally.specs.Rules.{selected, validIn, decidedIn}
+use Rattle.inbox.specs.Inbox.{ballotsFor}
+use Rattle.inbox.specs.Columns.{listedIn}
+use Rattle.rounds.specs.declared.Round.{Round}
 use Rattle.rounds.specs.declared.TakeRefusal.{TakeRefusal}
 use Rattle.rounds.specs.declared.Taken.{Taken}
 use Rattle.rounds.specs.declared.Taking as taking
@@ -14,12 +27,86 @@ use Rattle.rounds.specs.declared.Asked.{Asked}
 use Rattle.rounds.specs.declared.Asking as asking
 use Rattle.rounds.specs.Taking.{afterSelection, afterValidation, afterDecision}
 
--- the plan that is selected, valid or decided, by the round; 0 where there is none
-abbrev pub planOf : Crew → ℕ → ℕ → ℕ → List ℕ → ℕ
-planOf crew run phase round bytes =
-    cond (eqb round 1) (selected crew run phase bytes)
-    (cond (eqb round 2) (validIn crew run phase bytes)
-    (decidedIn crew run phase bytes))
+-- a node's coming round: round k takes kind k
+abbrev pub comingRound : Node → Bool → Round
+comingRound d asked = record {
+  crew = d .crew;
+  header = record { kind = d .round; run = d .run; phase = d .phase };
+  asked = asked;
+}
+
+-- what slots say to a node with this round
+abbrev pub heardBy : Round → List ℕ → List Ballot
+heardBy round bytes =
+    ballotsFor (round .crew) (round .header .run) (round .header .phase) (round .header .kind) bytes
+
+-- a plan as an answer of selection, 0 as none; and the plan of an answer
+abbrev pub planIf : ℕ → Choice
+planIf v = cond (eqb v 0) nothing (plan v)
+
+abbrev pub planIn : Choice → ℕ
+planIn (plan v) = v
+planIn any = 0
+planIn nothing = 0
+
+-- What a round comes to with these ballots: the plan that is selected, valid or decided, by the kind of its messages;
+-- where the selection is asked for, what it answers.
+abbrev pub ruled : Round → List Ballot → Choice
+ruled round heard =
+    cond (eqb (round .header .kind) 1)
+    (cond (round .asked) (selection (classOf (round .crew)) (round .crew) heard)
+    (planIf (taken (classOf (round .crew)) (round .crew) heard)))
+    (cond (eqb (round .header .kind) 2) (planIf (validated (round .crew) heard))
+    (planIf (decision (classOf (round .crew)) (round .crew) (round .header .phase) heard)))
+
+abbrev pub outcomeOf : Round → List ℕ → Choice
+outcomeOf round bytes = ruled round (heardBy round bytes)
+
+-- it is a selection in class 3
+abbrev pub LooksBack : Round → Type 0
+LooksBack round = (classOf (round .crew) ≡ three) × (round .header .kind ≡ 1)
+
+-- what the slots list: by the flat array of histories where these are looked at; else it plays no part
+abbrev pub Listed : Round → List ℕ → (ℕ → List Entry) → Type 0
+Listed round histories h = LooksBack round → h ≡ listedIn histories (round .header .phase)
+
+-- a place for each slot and phase
+abbrev pub allPlaces : ℕ
+allPlaces = mostNodes * historySize
+
+-- the inbox is the crew's, and every node has a place in the columns
+pub record Inboxed (crew : Crew) (bytes : List ℕ) : Type 0 where
+  pub places : crew .n ≤ mostNodes
+  pub whole : length bytes ≡ slotSize * crew .n
+
+-- what the walk asks: the array of histories is empty and, where these are looked at, has room for every slot and phase
+pub record Walkable (round : Round) (bytes blank : List ℕ) : Type 0 where
+  pub own : Inboxed (round .crew) bytes
+  pub clear : blank ≡ replicate (length blank) 0
+  pub room : LooksBack round → round .header .phase * round .crew .n ≤ length blank
+
+-- there are no histories to look at; or few places are enough for them; or they have one for each slot and phase
+pub record Without (round : Round) (bytes : List ℕ) : Type 0 where
+  pub own : Inboxed (round .crew) bytes
+  pub unlisted : LooksBack round → ⊥
+
+pub record WithFew (round : Round) (bytes : List ℕ) (fill : ℕ) : Type 0 where
+  pub own : Inboxed (round .crew) bytes
+  pub empty : fill ≡ 0
+  pub few : round .header .phase * round .crew .n ≤ allPlaces / 8
+
+pub record WithAll (round : Round) (bytes : List ℕ) (fill : ℕ) : Type 0 where
+  pub own : Inboxed (round .crew) bytes
+  pub empty : fill ≡ 0
+  pub early : round .header .phase < spentPhase
+
+-- what is known of a node's round and its inbox
+pub record Heard (round : Round) (bytes : List ℕ) (fill : ℕ) : Type 0 where
+  pub own : Inboxed (round .crew) bytes
+  pub class-from : 1 ≤ round .crew .class
+  pub class-to : round .crew .class ≤ 3
+  pub early : round .header .phase < spentPhase
+  pub empty : round .header .kind ≡ 1 → fill ≡ 0
 
 -- the record after its coming round, which came to this plan
 abbrev pub afterPlan : Node → ℕ → Node

@@ -1,24 +1,54 @@
 // Asking for the coming selection, and taking a round: from an inbox's bytes to the next record.
-// What each answers stands in specs/Asking.antt and specs/Taking.antt. Crate tally runs the rules over the inbox.
+// What each answers stands in specs/Asking.antt and specs/Taking.antt, what private functions ask and promise in
+// specs/Steps.antt. Crate inbox walks the inbox into columns, crate tally runs the rules over these: what is behind the
+// walk has no inbox in its hands.
 use crew::Crew;
+use crew::MOST_NODES;
+use message::Header;
 use message::SLOT;
 use node::Node;
 use tally::Choice;
+use wire::PHASES;
 use wire::Plan;
 ghost use mathlib.Core.Path.{_≡_};
-ghost use Prim.Native.Nat.{_<_};
+ghost use mathlib.Core.List.{List};
+ghost use Prim.Native.Nat.{ℕ, _<_};
+ghost use lib.ListN.{getD};
+ghost use Rattle.wire.specs.Entry.{Entry};
 ghost use Rattle.wire.specs.Sizes.{spentPhase};
 ghost use Rattle.wire.specs.Outcome.{accepted};
 ghost use Rattle.node.specs.Place.{roundAfter};
-ghost use Rattle.tally.specs.Rules.{choiceAs};
+ghost use Rattle.inbox.specs.Columns.{columns, polled};
+ghost use Rattle.tally.specs.Rules.{slotsOf, choiceAs};
 ghost use Rattle.rounds.specs.Taking.{
   afterSelection,
   afterValidation,
   afterDecision,
   TakenFrom,
 };
-ghost use Rattle.rounds.specs.Steps.{planOf, afterPlan, refusedTake, refusedAsk};
+ghost use Rattle.rounds.specs.Steps.{
+  Walkable,
+  WithFew,
+  WithAll,
+  Without,
+  Heard,
+  Listed,
+  comingRound,
+  ruled,
+  outcomeOf,
+  planIf,
+  planIn,
+  afterPlan,
+  refusedTake,
+  refusedAsk,
+};
 ghost use Rattle.rounds.specs.Asking.{askAnswer, AskedFrom};
+
+// How many places the flat array of histories has: one for each slot and phase; or few, which are enough for a small
+// crew or an early phase, and are sooner cleared.
+const ALL_PLACES: usize = MOST_NODES * PHASES;
+
+const FEW_PLACES: usize = ALL_PLACES / 8;
 
 // Why a round is not taken, or a selection not told; `takeNumber` in specs/Taking.antt has 01's numbers.
 pub enum TakeRefusal {
@@ -113,18 +143,153 @@ fn after_decision(node: Node, plan: Plan) -> Node
     next
 }
 
-// The plan that a round comes to, 0 where it comes to none. It is handed what it needs of the record and not the
-// record, whose history would be copied.
-fn plan_of(crew: Crew, run: u32, phase: u8, round: u8, inbox: &[u8]) -> Plan
-    ensures { λ r. ⌜ r ≡ planOf crew run phase round (now (inbox .entry)) ⌝ }
+// A plan as an answer of selection; 0 is none.
+fn planned(plan: Plan) -> Choice
+    ensures { λ r. ⌜ choiceAs r ≡ planIf plan ⌝ }
 {
-    if round == Node::SELECTION {
-        return tally::select(crew, run, phase, inbox);
+    if plan == Node::NO_PLAN {
+        return Choice::Nothing;
     }
-    if round == Node::VALIDATION {
-        return tally::validate(crew, run, phase, inbox);
+    Choice::Plan(plan)
+}
+
+// A round that comes: of which crew, with what header on its messages, and whether its selection is only asked for.
+struct Round {
+    crew: Crew,
+    header: Header,
+    asked: bool,
+}
+
+// What the rule of the round says of the columns: a plan or none, and where the selection is only asked for, 'any' as
+// well.
+fn ruling(
+    round: Round,
+    present: &[bool; MOST_NODES],
+    votes: &[Plan; MOST_NODES],
+    stamps: &[u8; MOST_NODES],
+    histories: &[Plan],
+) -> Choice
+    ensures { λ r. ⌜ ((h : ℕ → List Entry) → Listed round (now (histories .entry)) h
+        → choiceAs r ≡ ruled round
+        (polled (columns (now (present .entry)) (now (votes .entry)) (now (stamps .entry))) h
+        (slotsOf (round .crew)))) ⌝ }
+{
+    let crew = round.crew;
+    let header = round.header;
+    if header.kind == message::SELECTION {
+        if round.asked {
+            return tally::choose(crew, header.phase, present, votes, stamps, histories);
+        }
+        return planned(tally::select(crew, header.phase, present, votes, stamps, histories));
     }
-    tally::decide(crew, run, phase, inbox)
+    if header.kind == message::VALIDATION {
+        return planned(tally::validate(crew, present, votes));
+    }
+    planned(tally::decide(crew, header.phase, present, votes, stamps))
+}
+
+// What the round comes to. The inbox is walked once, into columns, and the rule runs over these.
+fn come_to(round: Round, inbox: &[u8], histories: &mut [Plan]) -> Choice
+    requires { ⌜ Walkable round (now inbox) (now histories) ⌝ }
+    ensures { λ r. ⌜ choiceAs r ≡ outcomeOf round (now (inbox .entry)) ⌝ }
+{
+    let mut present = [false; MOST_NODES];
+    let mut votes = [Node::NO_PLAN; MOST_NODES];
+    let mut stamps = [Node::UNSTAMPED; MOST_NODES];
+    let header = round.header;
+    inbox::read_slots(
+        inbox,
+        header,
+        &mut present,
+        &mut votes,
+        &mut stamps,
+        histories,
+    );
+    ruling(round, &present, &votes, &stamps, histories)
+}
+
+// Without histories: only a selection in class 3 looks at them.
+fn come_without(round: Round, inbox: &[u8]) -> Choice
+    requires { ⌜ Without round (now inbox) ⌝ }
+    ensures { λ r. ⌜ choiceAs r ≡ outcomeOf round (now (inbox .entry)) ⌝ }
+{
+    let mut none = [Node::NO_PLAN; 1];
+    come_to(round, inbox, &mut none[..0])
+}
+
+// With histories of a crew or phase so small that few places are enough: they are sooner cleared.
+fn come_with_few(round: Round, inbox: &[u8], empty: Plan) -> Choice
+    requires { ⌜ WithFew round (now inbox) empty ⌝ }
+    ensures { λ r. ⌜ choiceAs r ≡ outcomeOf round (now (inbox .entry)) ⌝ }
+{
+    let mut histories = [empty; FEW_PLACES];
+    come_to(round, inbox, &mut histories)
+}
+
+// With histories of any crew and phase.
+fn come_with_all(round: Round, inbox: &[u8], empty: Plan) -> Choice
+    requires { ⌜ WithAll round (now inbox) empty ⌝ }
+    ensures { λ r. ⌜ choiceAs r ≡ outcomeOf round (now (inbox .entry)) ⌝ }
+{
+    let mut histories = [empty; ALL_PLACES];
+    come_to(round, inbox, &mut histories)
+}
+
+// What the round comes to, with as many places for histories as it takes. `empty` is what an empty place holds, where
+// there are any: see `unselected`.
+fn outcome(round: Round, inbox: &[u8], empty: Plan) -> Choice
+    requires { ⌜ Heard round (now inbox) empty ⌝ }
+    ensures { λ r. ⌜ choiceAs r ≡ outcomeOf round (now (inbox .entry)) ⌝ }
+{
+    let crew = round.crew;
+    let header = round.header;
+    let lists = (crew.class == Crew::CLASS_THREE) & (header.kind == message::SELECTION);
+    if lists {
+        let n = crew.n as usize;
+        if (header.phase as usize) * n <= FEW_PLACES {
+            return come_with_few(round, inbox, empty);
+        }
+        return come_with_all(round, inbox, empty);
+    }
+    come_without(round, inbox)
+}
+
+// A node's coming round: round k takes kind k.
+fn coming(node: Node, asked: bool) -> Round
+    ensures { λ r. ⌜ r ≡ comingRound node asked ⌝ }
+{
+    let crew = node.crew;
+    Round {
+        crew: crew,
+        header: Header {
+            kind: node.round as u16,
+            run: node.run,
+            phase: node.phase,
+        },
+        asked: asked,
+    }
+}
+
+// What the history has at the record's phase: before its selection, nothing. It fills the places of the histories: the
+// compiler, which cannot know that it is 0, fills them by itself then, and the archive needs no function of the C
+// library for it.
+fn unselected(node: Node) -> Plan
+    requires { ⌜ node .phase < spentPhase ⌝ }
+    ensures { λ r. ⌜ r ≡ getD (node .history) (node .phase) 0 ⌝ }
+{
+    let phase = node.phase as usize;
+    node.history[phase]
+}
+
+// The plan of an answer, 0 where it has none.
+fn plan_in(choice: Choice) -> Plan
+    ensures { λ r. ⌜ r ≡ planIn (choiceAs choice) ⌝ }
+{
+    match choice {
+        Choice::Plan(plan) => plan,
+        Choice::Any => Node::NO_PLAN,
+        Choice::Nothing => Node::NO_PLAN,
+    }
 }
 
 // The record after its coming round, which came to this plan.
@@ -158,10 +323,10 @@ pub fn take(node: Node, inbox: &[u8]) -> Taken
         if node.phase < Node::SPENT {
             let n = node.crew.n as usize;
             if inbox.len() == SLOT * n {
-                let plan = plan_of(node.crew, node.run, node.phase, node.round, inbox);
+                let choice = outcome(coming(node, false), inbox, unselected(node));
                 return Taken {
                     answer: Taking::Accepted,
-                    node: after_plan(node, plan),
+                    node: after_plan(node, plan_in(choice)),
                 };
             }
             return refuse_take(node, TakeRefusal::Inbox);
@@ -199,7 +364,7 @@ pub fn ask(node: Node, inbox: &[u8]) -> Asked
         if node.phase < Node::SPENT {
             let n = node.crew.n as usize;
             if inbox.len() == SLOT * n {
-                let choice = tally::choose(node.crew, node.run, node.phase, inbox);
+                let choice = outcome(coming(node, true), inbox, unselected(node));
                 return Asked {
                     answer: to_asking(choice),
                     node: node,

@@ -1,44 +1,84 @@
--- Selection from marks: marks for the backed slots, and how many slots 'any' counts, make selection's answer.
-use mathlib.Core.Path.{_≡_, refl, sym, ap₂, _∙_}
-use mathlib.Core.Bool.{Bool, true, false, false≢true}
+-- Selection from what is found: the plans that are backed, and whether enough slots count for 'any', make selection's
+-- answer.
+use mathlib.Core.Path.{_≡_, refl, sym, ap, ap₂, _∙_}
+use mathlib.Core.Bool.{Bool, true, false, _&&_}
 use mathlib.Core.List.{List}
 use Prim.Native.Nat.{ℕ, _+_, _*_, _<_}
-use lib.Dec.{ltb}
-use Rattle.crew.specs.declared.Crew.{Crew}
-use Rattle.crew.specs.Thresholds.{Class, one, two, three}
+use lib.Dec.{T, leb, ltb, eqb}
+use lib.ListN.{getD}
+use borrow.Author.Tests.{le-leb, eq-eqb}
 use Rattle.wire.specs.Entry.{Entry}
-use Rattle.ballot.specs.Selection.{Backing, nobody, sole, several, Choice, backed, enough, answer, selection}
+use Rattle.crew.specs.declared.Crew.{Crew}
+use Rattle.crew.specs.Thresholds.{Class, one, two, three, E}
+use Rattle.ballot.specs.Count.{tally, countIf}
+use Rattle.ballot.specs.Ballot.{Ballot, votes}
+use Rattle.ballot.specs.Selection.{Choice, possible, backed, backing, enough, answer, selection}
+use Rattle.ballot.proofs.Counting.{tally-has}
 use Rattle.inbox.specs.Columns.{Columns, polled}
-use Rattle.tally.specs.Marks.{Marks, marked, stampedWith, backingMarked, isBacked}
-use Rattle.tally.specs.Promises.{Counted, Bounded}
+use Rattle.tally.specs.declared.counts.Plans.{Plans}
+use Rattle.tally.specs.Marks.{
+  Marks,
+  marked,
+  voting,
+  votersOf,
+  stampedWith,
+  reaching,
+  joined,
+  backingAs,
+}
+use Rattle.tally.specs.Promises.{Counted, Bounded, Found}
 use Rattle.tally.proofs.Tallies.{tally-same}
-use Rattle.tally.proofs.Polling.{voteAt, onSlot, backing-polled, backing-same}
-use Rattle.tally.proofs.Ruling.{counting, unstamped}
+use Rattle.tally.proofs.Polling.{voteAt, onSlot, backing-polled, told-same}
+use Rattle.tally.proofs.Ruling.{counting, unstamped, backing-found, one-needs, two-needs}
+
+-- a marked slot has at least its own vote
+own-vote : (marks : List Bool) (votes : List ℕ) (n q : ℕ) → q < n → reaching marks marks votes n 1 q ≡ marked marks q
+own-vote marks votes n q less = go (marked marks q) refl
+  where
+    itself : marked marks q ≡ true → T (voting marks votes (getD votes q 0) q)
+    itself e = rw (e, eq-eqb (getD votes q 0) (getD votes q 0) refl) tt
+
+    go : (b : Bool) → marked marks q ≡ b → (b && leb 1 (votersOf marks votes n q)) ≡ b
+    go true e = le-leb 1 _ (tally-has (voting marks votes (getD votes q 0)) n q less (itself e))
+    go false e = refl
 
 module _ (crew : Crew) (read : Columns) (h : ℕ → List Entry) (n : ℕ) where
-  -- by a test that singles the backed slots out, and by marks that do
-  pub selection-tested : (class : Class) (test : ℕ → Bool) (votes : Backing) (slots : Bool) (choice : Choice)
-      → ((q : ℕ) → q < n → test q ≡ onSlot read h (backed class crew (polled read h n)) q)
-      → choice ≡ answer class votes slots
-      → votes ≡ backingMarked test (voteAt read h) n
-      → slots ≡ enough class crew (polled read h n)
-      → choice ≡ selection class crew (polled read h n)
-  unfolding selection
-  selection-tested class test votes slots choice are is is-votes is-enough =
-      let backs = backed class crew (polled read h n) in
-      is
-      ∙ ap₂ (answer class)
-      (is-votes
-      ∙ backing-same test (onSlot read h backs) (voteAt read h) n are
-      ∙ sym (backing-polled read h n backs)) is-enough
+  abbrev ballots : List Ballot
+  ballots = polled read h n
 
-  pub selection-marked : (class : Class) (marks : List Bool) (votes : Backing) (slots : Bool) (choice : Choice)
-      → Marks marks n (onSlot read h (backed class crew (polled read h n)))
-      → choice ≡ answer class votes slots
-      → votes ≡ backingMarked (marked marks) (voteAt read h) n
-      → slots ≡ enough class crew (polled read h n)
-      → choice ≡ selection class crew (polled read h n)
-  selection-marked class marks = selection-tested class (marked marks)
+  pub selection-found : (class : Class) (plans : Plans) {slots : Bool} {choice : Choice}
+      → choice ≡ answer class (backingAs plans) slots
+      → backingAs plans ≡ backing (backed class crew ballots) ballots
+      → slots ≡ enough class crew ballots
+      → choice ≡ selection class crew ballots
+  unfolding selection
+  selection-found class plans is is-backed is-enough = is ∙ ap₂ (answer class) is-backed is-enough
+
+  -- the plans that are backed, class by class
+  pub backing-one : {e : ℕ} → Bounded crew e → {plans : Plans}
+      → Found (read .present) (read .present) (read .votes) n (e + 1) plans
+      → backingAs plans ≡ backing (backed one crew ballots) ballots
+  unfolding backed
+  backing-one bounded found =
+      backing-found read h n (λ v. ltb (E crew) (countIf (votes v) ballots)) (read .present) _
+      (one-needs read h n crew bounded) found
+
+  pub backing-two : {e : ℕ} → Bounded crew e → (marks : List Bool)
+      → Marks marks n (onSlot read h (possible crew ballots)) → {plans : Plans}
+      → Found (read .present) marks (read .votes) n (crew .b + 1) plans
+      → backingAs plans ≡ backing (backed two crew ballots) ballots
+  unfolding backed
+  backing-two bounded marks are found =
+      backing-found read h n (λ v. ltb (crew .b) (countIf (λ k. possible crew ballots k && votes v k) ballots)) marks _
+      (two-needs read h n crew bounded marks are) found
+
+  pub backing-three : (marks : List Bool) → Marks marks n (onSlot read h (backed three crew ballots)) → {plans : Plans}
+      → Found marks marks (read .votes) n 1 plans → backingAs plans ≡ backing (backed three crew ballots) ballots
+  backing-three marks are found =
+      found .votes
+      ∙ told-same joined _ _ (onSlot read h (backed three crew ballots)) (voteAt read h) n
+      (λ q less. own-vote marks (read .votes) n q less ∙ are q less)
+      ∙ sym (backing-polled read h n (backed three crew ballots))
 
   -- whether there are enough slots for 'any', from the counts and the bound that the code goes by
   pub enough-one : {count e : ℕ} → Counted (marked (read .present)) n count → Bounded crew e
@@ -59,10 +99,3 @@ module _ (crew : Crew) (read : Columns) (h : ℕ → List Entry) (n : ℕ) where
   unfolding enough
   enough-three marks counted bounded are =
       ap₂ ltb (bounded .bound) (counted .count ∙ tally-same (marked marks) _ n are ∙ sym (unstamped read h n))
-
--- in class 3 the slots without a stamp play no part where a plan is backed
-pub backed-anyway : (votes : Backing) (slots : Bool) → isBacked votes ≡ true
-    → answer three votes false ≡ answer three votes slots
-backed-anyway nobody slots e = absurd (false≢true e)
-backed-anyway (sole u) slots e = refl
-backed-anyway several slots e = refl

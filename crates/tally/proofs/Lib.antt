@@ -1,9 +1,8 @@
-pub mod Countable
 pub mod Tallies
-pub mod Marking
+pub mod Telling
+pub mod Finding
+pub mod Backings
 pub mod Polling
 pub mod Listing
 pub mod Ruling
-pub mod BackingLaws
 pub mod Choosing
-pub mod Heard

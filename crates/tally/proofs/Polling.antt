@@ -6,9 +6,8 @@ use mathlib.Core.List.{List}
 use mathlib.Core.Option.{Option, none, some}
 use Prim.Native.Nat.{ℕ, zero, suc, _<_}
 use native.Mathlib.Omega.{arith}
-use lib.Dec.{ltb, eqb}
+use lib.Dec.{ltb}
 use lib.ListN.{length, getD}
-use borrow.Author.Tests.{le-ltb}
 use Rattle.wire.proofs.Tests.{and-true}
 use Rattle.wire.specs.Entry.{Entry}
 use Rattle.ballot.specs.Count.{tally, countIf, gather, push, holds}
@@ -17,13 +16,9 @@ use Rattle.ballot.specs.Least.{lower, least}
 use Rattle.ballot.specs.Selection.{besides, backing}
 use Rattle.ballot.proofs.Counting.{count-gather, length-count}
 use Rattle.inbox.specs.Columns.{Columns, rowOf, slotOf, polled}
-use Rattle.tally.specs.Marks.{Marks, marked, supporting, leastMarked, besidesMarked, backingMarked}
+use Rattle.tally.specs.Marks.{Marks, marked, voting, supporting, told, leastMarked, backingMarked}
 use Rattle.tally.proofs.Tallies.{tally-same}
-
--- no stamp is below 0
-never : (b : Bool) (stamp : ℕ) → (b || ltb stamp 0) ≡ b
-never true stamp = refl
-never false stamp = le-ltb stamp 0 (omega arith)
+use Rattle.tally.proofs.Backings.{besideIt, besidesMarked, backing-told}
 
 module _ (read : Columns) (h : ℕ → List Entry) where
   abbrev pub voteAt : ℕ → ℕ
@@ -59,27 +54,21 @@ module _ (read : Columns) (h : ℕ → List Entry) where
   supports-polled n vote below = count-polled n (λ k. votes vote k || ltb (k .stamp) below) _ (λ q less. refl)
 
   pub votes-polled : (n vote : ℕ)
-      → countIf (votes vote) (polled read h n)
-      ≡ tally (supporting (read .present) (read .votes) (read .stamps) vote 0) n
-  votes-polled n vote =
-      count-polled n (votes vote) _
-      (λ q less. ap (λ b. marked (read .present) q && b)
-      (sym (never (votes vote (rowOf read h q)) (getD (read .stamps) q 0))))
+      → countIf (votes vote) (polled read h n) ≡ tally (voting (read .present) (read .votes) vote) n
+  votes-polled n vote = count-polled n (votes vote) _ (λ q less. refl)
 
   -- votes among the slots that pass a test, which marks single out
   pub marked-polled : (n vote : ℕ) (p : Ballot → Bool) (marks : List Bool) → Marks marks n (onSlot p)
-      → countIf (λ k. p k && votes vote k) (polled read h n)
-      ≡ tally (supporting marks (read .votes) (read .stamps) vote 0) n
+      → countIf (λ k. p k && votes vote k) (polled read h n) ≡ tally (voting marks (read .votes) vote) n
   marked-polled n vote p marks are =
       count-polled n (λ k. p k && votes vote k) _
       (λ q less.
       sym (and-assoc (marked (read .present) q) (p (rowOf read h q)) (votes vote (rowOf read h q)))
-      ∙ ap₂ (λ a b. a && b) (sym (are q less ∙ on-slot p q))
-      (sym (never (votes vote (rowOf read h q)) (getD (read .stamps) q 0))))
+      ∙ ap (λ b. b && votes vote (rowOf read h q)) (sym (are q less ∙ on-slot p q)))
 
   -- the least vote of the ballots that pass a test
   pub least-polled : (n : ℕ) (p : Ballot → Bool) → least p (polled read h n) ≡ leastMarked (onSlot p) voteAt n
-  unfolding gather least leastMarked
+  unfolding gather least told
   least-polled zero p = refl
   least-polled (suc n) p =
       go (marked (read .present) n) ∙ ap (λ o. cond (onSlot p n) (lower (voteAt n) o) o) (least-polled n p)
@@ -93,10 +82,13 @@ module _ (read : Columns) (h : ℕ → List Entry) where
   -- which votes the ballots that pass a test have
   pub backing-polled : (n : ℕ) (p : Ballot → Bool) → backing p (polled read h n) ≡ backingMarked (onSlot p) voteAt n
   unfolding backing
-  backing-polled n p = ap (besides p (polled read h n)) (least-polled n p) ∙ go (leastMarked (onSlot p) voteAt n)
+  backing-polled n p =
+      ap (besides p (polled read h n)) (least-polled n p)
+      ∙ go (leastMarked (onSlot p) voteAt n)
+      ∙ backing-told (onSlot p) voteAt n
     where
       others : (v : ℕ) → countIf (λ m. p m && not (votes v m)) (polled read h n)
-          ≡ tally (λ q. onSlot p q && not (eqb (voteAt q) v)) n
+          ≡ tally (besideIt (onSlot p) voteAt v) n
       others v =
           count-polled n (λ m. p m && not (votes v m)) _
           (λ q less.
@@ -107,21 +99,11 @@ module _ (read : Columns) (h : ℕ → List Entry) where
       go none = refl
       go (some v) = rw (others v)
 
--- tests that agree below n have the same least vote and the same votes
-pub least-same : (a b : ℕ → Bool) (vote : ℕ → ℕ) (n : ℕ) → ((q : ℕ) → q < n → a q ≡ b q)
-    → leastMarked a vote n ≡ leastMarked b vote n
-unfolding leastMarked
-least-same a b vote zero same = refl
-least-same a b vote (suc n) same =
-    ap₂ (λ here o. cond here (lower (vote n) o) o) (same n (omega arith))
-    (least-same a b vote n (λ q less. same q (omega arith)))
-
-pub backing-same : (a b : ℕ → Bool) (vote : ℕ → ℕ) (n : ℕ) → ((q : ℕ) → q < n → a q ≡ b q)
-    → backingMarked a vote n ≡ backingMarked b vote n
-backing-same a b vote n same = ap (besidesMarked a vote n) (least-same a b vote n same) ∙ go (leastMarked b vote n)
-  where
-    go : (o : Option ℕ) → besidesMarked a vote n o ≡ besidesMarked b vote n o
-    go none = refl
-    go (some v) =
-        rw (tally-same (λ q. a q && not (eqb (vote q) v)) (λ q. b q && not (eqb (vote q) v)) n
-        (λ q less. ap (λ here. here && not (eqb (vote q) v)) (same q less)))
+-- tests that agree below n tell the same
+pub told-same : {S : Type 0} (more : S → ℕ → S) (start : S) (a b : ℕ → Bool) (value : ℕ → ℕ) (n : ℕ)
+    → ((q : ℕ) → q < n → a q ≡ b q) → told more start a value n ≡ told more start b value n
+unfolding told
+told-same more start a b value zero same = refl
+told-same more start a b value (suc n) same =
+    ap₂ (λ here s. cond here (more s (value n)) s) (same n (omega arith))
+    (told-same more start a b value n (λ q less. same q (omega arith)))

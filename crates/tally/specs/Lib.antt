@@ -1,3 +1,3 @@
 pub mod Marks
-pub mod Promises
 pub mod Rules
+pub mod Promises

@@ -1,35 +1,29 @@
--- `read_slots` meets its contract. The invariant: the columns hold the first q slots.
-use mathlib.Core.List.{List}
-use mathlib.Core.Option.{Option}
-use mathlib.Core.Path.{_≡_, refl, ap}
-use Prim.Native.Nat.{ℕ, _≤_, _-_}
+-- `read_slots` meets its contract.
+use Prim.Native.Nat.{_-_}
 use native.Mathlib.Omega.{arith}
 use borrow.Author.Needs.{needs}
-use denote.Ref.{now}
-use Rattle.ballot.specs.Ballot.{Ballot}
-use Rattle.message.specs.Reading.{readOf}
-use Rattle.inbox.proofs.Filling.{slot-part, filled-more}
-use Rattle.inbox.specs.Columns.{columns, filled}
-use Rattle.inbox.specs.Inbox.{slotAt, counted}
+use Rattle.inbox.specs.Columns.{columns}
+use Rattle.inbox.proofs.Walk.{Walked, walked-none, row-ends, walked-more, walked-all}
 use Rattle.inbox.proofs.read_slots.Statement.{statement}
 use Rattle.inbox.proofs.read_slots.Tie as tie
 
+-- the slots before q are in the columns and the rows
 abbrev Inv-loop : tie.InvT-loop
-Inv-loop inbox run phase round present₀ votes₀ stamps₀ n q₀ present votes stamps q =
-    (q ≤ n)
-    × (columns present votes stamps
-    ≡ filled (columns present₀ votes₀ stamps₀)
-    (λ k. counted run phase round (readOf (slotAt inbox k))) q)
+Inv-loop inbox coming present₀ votes₀ stamps₀ histories₀ n width from₀ q₀ present votes stamps histories from q =
+    Walked coming inbox (columns present₀ votes₀ stamps₀) histories₀ n width (columns present votes stamps) histories
+    from q
 
 abbrev μ-loop : tie.MeasureT-loop
-μ-loop inbox run phase round present₀ votes₀ stamps₀ n q₀ present votes stamps q = n - q
+μ-loop inbox coming present₀ votes₀ stamps₀ histories₀ n width from₀ q₀ present votes stamps histories from q = n - q
 
 slots-in-requires : tie.Need-slots-in-requires Inv-loop μ-loop
 slots-in-requires c κs = search needs
 
+row-width-requires : tie.Need-row-width-requires Inv-loop μ-loop
+row-width-requires c κs = search needs
+
 loop-holds : tie.Need-loop-holds Inv-loop μ-loop
-unfolding filled
-loop-holds c = (omega arith, refl)
+loop-holds c = walked-none (c .row-width .ensures)
 
 mul-start : tie.Need-mul-start Inv-loop μ-loop
 mul-start c = search needs
@@ -37,17 +31,35 @@ mul-start c = search needs
 add-end : tie.Need-add-end Inv-loop μ-loop
 add-end c = search needs
 
-sub-read-slot : tie.Need-sub-read-slot Inv-loop μ-loop
-sub-read-slot c = search needs
+add-to : tie.Need-add-to Inv-loop μ-loop
+add-to c = omega (arith, row-ends (c .before .loop .inv) (c .loop-test .taken))
 
-part-read-slot-start : tie.Need-part-read-slot-start Inv-loop μ-loop
-part-read-slot-start c = search needs
+sub-read-expected : tie.Need-sub-read-expected Inv-loop μ-loop
+sub-read-expected c = search needs
 
-part-read-slot-end : tie.Need-part-read-slot-end Inv-loop μ-loop
-part-read-slot-end c = search needs
+part-read-expected-start : tie.Need-part-read-expected-start Inv-loop μ-loop
+part-read-expected-start c = search needs
 
-read-slot-requires : tie.Need-read-slot-requires Inv-loop μ-loop
-read-slot-requires c κs = search needs
+part-read-expected-end : tie.Need-part-read-expected-end Inv-loop μ-loop
+part-read-expected-end c = search needs
+
+mul-read-expected : tie.Need-mul-read-expected Inv-loop μ-loop
+mul-read-expected c = omega (arith, row-ends (c .before .before .loop .inv) (c .before .loop-test .taken))
+
+sub-read-expected-2 : tie.Need-sub-read-expected-2 Inv-loop μ-loop
+sub-read-expected-2 c = search needs
+
+part-read-expected-start-2 : tie.Need-part-read-expected-start-2 Inv-loop μ-loop
+part-read-expected-start-2 c = search needs
+
+part-read-expected-end-2 : tie.Need-part-read-expected-end-2 Inv-loop μ-loop
+part-read-expected-end-2 c = row-ends (c .before .before .loop .inv) (c .before .loop-test .taken)
+
+read-expected-requires : tie.Need-read-expected-requires Inv-loop μ-loop
+read-expected-requires c κs = search needs
+
+put-expected-requires : tie.Need-put-expected-requires Inv-loop μ-loop
+put-expected-requires c κs = search needs
 
 add-q : tie.Need-add-q Inv-loop μ-loop
 add-q c = search needs
@@ -57,23 +69,19 @@ loop-less c = search needs
 
 loop-again : tie.Need-loop-again Inv-loop μ-loop
 loop-again c =
-    let looped = c .before .before .before .before .before .before in
-    let a = looped .before .before .before .args in
-    let turn = looped .loop in
-    let first = columns (now (a .present)) (now (a .votes)) (now (a .stamps)) in
-    let said : List ℕ → Option Ballot = λ slot. counted (a .run) (a .phase) (a .round) (readOf slot) in
-    let slot = ap said (slot-part (now (a .inbox)) (turn .q)) in (
-      omega arith,
-      filled-more first (λ k. said (slotAt (now (a .inbox)) k)) (turn .q) _ _ _ (turn .inv .1) slot
-          (c .read-slot .ensures),
-    )
+    let found = c .before .before .before .before .before .before in
+    let turn = found .before .before .before in
+    walked-more (turn .before .loop .inv) (turn .loop-test .taken) (found .read-expected .ensures)
+    (c .put-expected .ensures _)
+
+same-length : tie.Need-same-length Inv-loop μ-loop
+same-length c = c .before .loop .inv .size
 
 returns : tie.Need-returns Inv-loop μ-loop
 returns c =
-    let looped = c .before .loop in
-    let counted = c .before .before .slots-in in
-    let done : looped .q ≡ counted .result = omega (arith, looped .inv .0, c .loop-test .left) in
-    rw (← counted .ensures, ← done) (looped .inv .1)
+    let counted = c .before .before .before .slots-in in
+    walked-all (c .before .loop .inv) (c .loop-test .left) (counted .ensures)
+    (c .before .before .row-width .ensures)
 
 pub read-slots-spec : {M : Type 1} → statement M
 read-slots-spec =
@@ -82,14 +90,22 @@ read-slots-spec =
     Inv-loop
     μ-loop
     slots-in-requires
+    row-width-requires
     loop-holds
     mul-start
     add-end
-    sub-read-slot
-    part-read-slot-start
-    part-read-slot-end
-    read-slot-requires
+    add-to
+    sub-read-expected
+    part-read-expected-start
+    part-read-expected-end
+    mul-read-expected
+    sub-read-expected-2
+    part-read-expected-start-2
+    part-read-expected-end-2
+    read-expected-requires
+    put-expected-requires
     add-q
     loop-less
     loop-again
+    same-length
     returns)

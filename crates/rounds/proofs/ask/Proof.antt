@@ -1,19 +1,15 @@
 -- `ask` meets its contract.
+use mathlib.Core.Bool.{true}
 use mathlib.Core.Path.{sym, ap, _∙_, refl}
 use lib.Dec.{eqb}
-use lib.ListN.{length}
 use borrow.Author.Needs.{needs}
-use borrow.Author.Tests.{eqb-true}
 use denote.Ref.{now}
 use Rattle.wire.proofs.Tests.{both-true}
 use Rattle.wire.specs.Outcome.{accepted}
-use Rattle.crew.specs.Thresholds.{classOf}
-use Rattle.ballot.specs.Selection.{selection}
 use Rattle.node.specs.Soundness.{sound}
-use Rattle.tally.proofs.Countable.{choice-rule}
 use Rattle.rounds.specs.declared.TakeRefusal.the-variants.{Unsound, Spent, Inbox}
 use Rattle.rounds.proofs.Refusals.{own-fails, spent, other-length, all-pass, ask-tested, ask-refused}
-use Rattle.rounds.proofs.Sizes.{sound-countable, heard-ballots}
+use Rattle.rounds.proofs.Sizes.{sound-heard}
 use Rattle.rounds.proofs.ask.Statement.{statement}
 use Rattle.rounds.proofs.ask.Tie as tie
 
@@ -26,15 +22,32 @@ cast-n c = search needs
 mul-if3 : tie.Need-mul-if3
 mul-if3 c = search needs
 
-choose-requires : tie.Need-choose-requires
-choose-requires c κs = search needs
+coming-requires : tie.Need-coming-requires
+coming-requires c κs = search needs
+
+unselected-requires : tie.Need-unselected-requires
+unselected-requires c κs = search needs
+
+outcome-requires : tie.Need-outcome-requires
+outcome-requires c κs =
+    let sized = c .before .before in
+    let unspent = sized .before .before in
+    let asked = unspent .before .before in
+    let sounded = asked .before .before in
+    let a = sounded .before .before .args in
+    let own = rw (sounded .is-sound .ensures) at (asked .if1 .taken) in
+    let both = both-true (sound (a .node)) (eqb (a .node .round) 1) own in
+    rw (c .before .coming .ensures)
+    (sound-heard (a .node) true (now (a .inbox)) _ (both .0) (unspent .if2 .taken) (sized .if3 .taken)
+    (c .unselected .ensures))
 
 to-asking-requires : tie.Need-to-asking-requires
 to-asking-requires c κs = search needs
 
 returns : tie.Need-returns
 returns c =
-    let sized = c .before .before in
+    let coming = c .before .before .before in
+    let sized = coming .before in
     let unspent = sized .before .before in
     let asked = unspent .before .before in
     let sounded = asked .before .before in
@@ -46,10 +59,7 @@ returns c =
     let passes = ask-tested d bytes ∙ all-pass _ _ _ _ own (unspent .if2 .taken) whole in
     record {
       answer = c .to-asking .ensures
-          ∙ ap accepted
-          (c .before .choose .ensures
-          ∙ choice-rule (d .crew) (d .run) (d .phase) bytes (sound-countable d (length bytes) (both .0) whole)
-          ∙ ap (selection (classOf (d .crew)) (d .crew)) (heard-ballots d bytes 1 (eqb-true _ _ (both .1))))
+          ∙ ap accepted (rw (coming .coming .ensures, both .1) at (c .before .outcome .ensures))
           ∙ sym passes;
       node = refl;
     }
@@ -89,7 +99,9 @@ ask-spec =
     is-sound-requires
     cast-n
     mul-if3
-    choose-requires
+    coming-requires
+    unselected-requires
+    outcome-requires
     to-asking-requires
     returns
     refuse-ask-requires

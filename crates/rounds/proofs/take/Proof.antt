@@ -1,12 +1,14 @@
 -- `take` meets its contract.
+use mathlib.Core.Bool.{false}
+use Rattle.inbox.specs.Inbox.{ballots}
 use mathlib.Core.Path.{sym, ap, _∙_}
 use borrow.Author.Needs.{needs}
 use denote.Ref.{now}
 use Rattle.wire.specs.Outcome.{verdict, valueOr}
 use Rattle.rounds.specs.declared.TakeRefusal.the-variants.{Unsound, Spent, Inbox}
-use Rattle.rounds.specs.Steps.{afterPlan}
+use Rattle.rounds.specs.Steps.{planIn, afterPlan}
 use Rattle.rounds.proofs.Refusals.{own-fails, spent, other-length, all-pass, take-tested, take-refused}
-use Rattle.rounds.proofs.Sizes.{after-plan-round}
+use Rattle.rounds.proofs.Sizes.{sound-heard, after-ruled}
 use Rattle.rounds.proofs.take.Statement.{statement}
 use Rattle.rounds.proofs.take.Tie as tie
 
@@ -19,26 +21,45 @@ cast-n c = search needs
 mul-if3 : tie.Need-mul-if3
 mul-if3 c = search needs
 
-plan-of-requires : tie.Need-plan-of-requires
-plan-of-requires c κs = search needs
+coming-requires : tie.Need-coming-requires
+coming-requires c κs = search needs
+
+unselected-requires : tie.Need-unselected-requires
+unselected-requires c κs = search needs
+
+outcome-requires : tie.Need-outcome-requires
+outcome-requires c κs =
+    let sized = c .before .before in
+    let unspent = sized .before .before in
+    let asked = unspent .before .before in
+    let a = asked .before .before .before .args in
+    let ok = sym (asked .before .is-sound .ensures) ∙ asked .if1 .taken in
+    rw (c .before .coming .ensures)
+    (sound-heard (a .node) false (now (a .inbox)) _ ok (unspent .if2 .taken) (sized .if3 .taken) (c .unselected .ensures))
+
+plan-in-requires : tie.Need-plan-in-requires
+plan-in-requires c κs = search needs
 
 after-plan-requires : tie.Need-after-plan-requires
 after-plan-requires c κs = search needs
 
 returns : tie.Need-returns
 returns c =
-    let sized = c .before .before in
+    let outcome = c .before .before in
+    let coming = outcome .before .before in
+    let sized = coming .before in
     let unspent = sized .before .before in
     let asked = unspent .before .before in
     let a = asked .before .before .before .args in
     let ok = sym (asked .before .is-sound .ensures) ∙ asked .if1 .taken in
     let whole = sized .if3 .taken in
+    let came = rw (coming .coming .ensures) at (outcome .outcome .ensures) in
     let passes = take-tested (a .node) (now (a .inbox)) ∙ all-pass _ _ _ _ ok (unspent .if2 .taken) whole in
     record {
       answer = ap verdict (sym passes);
       node = c .after-plan .ensures
-          ∙ ap (afterPlan (a .node)) (c .before .plan-of .ensures)
-          ∙ after-plan-round (a .node) (now (a .inbox)) ok whole
+          ∙ ap (afterPlan (a .node)) (c .before .plan-in .ensures ∙ ap planIn came)
+          ∙ after-ruled (a .node) (ballots (a .node) (now (a .inbox)))
           ∙ ap (valueOr (a .node)) (sym passes);
     }
 
@@ -77,7 +98,10 @@ take-spec =
     is-sound-requires
     cast-n
     mul-if3
-    plan-of-requires
+    coming-requires
+    unselected-requires
+    outcome-requires
+    plan-in-requires
     after-plan-requires
     returns
     refuse-take-requires

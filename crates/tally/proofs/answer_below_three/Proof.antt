@@ -2,9 +2,12 @@
 use borrow.Author.Needs.{needs}
 use Rattle.tally.proofs.answer_below_three.Statement.{statement}
 use Rattle.tally.proofs.answer_below_three.Tie as tie
+use Rattle.tally.proofs.answer_below_three.Reads as reads
+use Rattle.tally.proofs.answer_below_three.Lts as lts
+use Rattle.tally.proofs.any_if.Reads as any-if-reads
 
-enum-known-backing : tie.Need-enum-known-backing
-enum-known-backing c = search needs
+enum-known-backed : tie.Need-enum-known-backed
+enum-known-backed c = search needs
 
 enum-told : tie.Need-enum-told
 enum-told c = search needs
@@ -20,7 +23,7 @@ any-if-requires-2 c κs = search needs
 
 returns : tie.Need-returns
 returns c =
-    let told = c .before .backing .given .1 in
+    let told = c .before .backed .given .1 in
     record { in-one = simp told; in-two = simp told }
 
 returns-2 : tie.Need-returns-2
@@ -33,7 +36,7 @@ pub answer-below-three-spec : {M : Type 1} → statement M
 answer-below-three-spec =
     tie.close
     (tie.spec
-    enum-known-backing
+    enum-known-backed
     enum-told
     any-if-requires
     enum-told-2

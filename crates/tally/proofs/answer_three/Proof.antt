@@ -2,9 +2,12 @@
 use borrow.Author.Needs.{needs}
 use Rattle.tally.proofs.answer_three.Statement.{statement}
 use Rattle.tally.proofs.answer_three.Tie as tie
+use Rattle.tally.proofs.answer_three.Reads as reads
+use Rattle.tally.proofs.answer_three.Lts as lts
+use Rattle.tally.proofs.any_if.Reads as any-if-reads
 
-enum-known-backing : tie.Need-enum-known-backing
-enum-known-backing c = search needs
+enum-known-backed : tie.Need-enum-known-backed
+enum-known-backed c = search needs
 
 enum-told : tie.Need-enum-told
 enum-told c = search needs
@@ -16,7 +19,7 @@ enum-told-2 : tie.Need-enum-told-2
 enum-told-2 c = search needs
 
 returns : tie.Need-returns
-returns c = simp (c .before .backing .given .1)
+returns c = simp (c .before .backed .given .1)
 
 returns-2 : tie.Need-returns-2
 returns-2 c = search needs
@@ -27,4 +30,4 @@ returns-3 c = search needs
 pub answer-three-spec : {M : Type 1} → statement M
 answer-three-spec =
     tie.close
-    (tie.spec enum-known-backing enum-told any-if-requires enum-told-2 returns returns-2 returns-3)
+    (tie.spec enum-known-backed enum-told any-if-requires enum-told-2 returns returns-2 returns-3)

@@ -1,46 +1,50 @@
 -- `choose` meets its contract.
-use mathlib.Core.Path.{sym, _∙_}
-use lib.ListN.{length}
-use borrow.Author.Needs.{needs}
 use denote.Ref.{now}
-use Rattle.tally.proofs.Countable.{Countable, countable-facts}
-use Rattle.tally.proofs.Heard.{ready, chosen}
-use Rattle.tally.specs.Rules.{choiceOf}
+use borrow.Author.Tests.{eq-eqb, ne-eqb}
+use borrow.Author.Needs.{needs}
 use Rattle.tally.proofs.choose.Statement.{statement}
 use Rattle.tally.proofs.choose.Tie as tie
+use Rattle.tally.proofs.choose.Reads as reads
+use Rattle.tally.proofs.choose.Lts as lts
+use Rattle.tally.proofs.choose_one.Reads as choose-one-reads
+use Rattle.tally.proofs.choose_three.Reads as choose-three-reads
+use Rattle.tally.proofs.choose_two.Reads as choose-two-reads
 
-is-countable-requires : tie.Need-is-countable-requires
-is-countable-requires c κs = search needs
-
-read-slots-requires : tie.Need-read-slots-requires
-read-slots-requires c κs = search needs
-
--- the inbox can be counted with
-facts : (c : tie.Then1)
-    → let a = c .before .before .before .args in
-    Countable (a .crew) (length (now (a .inbox)))
-facts c = countable-facts _ (c .before .is-countable .ensures) (c .if1 .taken)
-
-choose-by-class-requires : tie.Need-choose-by-class-requires
-choose-by-class-requires c κs =
-    let slots = c .before .before .before in
-    let tested = slots .before .before .before .before in
-    let a = tested .before .before .before .args in
-    ready (a .crew) (a .run) (a .phase) (now (a .inbox)) _ (facts tested) (slots .read-slots .ensures)
+choose-one-requires : tie.Need-choose-one-requires
+choose-one-requires c κs = search needs
 
 returns : tie.Need-returns
 returns c =
-    let slots = c .before .before .before .before in
-    let tested = slots .before .before .before .before in
-    let a = tested .before .before .before .args in
-    chosen (a .crew) (a .run) (a .phase) (now (a .inbox)) _ (facts tested) (slots .read-slots .ensures) _
-    (c .choose-by-class .ensures)
+    λ h are.
+    let a = c .before .before .before .before .args in
+    rw (eq-eqb _ _ (c .before .if1 .taken)) (c .choose-one .ensures (now (a .stamps)) h)
+
+choose-two-requires : tie.Need-choose-two-requires
+choose-two-requires c κs = search needs
 
 returns-2 : tie.Need-returns-2
-unfolding choiceOf
-returns-2 c = rw (sym (c .before .is-countable .ensures) ∙ c .if1 .left)
+returns-2 c =
+    λ h are.
+    let not-one = c .before .before .before .if1 .left in
+    rw (ne-eqb _ _ not-one, eq-eqb _ _ (c .before .if2 .taken)) (c .choose-two .ensures h)
+
+choose-three-requires : tie.Need-choose-three-requires
+choose-three-requires c κs = search needs
+
+returns-3 : tie.Need-returns-3
+returns-3 c =
+    λ h are.
+    let not-one = ne-eqb _ _ (c .before .before .before .if1 .left) in
+    let not-two = ne-eqb _ _ (c .before .if2 .left) in
+    rw (are (rw (not-one, not-two)), not-one, not-two) (c .choose-three .ensures)
 
 pub choose-spec : {M : Type 1} → statement M
 choose-spec =
     tie.close
-    (tie.spec is-countable-requires read-slots-requires choose-by-class-requires returns returns-2)
+    (tie.spec
+    choose-one-requires
+    returns
+    choose-two-requires
+    returns-2
+    choose-three-requires
+    returns-3)

@@ -1,15 +1,21 @@
 -- `choose_one` meets its contract.
-use borrow.Author.Needs.{needs}
-use denote.Ref.{now}
-use Rattle.crew.specs.Thresholds.{one}
+use Rattle.tally.proofs.Choosing.{selection-found, backing-one, enough-one}
 use Rattle.inbox.specs.Columns.{columns}
-use Rattle.tally.proofs.Choosing.{selection-marked, enough-one}
-use Rattle.tally.proofs.Ruling.{backed-one-marks}
+use Rattle.crew.specs.Thresholds.{one}
+use denote.Ref.{now}
+use borrow.Author.Needs.{needs}
 use Rattle.tally.proofs.choose_one.Statement.{statement}
 use Rattle.tally.proofs.choose_one.Tie as tie
+use Rattle.tally.proofs.choose_one.Reads as reads
+use Rattle.tally.proofs.choose_one.Lts as lts
+use Rattle.tally.proofs.answer_below_three.Reads as answer-below-three-reads
+use Rattle.tally.proofs.bound.Reads as bound-reads
+use Rattle.tally.proofs.counts.count_marks.Reads as count-marks-reads
+use Rattle.tally.proofs.counts.find_plans.Reads as find-plans-reads
+use Rattle.tally.proofs.slots_of.Reads as slots-of-reads
 
-cast-n : tie.Need-cast-n
-cast-n c = search needs
+slots-of-requires : tie.Need-slots-of-requires
+slots-of-requires c κs = search needs
 
 bound-requires : tie.Need-bound-requires
 bound-requires c κs = search needs
@@ -17,11 +23,11 @@ bound-requires c κs = search needs
 count-marks-requires : tie.Need-count-marks-requires
 count-marks-requires c κs = search needs
 
-mark-above-requires : tie.Need-mark-above-requires
-mark-above-requires c κs = search needs
+add-find-plans : tie.Need-add-find-plans
+add-find-plans c = search needs
 
-backing-of-requires : tie.Need-backing-of-requires
-backing-of-requires c κs = search needs
+find-plans-requires : tie.Need-find-plans-requires
+find-plans-requires c κs = search needs
 
 mul-answer-below-three : tie.Need-mul-answer-below-three
 mul-answer-below-three c = search needs
@@ -31,28 +37,29 @@ answer-below-three-requires c κs = search needs
 
 returns : tie.Need-returns
 returns c =
-    λ h.
-    let backed = c .before .before .before in
-    let counted = backed .before .before in
+    λ stamps h.
+    let found = c .before in
+    let counted = found .before in
     let bounded = counted .before in
-    let a = bounded .before .before .args in
-    let backs = backed .mark-above .last .0 in
-    let n = a .crew .n in
-    let read = columns (now (a .present)) (now (a .votes)) (now (a .stamps)) in
-    selection-marked (a .crew) read h n one backs _ _ _
-    (backed-one-marks read h n (a .crew) backs (bounded .bound .ensures) (backed .mark-above .ensures))
-    (c .answer-below-three .ensures .in-one) (c .before .backing-of .ensures)
-    (enough-one (a .crew) read h n (counted .count-marks .ensures) (bounded .bound .ensures))
+    let placed = bounded .before in
+    let a = placed .before .args in
+    let read = columns (now (a .present)) (now (a .votes)) stamps in
+    let n = placed .slots-of .result in
+    let e = bounded .bound .ensures in
+    rw (← placed .slots-of .ensures .same)
+    (selection-found (a .crew) read h n one (found .find-plans .result) (c .answer-below-three .ensures .in-one)
+    (backing-one (a .crew) read h n e (found .find-plans .ensures))
+    (enough-one (a .crew) read h n (counted .count-marks .ensures) e))
 
 pub choose-one-spec : {M : Type 1} → statement M
 choose-one-spec =
     tie.close
     (tie.spec
-    cast-n
+    slots-of-requires
     bound-requires
     count-marks-requires
-    mark-above-requires
-    backing-of-requires
+    add-find-plans
+    find-plans-requires
     mul-answer-below-three
     answer-below-three-requires
     returns)

@@ -1,15 +1,24 @@
 -- `choose_two` meets its contract.
-use borrow.Author.Needs.{needs}
-use denote.Ref.{now}
-use Rattle.crew.specs.Thresholds.{two}
+use lib.ListN.{replicate}
+use Rattle.tally.proofs.Choosing.{selection-found, backing-two, enough-two}
+use Rattle.tally.proofs.Ruling.{possible-marks}
 use Rattle.inbox.specs.Columns.{columns}
-use Rattle.tally.proofs.Choosing.{selection-marked, enough-two}
-use Rattle.tally.proofs.Ruling.{possible-marks, backed-two-marks}
+use Rattle.crew.specs.Thresholds.{two}
+use denote.Ref.{now}
+use borrow.Author.Needs.{needs}
 use Rattle.tally.proofs.choose_two.Statement.{statement}
 use Rattle.tally.proofs.choose_two.Tie as tie
+use Rattle.tally.proofs.choose_two.Reads as reads
+use Rattle.tally.proofs.choose_two.Lts as lts
+use Rattle.tally.proofs.answer_below_three.Reads as answer-below-three-reads
+use Rattle.tally.proofs.bound.Reads as bound-reads
+use Rattle.tally.proofs.counts.count_marks.Reads as count-marks-reads
+use Rattle.tally.proofs.counts.find_plans.Reads as find-plans-reads
+use Rattle.tally.proofs.counts.mark_possible.Reads as mark-possible-reads
+use Rattle.tally.proofs.slots_of.Reads as slots-of-reads
 
-cast-n : tie.Need-cast-n
-cast-n c = search needs
+slots-of-requires : tie.Need-slots-of-requires
+slots-of-requires c κs = search needs
 
 cast-b : tie.Need-cast-b
 cast-b c = search needs
@@ -20,14 +29,20 @@ bound-requires c κs = search needs
 count-marks-requires : tie.Need-count-marks-requires
 count-marks-requires c κs = search needs
 
-mark-above-requires : tie.Need-mark-above-requires
-mark-above-requires c κs = search needs
+add-find-plans : tie.Need-add-find-plans
+add-find-plans c = search needs
 
-mark-above-requires-2 : tie.Need-mark-above-requires-2
-mark-above-requires-2 c κs = search needs
+slice-aggregate-mark-possible : tie.Need-slice-aggregate-mark-possible
+slice-aggregate-mark-possible c = search needs
 
-backing-of-requires : tie.Need-backing-of-requires
-backing-of-requires c κs = search needs
+mark-possible-requires : tie.Need-mark-possible-requires
+mark-possible-requires c κs = search needs
+
+add-find-plans-2 : tie.Need-add-find-plans-2
+add-find-plans-2 c = search needs
+
+find-plans-requires : tie.Need-find-plans-requires
+find-plans-requires c κs = search needs
 
 add-answer-below-three : tie.Need-add-answer-below-three
 add-answer-below-three c = search needs
@@ -38,32 +53,35 @@ answer-below-three-requires c κs = search needs
 returns : tie.Need-returns
 returns c =
     λ h.
-    let backed = c .before .before .before in
-    let possible = backed .before .before .before in
-    let counted = possible .before .before in
+    let found = c .before in
+    let marked = found .before .before in
+    let counted = marked .before .before .before in
     let bounded = counted .before in
-    let a = bounded .before .before .before .args in
-    let marks = possible .mark-above .last .0 in
-    let backs = backed .mark-above2 .last .0 in
-    let n = a .crew .n in
+    let placed = bounded .before .before in
+    let a = placed .before .args in
     let read = columns (now (a .present)) (now (a .votes)) (now (a .stamps)) in
-    let are = possible-marks read h n (a .crew) marks (bounded .bound .ensures) (possible .mark-above .ensures) in
-    selection-marked (a .crew) read h n two backs _ _ _
-    (backed-two-marks read h n (a .crew) marks are backs (backed .mark-above2 .ensures))
-    (c .answer-below-three .ensures .in-two) (c .before .backing-of .ensures)
-    (enough-two (a .crew) read h n (counted .count-marks .ensures) (bounded .bound .ensures))
+    let n = placed .slots-of .result in
+    let e = bounded .bound .ensures in
+    let marks = marked .mark-possible .last .0 in
+    let possible = possible-marks read h n (a .crew) e (replicate 1 0) 0 marks (marked .mark-possible .ensures) in
+    rw (← placed .slots-of .ensures .same)
+    (selection-found (a .crew) read h n two (found .find-plans .result) (c .answer-below-three .ensures .in-two)
+    (backing-two (a .crew) read h n e marks possible (found .find-plans .ensures))
+    (enough-two (a .crew) read h n (counted .count-marks .ensures) e))
 
 pub choose-two-spec : {M : Type 1} → statement M
 choose-two-spec =
     tie.close
     (tie.spec
-    cast-n
+    slots-of-requires
     cast-b
     bound-requires
     count-marks-requires
-    mark-above-requires
-    mark-above-requires-2
-    backing-of-requires
+    add-find-plans
+    slice-aggregate-mark-possible
+    mark-possible-requires
+    add-find-plans-2
+    find-plans-requires
     add-answer-below-three
     answer-below-three-requires
     returns)

@@ -1,59 +1,26 @@
 -- `select` meets its contract.
-use mathlib.Core.Path.{sym, _∙_}
-use lib.ListN.{length}
-use borrow.Author.Needs.{needs}
 use denote.Ref.{now}
-use Rattle.tally.proofs.Countable.{Countable, countable-facts}
-use Rattle.tally.proofs.Heard.{ready, taken-heard}
-use Rattle.tally.specs.Rules.{choiceOf}
+use Rattle.ballot.specs.Selection.{taken}
+use borrow.Author.Needs.{needs}
 use Rattle.tally.proofs.select.Statement.{statement}
 use Rattle.tally.proofs.select.Tie as tie
+use Rattle.tally.proofs.select.Reads as reads
+use Rattle.tally.proofs.select.Lts as lts
+use Rattle.tally.proofs.choose.Reads as choose-reads
+use Rattle.tally.proofs.take_on.Reads as take-on-reads
 
-is-countable-requires : tie.Need-is-countable-requires
-is-countable-requires c κs = search needs
-
-read-slots-requires : tie.Need-read-slots-requires
-read-slots-requires c κs = search needs
-
--- the inbox can be counted with
-facts : (c : tie.Then1)
-    → let a = c .before .before .before .args in
-    Countable (a .crew) (length (now (a .inbox)))
-facts c = countable-facts _ (c .before .is-countable .ensures) (c .if1 .taken)
-
-choose-by-class-requires : tie.Need-choose-by-class-requires
-choose-by-class-requires c κs =
-    let slots = c .before .before .before in
-    let tested = slots .before .before .before .before in
-    let a = tested .before .before .before .args in
-    ready (a .crew) (a .run) (a .phase) (now (a .inbox)) _ (facts tested) (slots .read-slots .ensures)
+choose-requires : tie.Need-choose-requires
+choose-requires c κs = search needs
 
 take-on-requires : tie.Need-take-on-requires
-take-on-requires c κs =
-    let chosen = c .before .before .before in
-    let slots = chosen .before .before .before .before in
-    facts (slots .before .before .before .before) .places
+take-on-requires c κs = search needs
 
 returns : tie.Need-returns
+unfolding taken
 returns c =
-    let chosen = c .before .before .before .before in
-    let slots = chosen .before .before .before .before in
-    let tested = slots .before .before .before .before in
-    let a = tested .before .before .before .args in
-    taken-heard (a .crew) (a .run) (a .phase) (now (a .inbox)) _ (facts tested) (slots .read-slots .ensures) _ _
-    (chosen .choose-by-class .ensures) (c .take-on .ensures)
-
-returns-2 : tie.Need-returns-2
-unfolding choiceOf
-returns-2 c = rw (sym (c .before .is-countable .ensures) ∙ c .if1 .left)
+    λ h are.
+    let a = c .before .before .before .args in
+    rw (← c .before .choose .ensures h are) (c .take-on .ensures (now (a .stamps)) h)
 
 pub select-spec : {M : Type 1} → statement M
-select-spec =
-    tie.close
-    (tie.spec
-    is-countable-requires
-    read-slots-requires
-    choose-by-class-requires
-    take-on-requires
-    returns
-    returns-2)
+select-spec = tie.close (tie.spec choose-requires take-on-requires returns)

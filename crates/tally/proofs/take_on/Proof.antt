@@ -2,6 +2,9 @@
 use borrow.Author.Needs.{needs}
 use Rattle.tally.proofs.take_on.Statement.{statement}
 use Rattle.tally.proofs.take_on.Tie as tie
+use Rattle.tally.proofs.take_on.Reads as reads
+use Rattle.tally.proofs.take_on.Lts as lts
+use Rattle.tally.proofs.any_plan.Reads as any-plan-reads
 
 enum-known-choice : tie.Need-enum-known-choice
 enum-known-choice c = search needs
@@ -16,13 +19,13 @@ enum-told-2 : tie.Need-enum-told-2
 enum-told-2 c = search needs
 
 returns : tie.Need-returns
-returns c = λ h. simp (c .before .choice .given .1)
+returns c = λ stamps h. simp (c .before .choice .given .1)
 
 returns-2 : tie.Need-returns-2
-returns-2 c = λ h. simp (c .before .enum-told .given .1) (c .any-plan .ensures h)
+returns-2 c = λ stamps h. simp (c .before .enum-told .given .1) (c .any-plan .ensures stamps h)
 
 returns-3 : tie.Need-returns-3
-returns-3 c = λ h. simp (c .enum-told2 .given .1)
+returns-3 c = λ stamps h. simp (c .enum-told2 .given .1)
 
 pub take-on-spec : {M : Type 1} → statement M
 take-on-spec =

@@ -1,43 +1,62 @@
 -- `validate` meets its contract.
-use mathlib.Core.Path.{sym, _∙_}
-use lib.ListN.{length}
-use borrow.Author.Needs.{needs}
+use Rattle.tally.proofs.Ruling.{least-found, valid-needs}
+use Rattle.inbox.specs.Columns.{columns, polled}
+use Rattle.ballot.specs.Validation.{valid, validated}
 use denote.Ref.{now}
-use Rattle.tally.proofs.Countable.{Countable, countable-facts}
-use Rattle.tally.proofs.Heard.{valid-heard}
-use Rattle.tally.specs.Rules.{validIn}
+use mathlib.Core.Path.{_∙_}
+use borrow.Author.Needs.{needs}
 use Rattle.tally.proofs.validate.Statement.{statement}
 use Rattle.tally.proofs.validate.Tie as tie
+use Rattle.tally.proofs.validate.Reads as reads
+use Rattle.tally.proofs.validate.Lts as lts
+use Rattle.tally.proofs.counts.find_plans.Reads as find-plans-reads
+use Rattle.tally.proofs.least_of.Reads as least-of-reads
+use Rattle.tally.proofs.slots_of.Reads as slots-of-reads
 
-is-countable-requires : tie.Need-is-countable-requires
-is-countable-requires c κs = search needs
+slots-of-requires : tie.Need-slots-of-requires
+slots-of-requires c κs = search needs
 
-read-slots-requires : tie.Need-read-slots-requires
-read-slots-requires c κs = search needs
+cast-half : tie.Need-cast-half
+cast-half c = search needs
 
--- the inbox can be counted with
-facts : (c : tie.Then1)
-    → let a = c .before .before .before .args in
-    Countable (a .crew) (length (now (a .inbox)))
-facts c = countable-facts _ (c .before .is-countable .ensures) (c .if1 .taken)
+cast-half-2 : tie.Need-cast-half-2
+cast-half-2 c = search needs
 
-least-valid-requires : tie.Need-least-valid-requires
-least-valid-requires c κs =
-    let slots = c .before .before .before in
-    let tested = slots .before .before .before .before in
-    facts tested .places
+add-half : tie.Need-add-half
+add-half c = search needs
+
+add-find-plans : tie.Need-add-find-plans
+add-find-plans c = search needs
+
+find-plans-requires : tie.Need-find-plans-requires
+find-plans-requires c κs = search needs
+
+least-of-requires : tie.Need-least-of-requires
+least-of-requires c κs = search needs
 
 returns : tie.Need-returns
+unfolding validated
 returns c =
-    let slots = c .before .before .before .before in
-    let tested = slots .before .before .before .before in
-    let a = tested .before .before .before .args in
-    valid-heard (a .crew) (a .run) (a .phase) (now (a .inbox)) _ (facts tested) (slots .read-slots .ensures) _
-    (c .least-valid .ensures)
-
-returns-2 : tie.Need-returns-2
-unfolding validIn
-returns-2 c = rw (sym (c .before .is-countable .ensures) ∙ c .if1 .left)
+    λ stamps h.
+    let found = c .before in
+    let placed = found .before .before .before in
+    let a = placed .before .args in
+    let read = columns (now (a .present)) (now (a .votes)) stamps in
+    let n = placed .slots-of .result in
+    rw (← placed .slots-of .ensures .same)
+    (c .least-of .ensures
+    ∙ least-found read h n (valid (a .crew) (polled read h n)) (read .present) _ (valid-needs read h n (a .crew))
+    (found .find-plans .ensures))
 
 pub validate-spec : {M : Type 1} → statement M
-validate-spec = tie.close (tie.spec is-countable-requires read-slots-requires least-valid-requires returns returns-2)
+validate-spec =
+    tie.close
+    (tie.spec
+    slots-of-requires
+    cast-half
+    cast-half-2
+    add-half
+    add-find-plans
+    find-plans-requires
+    least-of-requires
+    returns)

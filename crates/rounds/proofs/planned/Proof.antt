@@ -1,0 +1,15 @@
+-- `planned` meets its contract.
+use borrow.Author.Tests.{eq-eqb, ne-eqb}
+use Rattle.rounds.proofs.planned.Statement.{statement}
+use Rattle.rounds.proofs.planned.Tie as tie
+use Rattle.rounds.proofs.planned.Reads as reads
+use Rattle.rounds.proofs.planned.Lts as lts
+
+returns : tie.Need-returns
+returns c = rw (eq-eqb _ _ (c .if1 .taken))
+
+returns-2 : tie.Need-returns-2
+returns-2 c = rw (ne-eqb _ _ (c .if1 .left))
+
+pub planned-spec : {M : Type 1} → statement M
+planned-spec = tie.close (tie.spec returns returns-2)
