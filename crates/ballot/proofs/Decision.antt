@@ -1,21 +1,21 @@
 -- Decision by counts: what is decided is the least plan that stands in D slots, and in classes 2 and 3 only votes with
 -- the phase as stamp decide. Builds on specs/Decision.antt.
 use mathlib.Core.Path.{_≡_, ap}
-use mathlib.Core.Bool.{Bool, _&&_}
+use mathlib.Core.Bool.{_&&_}
 use mathlib.Core.List.{List}
 use mathlib.Core.Logic.{_≢_}
 use Prim.Native.Nat.{ℕ, _≤_, _<_}
 use native.Mathlib.Omega.{arith}
 use lib.Dec.{T, eqb→eq}
-use Rattle.wire.proofs.Tests.{tests, and-T, T-and}
+use Rattle.wire.proofs.Tests.{tests, and-T}
 use Rattle.crew.specs.declared.Crew.{Crew}
 use Rattle.crew.specs.Thresholds.{Class, one, two, three}
 use Rattle.ballot.specs.Count.{countIf}
 use Rattle.ballot.specs.Ballot.{Ballot, votes}
 use Rattle.ballot.specs.Decision.{fresh, decides, decision}
-use Rattle.ballot.specs.Least.{least, leastOf, orZero}
+use Rattle.ballot.specs.Least.{least, leastOf}
 use Rattle.ballot.proofs.Counting.{count-le}
-use Rattle.ballot.proofs.Least.{withVote, passes, least-agree, leastOf-passes, leastOf-some, leastOf-least}
+use Rattle.ballot.proofs.Least.{passes, leastOf-passes, leastOf-some, leastOf-least}
 
 -- classes 2 and 3, in which validation stamps a vote
 abbrev pub Stamps : Class → Type 0
@@ -38,34 +38,6 @@ module _ (class : Class) (crew : Crew) (phase : ℕ) (ballots : List Ballot) whe
       → T (decides class crew phase ballots (decision class crew phase ballots))
   unfolding decision
   decision-decides = leastOf-passes (decides class crew phase ballots) ballots
-
-  -- It is enough to look at the fresh ballots: a plan that decides stands in one of them.
-  pub decision-fresh : 0 < crew .d → decision class crew phase ballots
-      ≡ orZero (least (λ m. fresh class phase m && decides class crew phase ballots (m .vote)) ballots)
-  unfolding decision leastOf decides
-  decision-fresh quorum = ap orZero (least-agree many few ballots ballots stands decides-too)
-    where
-      many : Ballot → Bool
-      many m = decides class crew phase ballots (m .vote)
-
-      few : Ballot → Bool
-      few m = fresh class phase m && many m
-
-      stands : (v : ℕ) → 0 < countIf (withVote many v) ballots → 0 < countIf (withVote few v) ballots
-      stands v h =
-          let d = passes (decides class crew phase ballots) ballots v h in
-          let among = count-le (λ m. fresh class phase m && votes v m) (withVote few v) ballots λ m t.
-          let x = and-T (fresh class phase m) (votes v m) t in
-          let same : T (many m) = rw (eqb→eq (m .vote) v (x .1)) d in
-          T-and (few m) (votes v m) (T-and (fresh class phase m) (many m) (x .0) same) (x .1) in
-          omega (tests, among, d)
-
-      decides-too : (v : ℕ) → 0 < countIf (withVote few v) ballots → 0 < countIf (withVote many v) ballots
-      decides-too v h =
-          let part = count-le (withVote few v) (withVote many v) ballots λ m t.
-          let x = and-T (few m) (votes v m) t in
-          T-and (many m) (votes v m) (and-T (fresh class phase m) (many m) (x .0) .1) (x .1) in
-          omega (arith, part)
 
   module _ (quorum : 0 < crew .d) (v : ℕ) (d : T (decides class crew phase ballots v)) where
     -- a plan that decides is a slot's vote

@@ -85,8 +85,8 @@ module _ (crew : Crew) (coming : Header) (bytes : List ℕ) (places : ℕ) (read
       (omega (arith, row-long blank (coming .phase) q inside))
       (row-clear places (coming .phase) q)))
 
-  -- what the columns mean: the ballots that count, in any round with what each slot that counts lists; and in a selection
-  -- with what the array lists, where it has a place for each slot and each phase before the coming one
+  -- what the columns mean: the ballots that count, in any round with what each slot that counts lists; and in a
+  -- selection with what the array lists, where it has a place for each slot and each phase before the coming one
   pub record Mean : Type 0 where
     pub heard : Polls (λ q. entriesOf (slots q))
     pub listed : coming .kind ≡ 1 → coming .phase * crew .n ≤ places → Polls (listedIn histories (coming .phase))

@@ -90,5 +90,6 @@ after-ruled d heard = by-round (eqb (d .round) 1) (eqb (d .round) 2)
     by-round false false = ap (afterDecision d) (plan-kept decided)
 
 -- an array that is filled with nothing is empty
-pub clear-array : (places : ℕ) {fill : ℕ} → fill ≡ 0 → replicate places fill ≡ replicate (length (replicate places fill)) 0
+pub clear-array : (places : ℕ) {fill : ℕ} → fill ≡ 0
+    → replicate places fill ≡ replicate (length (replicate places fill)) 0
 clear-array places {fill} is = ap (replicate places) is ∙ ap (λ n. replicate n 0) (sym (length-replicate places fill))

@@ -52,7 +52,8 @@ module _ (row : List ℕ) (v t : ℕ) where
   first-phase : (from count : ℕ) → times from (suc count)
       ≡ countIf (isEntry t v) (entryOf from (getD row from 0)) + times (from + 1) count
   unfolding entriesFrom
-  first-phase from count = count-append (isEntry t v) (entryOf from (getD row from 0)) (entriesFrom row (from + 1) count)
+  first-phase from count =
+      count-append (isEntry t v) (entryOf from (getD row from 0)) (entriesFrom row (from + 1) count)
 
   -- phases after it do not list it
   later-phases : (from count : ℕ) → t < from → times from count ≡ 0
@@ -72,7 +73,8 @@ module _ (row : List ℕ) (v t : ℕ) where
       by-equality from t
       (λ here.
       let all = lt-ltb t (from + suc count) (omega arith) in
-      let own : countIf (isEntry t v) (entryOf from (getD row from 0)) ≡ bit stands = rw here (own-phase (getD row t 0)) in
+      let own : countIf (isEntry t v) (entryOf from (getD row from 0)) ≡ bit stands =
+      rw here (own-phase (getD row t 0)) in
       rw all (omega (arith, first-phase from count, own, later-phases (from + 1) count (omega arith))))
       (λ other.
       let next : from + 1 + count ≡ from + suc count = omega arith in
@@ -98,5 +100,6 @@ place-lists read histories phases v t q =
         ≡ ((inside && ltb 0 v) && eqb (getD histories (phases * q + t) 0) v)
     go true e =
         ap (λ plan. ltb 0 v && eqb plan v)
-        (getD-take phases (drop (phases * q) histories) t 0 (ltb-true t phases e) ∙ getD-drop (phases * q) histories t 0)
+        (getD-take phases (drop (phases * q) histories) t 0 (ltb-true t phases e)
+        ∙ getD-drop (phases * q) histories t 0)
     go false e = refl

@@ -169,7 +169,8 @@ module _ (read : Columns) (h : ℕ → List Entry) (n : ℕ) where
         ∙ ap (ltb (validAbove crew / 2)) (sym (votes-polled read h n v))
         ∙ sym (half (validAbove crew) _)
 
-    pub decides-needs : (class : Class) (phase : ℕ) (marks : List Bool) → Marks marks n (onSlot read h (fresh class phase))
+    pub decides-needs : (class : Class) (phase : ℕ) (marks : List Bool)
+        → Marks marks n (onSlot read h (fresh class phase))
         → (v : ℕ) → leb (crew .d) (tally (voting marks (read .votes) v) n) ≡ decides class crew phase ballots v
     unfolding decides
     decides-needs class phase marks are v =

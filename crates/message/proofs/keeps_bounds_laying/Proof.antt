@@ -88,8 +88,9 @@ returns-4 : tie.Need-returns-4
 returns-4 c =
     let other = c .before .before in
     let held = other .before .before .before .pre in
+    let body = kind-other (held .of-kind) (other .if1 .left) (c .before .if3 .left) in
     record {
-      answer = simp (kind-other (held .of-kind) (other .if1 .left) (c .before .if3 .left), c .decision-keeps-bounds .ensures);
+      answer = simp (body, c .decision-keeps-bounds .ensures);
       lays = simp (ne-eqb _ _ (other .if1 .left));
     }
 

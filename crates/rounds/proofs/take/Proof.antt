@@ -35,7 +35,8 @@ outcome-requires c κs =
     let a = asked .before .before .before .args in
     let ok = sym (asked .before .is-sound .ensures) ∙ asked .if1 .taken in
     rw (c .before .coming .ensures)
-    (sound-heard (a .node) false (now (a .inbox)) _ ok (unspent .if2 .taken) (sized .if3 .taken) (c .unselected .ensures))
+    (sound-heard (a .node) false (now (a .inbox)) _ ok (unspent .if2 .taken) (sized .if3 .taken)
+    (c .unselected .ensures))
 
 plan-in-requires : tie.Need-plan-in-requires
 plan-in-requires c κs = search needs
