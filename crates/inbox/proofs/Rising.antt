@@ -1,7 +1,7 @@
 -- What entries that keep their bounds say: their phases rise, each above the one before.
-use mathlib.Core.Path.{_≡_, refl}
+use mathlib.Core.Path.{_≡_}
 use mathlib.Core.Bool.{true, _&&_}
-use mathlib.Core.List.{List, [], _∷_}
+use mathlib.Core.List.{List, _∷_}
 use mathlib.Core.Logic.{_≢_}
 use Prim.Native.Nat.{ℕ, _+_, _<_, _≤_}
 use native.Mathlib.Omega.{arith}
@@ -10,7 +10,6 @@ use borrow.Author.Tests.{leb-true, ltb-true, le-leb, lt-ltb}
 use Rattle.wire.specs.Entry.{Entry}
 use Rattle.wire.proofs.Tests.{both-true}
 use Rattle.message.specs.Bounds.{entriesOk}
-use Rattle.message.specs.Laying.{keptOf}
 use Rattle.wire.specs.Plan.{planOk}
 
 -- what an entry that keeps its bounds says, with those after it
@@ -48,9 +47,3 @@ pub from-next : (least phase : ℕ) (e : Entry) (es : List Entry) → entriesOk 
     → e .phase ≢ least → entriesOk (least + 1) phase (e ∷ es) ≡ true
 from-next least phase e es ok other =
     from-other least (least + 1) phase e es ok (omega (arith, first-kept least phase e es ok .from, other))
-
--- of entries that keep their bounds all are kept
-pub all-kept : (least phase : ℕ) (es : List Entry) → entriesOk least phase es ≡ true → keptOf phase es ≡ es
-unfolding keptOf
-all-kept least phase [] ok = refl
-all-kept least phase (e ∷ es) ok = rw (from-other least (e .phase) phase e es ok (omega arith))

@@ -10,33 +10,33 @@ use lib.Seq.{getD-set-same, getD-set-other}
 use Rattle.wire.specs.Entry.{Entry, entriesFrom}
 use Rattle.wire.proofs.Tests.{by-equality}
 use Rattle.message.specs.Bounds.{entriesOk}
-use Rattle.message.specs.Laying.{laid, keptOf, entriesAt, isSelection, rowAfter}
+use Rattle.message.specs.Laying.{rowWith, keptOf, entriesAt, isSelection, rowAfter}
 use Rattle.message.specs.declared.Header.{Header}
 use Rattle.inbox.proofs.Rising.{first-kept, from-next}
 
 -- a row keeps its places
-laid-length : (row : List ℕ) (es : List Entry) → length (laid row es) ≡ length row
-unfolding laid
+laid-length : (row : List ℕ) (es : List Entry) → length (rowWith row es) ≡ length row
+unfolding rowWith
 laid-length row [] = refl
-laid-length row (e ∷ es) = length-set (laid row es) (e .phase) (e .plan) ∙ laid-length row es
+laid-length row (e ∷ es) = length-set (rowWith row es) (e .phase) (e .plan) ∙ laid-length row es
 
 pub row-length : (coming : Header) (slot row : List ℕ) → length (rowAfter coming slot row) ≡ length row
 unfolding rowAfter
 row-length coming slot row =
     go (keptOf (coming .phase) (entriesAt slot)) (isSelection coming slot && leb (coming .phase) (length row))
   where
-    go : (es : List Entry) (lays : Bool) → length (cond lays (laid row es) row) ≡ length row
+    go : (es : List Entry) (lays : Bool) → length (cond lays (rowWith row es) row) ≡ length row
     go es true = laid-length row es
     go es false = refl
 
 -- entries from a phase on leave the places of the phases before it as they were
 laid-before : (least phase place : ℕ) (row : List ℕ) (es : List Entry) → entriesOk least phase es ≡ true
-    → place < least → getD (laid row es) place 0 ≡ getD row place 0
-unfolding laid
+    → place < least → getD (rowWith row es) place 0 ≡ getD row place 0
+unfolding rowWith
 laid-before least phase place row [] ok less = refl
 laid-before least phase place row (e ∷ es) ok less =
     let r = first-kept least phase e es ok in
-    getD-set-other (laid row es) (e .phase) place (e .plan) 0 (λ same. omega (arith, r .from))
+    getD-set-other (rowWith row es) (e .phase) place (e .plan) 0 (λ same. omega (arith, r .from))
     ∙ laid-before (e .phase + 1) phase place row es (r .rest) (omega (arith, r .from))
 
 -- a listing does not look at the places before its first phase
@@ -54,8 +54,8 @@ listed-after row place plan from (suc count) less =
 pub listed-laid : (least count phase : ℕ) (row : List ℕ) (es : List Entry) → least + count ≡ phase
     → phase ≤ length row → entriesOk least phase es ≡ true
     → ((place : ℕ) → place < phase → getD row place 0 ≡ 0)
-    → entriesFrom (laid row es) least count ≡ es
-unfolding entriesFrom laid entriesOk
+    → entriesFrom (rowWith row es) least count ≡ es
+unfolding entriesFrom rowWith entriesOk
 listed-laid least zero phase row [] sum long ok clear = refl
 listed-laid least zero phase row (e ∷ es) sum long ok clear =
     let r = first-kept least phase e es ok in
@@ -66,10 +66,10 @@ listed-laid least (suc count) phase row (e ∷ es) sum long ok clear =
     let r = first-kept least phase e es ok in
     by-equality (e .phase) least
     (λ same.
-    let here : getD (set (laid row es) (e .phase) (e .plan)) least 0 ≡ e .plan =
-    rw (sym same) (getD-set-same (laid row es) (e .phase) (e .plan) 0 (omega (arith, r .below, laid-length row es))) in
-    let others : entriesFrom (set (laid row es) (e .phase) (e .plan)) (least + 1) count ≡ es =
-    listed-after (laid row es) (e .phase) (e .plan) (least + 1) count (omega arith)
+    let here : getD (set (rowWith row es) (e .phase) (e .plan)) least 0 ≡ e .plan =
+    rw (sym same) (getD-set-same (rowWith row es) (e .phase) (e .plan) 0 (omega (arith, r .below, laid-length row es))) in
+    let others : entriesFrom (set (rowWith row es) (e .phase) (e .plan)) (least + 1) count ≡ es =
+    listed-after (rowWith row es) (e .phase) (e .plan) (least + 1) count (omega arith)
     ∙ listed-laid (least + 1) count phase row es (omega arith) long (rw same at (r .rest)) clear in
     rw (here, r .full, others, sym same))
     (λ other.

@@ -25,7 +25,7 @@ use Rattle.message.proofs.ReadLaws.{read-passes, kind-one}
 use Rattle.ballot.specs.Ballot.{Ballot}
 use Rattle.inbox.specs.Inbox.{ballotOf, isOf, counted}
 use Rattle.inbox.proofs.Counted.{counted-message}
-use Rattle.inbox.proofs.Rising.{all-kept}
+use Rattle.message.proofs.LayLaws.{all-kept}
 use Rattle.inbox.proofs.Rows.{listed-laid}
 
 record Shown (coming : Header) (slot : List ℕ) (m : Ballot) : Type 0 where
@@ -90,6 +90,6 @@ pub row-lists : (coming : Header) (slot row : List ℕ) (m : Ballot) → coming 
 unfolding rowAfter
 row-lists coming slot row m first e long clear =
     let shown = selection-shown coming slot m first e in
-    let all = all-kept 0 (coming .phase) (m .entries) (shown .rises) in
+    let all = all-kept (coming .phase) (m .entries) (shown .rises) in
     rw (shown .is, le-leb _ _ long, shown .lists, all)
     (listed-laid 0 (coming .phase) (coming .phase) row (m .entries) (omega arith) long (shown .rises) clear)

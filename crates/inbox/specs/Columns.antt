@@ -70,14 +70,14 @@ rowsAfter coming bytes before width (suc n) =
 abbrev pub historiesAfter : Header → (bytes before : List ℕ) → (width n : ℕ) → List ℕ
 historiesAfter coming bytes before width n = rowsAfter coming bytes before width n ++ drop (width * n) before
 
--- The columns and the array after the walk over an inbox, by what they were before it: each whole slot is in them,
--- read as a message of the coming round.
-pub record ReadInto (coming : Header) (bytes : List ℕ) (before : Columns) (blank : List ℕ) (after : Columns)
+-- The columns and the array after the walk over an inbox, by what they were before it: each whole slot that has
+-- a place is in them, read as a message of the coming round.
+pub record ReadInto (coming : Header) (bytes : List ℕ) (before : Columns) (lent : List ℕ) (after : Columns)
     (histories : List ℕ) : Type 0 where
   pub said : after
       ≡ filled before (ballotIn (coming .run) (coming .phase) (coming .kind) bytes) (slotsIn (length bytes))
   pub listed : histories
-      ≡ historiesAfter coming bytes blank (rowWidth (coming .phase) (slotsIn (length bytes)) (length blank))
+      ≡ historiesAfter coming bytes lent (rowWidth (coming .phase) (slotsIn (length bytes)) (length lent))
       (slotsIn (length bytes))
 
 -- what a slot lists, where it counts
@@ -90,8 +90,8 @@ abbrev pub listedIn : List ℕ → (width q : ℕ) → List Entry
 listedIn histories width q = entriesFrom (rowAt histories width q) 0 width
 
 -- what the columns have in the places of slot q, with what the slot lists
-abbrev pub rowOf : Columns → (ℕ → List Entry) → ℕ → Ballot
-rowOf read histories q = record {
+abbrev pub ballotFrom : Columns → (ℕ → List Entry) → ℕ → Ballot
+ballotFrom read histories q = record {
   vote = getD (read .votes) q 0;
   stamp = getD (read .stamps) q 0;
   entries = histories q;
@@ -99,7 +99,7 @@ rowOf read histories q = record {
 
 -- what the columns say of slot q
 abbrev pub slotOf : Columns → (ℕ → List Entry) → ℕ → Option Ballot
-slotOf read histories q = cond (getD (read .present) q false) (some (rowOf read histories q)) none
+slotOf read histories q = cond (getD (read .present) q false) (some (ballotFrom read histories q)) none
 
 -- the ballots of the first n slots, as the columns have them
 abbrev pub polled : Columns → (ℕ → List Entry) → ℕ → List Ballot

@@ -15,7 +15,7 @@ use Rattle.wire.proofs.Tests.{and-false, and-true, both-true}
 use Rattle.message.specs.Layout.{entriesPlace, entrySize}
 use Rattle.message.specs.Bounds.{entriesOk}
 use Rattle.message.specs.Reading.{entriesIn, entryInSlice}
-use Rattle.message.specs.Laying.{laid, keptOf}
+use Rattle.message.specs.Laying.{rowWith, keptOf}
 use Rattle.message.specs.Promises.{keepsBefore, broken, LaidEntry, LaidEntries}
 use Rattle.message.proofs.EntryLaws.{entries-next}
 
@@ -53,7 +53,7 @@ unfolding entriesOk
 own-least phase e es = simp (le-leb (e .phase) (e .phase) (omega arith), leb·zero)
 
 -- entries that keep their bounds are all laid
-all-kept : (phase : ℕ) (es : List Entry) → entriesOk 0 phase es ≡ true → keptOf phase es ≡ es
+pub all-kept : (phase : ℕ) (es : List Entry) → entriesOk 0 phase es ≡ true → keptOf phase es ≡ es
 unfolding keptOf
 all-kept phase [] ok = refl
 all-kept phase (e ∷ es) ok = simp (own-least, ok)
@@ -101,12 +101,12 @@ pub record Laying (s : List ℕ) (count phase : ℕ) (row : List ℕ) (i before 
   pub places : before ≤ length now
   pub next : before ≡ first phase (from s count i)
   pub ok : entriesOk 0 phase (from s count i) ≡ true
-  pub lays : now ≡ laid row (from s count i)
+  pub lays : now ≡ rowWith row (from s count i)
 
 -- at first none is
 pub none-laid : (s : List ℕ) (count phase : ℕ) (row : List ℕ) → phase ≤ length row
     → Laying s count phase row count phase row
-unfolding entriesIn entriesOk laid
+unfolding entriesIn entriesOk rowWith
 none-laid s count phase row places = record {
   place = omega arith;
   long = refl;
@@ -122,7 +122,7 @@ pub all-laid : {s : List ℕ} {count phase before : ℕ} {row now : List ℕ} �
 all-laid {s} {count} {phase} {before} {row} l =
     let ok = rw (sub-zero count) at (l .ok) in
     let lays = rw (sub-zero count) at (l .lays) in
-    record { answer = sym ok; lays = lays ∙ ap (laid row) (sym (all-kept phase _ ok)) }
+    record { answer = sym ok; lays = lays ∙ ap (rowWith row) (sym (all-kept phase _ ok)) }
 
 -- what is told of an entry tells whether it keeps its bounds
 keeps-told : (keeps : Bool) (phase : ℕ) {r : ℕ} → r ≡ cond keeps phase broken → r ≢ broken → keeps ≡ true
@@ -151,7 +151,7 @@ module _ {s : List ℕ} {count phase : ℕ} {row : List ℕ} {i before : ℕ} {n
 
   -- an entry that keeps its bounds is one more
   pub entry-laid : r ≢ broken → Laying s count phase row j r after
-  unfolding laid
+  unfolding rowWith
   entry-laid some =
       let keeps = keeps-told (keepsBefore before e) (e .phase) (told .answer) some in
       let answer = simp keeps at (told .answer) in
@@ -173,4 +173,4 @@ module _ {s : List ℕ} {count phase : ℕ} {row : List ℕ} {i before : ℕ} {n
       let all = rw (sub-zero count) at (all-break s count phase j (omega (arith, l .place)) (step ∙ breaks)) in
       let kept = all .1 ∙ rw one at (all-kept phase (from s count i) (l .ok)) in
       let same = simp breaks at (told .lays) ∙ l .lays in
-      record { answer = sym (all .0); lays = same ∙ rw one (ap (laid row) (sym kept)) }
+      record { answer = sym (all .0); lays = same ∙ rw one (ap (rowWith row) (sym kept)) }

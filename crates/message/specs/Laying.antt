@@ -36,20 +36,20 @@ expectedAs (Found body) s = some (bodyAs body s)
 expectedAs Other s = none
 
 -- a row with these entries in it, each at its phase
-unfoldable pub laid : List ℕ → List Entry → List ℕ
-laid row [] = row
-laid row (e ∷ es) = set (laid row es) (e .phase) (e .plan)
+unfoldable pub rowWith : List ℕ → List Entry → List ℕ
+rowWith row [] = row
+rowWith row (e ∷ es) = set (rowWith row es) (e .phase) (e .plan)
 
 -- the last of these entries, as many as keep their bounds below a phase
 unfoldable pub keptOf : ℕ → List Entry → List Entry
 keptOf phase [] = []
 keptOf phase (e ∷ es) = cond (entriesOk (e .phase) phase (e ∷ es)) (e ∷ es) (keptOf phase es)
 
--- the entries that stand in a slice of this kind
+-- the entries that stand in a selection
 abbrev pub entriesAt : List ℕ → List Entry
 entriesAt s = entriesIn (getD s countPlace 0) (drop entriesPlace s)
 
--- a message with this header stands at the front of the slice, whatever follows it
+-- a framed header with this kind, run and phase stands at the front of the slice, whatever follows it
 abbrev pub headed : Header → List ℕ → Bool
 headed header s =
     framed s
@@ -61,12 +61,13 @@ headed header s =
 abbrev pub isSelection : Header → List ℕ → Bool
 isSelection header s = headed header s && eqb (lengthAt s) (sizeOf (bodyAt s)) && eqb (header .kind) 1
 
--- The row after a slice was read: the entries of an expected selection are laid from the last one back, as long as
--- they keep their bounds, where the row has a place for every phase before the message's. Else it is as it was.
+-- The row after a slice was read: where the slice has the header and the length of an expected selection, be it then
+-- read or refused, its entries are laid from the last one back, as long as they keep their bounds, if the row has a
+-- place for every phase before the message's. Else it is as it was.
 unfoldable pub rowAfter : Header → List ℕ → List ℕ → List ℕ
 rowAfter header s row =
     cond (isSelection header s && leb (header .phase) (length row))
-    (laid row (keptOf (header .phase) (entriesAt s)))
+    (rowWith row (keptOf (header .phase) (entriesAt s)))
     row
 
 -- What reading an expected message gives: what it says, and the row after it.

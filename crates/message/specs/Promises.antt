@@ -12,7 +12,7 @@ use Rattle.message.specs.Layout.{phasePlace, headerSize, entriesPlace, e
 use Rattle.message.specs.Bounds.{entriesOk, within}
 use Rattle.message.specs.Encoding.{sizeOf}
 use Rattle.message.specs.Reading.{lengthAt, kindAt, messageWith, selectionAt, bodyAt}
-use Rattle.message.specs.Laying.{laid, keptOf, entriesAt}
+use Rattle.message.specs.Laying.{rowWith, keptOf, entriesAt}
 
 -- a byte, taken wide, is the same number
 pub record Widened (byte wide : ℕ) : Type 0 where
@@ -56,17 +56,17 @@ pub record LaidEntry (e : Entry) (before : ℕ) (row : List ℕ) (r : ℕ) (afte
 -- entries are laid from the last one back as long as they keep their bounds; told is whether all do
 pub record LaidEntries (es : List Entry) (phase : ℕ) (row : List ℕ) (r : Bool) (after : List ℕ) : Type 0 where
   pub answer : r ≡ entriesOk 0 phase es
-  pub lays : after ≡ laid row (keptOf phase es)
+  pub lays : after ≡ rowWith row (keptOf phase es)
 
 -- the same of the entries of a selection; told is whether all its fields keep their bounds
 pub record LaidSelection (s row : List ℕ) (r : Bool) (after : List ℕ) : Type 0 where
   pub answer : r ≡ within (messageWith s (selectionAt s))
-  pub lays : after ≡ laid row (keptOf (getD s phasePlace 0) (entriesAt s))
+  pub lays : after ≡ rowWith row (keptOf (getD s phasePlace 0) (entriesAt s))
 
 -- the same of any message; only a selection's entries are laid, where the row has a place for each phase before its own
 pub record KeptLaying (s : List ℕ) (kind : ℕ) (row : List ℕ) (r : Bool) (after : List ℕ) : Type 0 where
   pub answer : r ≡ within (messageWith s (bodyAt s))
   pub lays : after
       ≡ cond (eqb kind 1 && leb (getD s phasePlace 0) (length row))
-      (laid row (keptOf (getD s phasePlace 0) (entriesAt s)))
+      (rowWith row (keptOf (getD s phasePlace 0) (entriesAt s)))
       row

@@ -223,8 +223,8 @@ fn are_entries(s: &[u8], count: usize, phase: u16) -> bool
     least <= phase
 }
 
-// Lays entry i into its place of the row and answers its phase; the limit of a byte where it breaks a bound: its phase
-// is not before `before`, or it has no plan.
+// Lays entry i into its place of the row and answers its phase; BROKEN where it breaks a bound: its phase is not before
+// `before`, or it has no plan.
 fn lay_entry(s: &[u8], i: usize, before: u16, row: &mut [Plan]) -> u16
     requires { ⌜ RowFor (now s) (i + 1) before (now row) ⌝ }
     ensures { λ r. ⌜ LaidEntry (entryInSlice (now (s .entry)) i) before (now (row .entry)) r (now (row .exit)) ⌝ }
@@ -337,7 +337,7 @@ fn is_kind(kind: u16) -> bool
     (SELECTION <= kind) & (kind <= DECISION)
 }
 
-// Whether a framed slice is as long as its kind asks: 01's 12. Here and in the two functions below the kinds are tried
+// Whether a framed slice is as long as its kind asks: 01's 12. Here and in the functions below the kinds are tried
 // in one order, selections first: reading is faster so.
 fn has_length(s: &[u8], kind: u16) -> bool
     requires { ⌜ Framed (now s) kind ⌝ }
@@ -414,7 +414,7 @@ pub fn read(s: &[u8]) -> Reading
     Reading::Refused(ReadRefusal::Cut)
 }
 
-// Whether a message with this header stands at the front of the slice, whatever follows it.
+// Whether a framed header like this stands at the front of the slice, whatever follows it.
 fn has_header(s: &[u8], header: Header) -> bool
     ensures { λ r. ⌜ r ≡ headed header (now (s .entry)) ⌝ }
 {

@@ -70,39 +70,43 @@ LooksBack round = (classOf (round .crew) ≡ three) × (round .header .kind ≡ 
 abbrev pub Listed : Round → List ℕ → (ℕ → List Entry) → Type 0
 Listed round histories h = LooksBack round → h ≡ listedIn histories (round .header .phase)
 
--- a place for each slot and phase
+-- a place for each slot and phase; and few, for a small crew or an early phase
 abbrev pub allPlaces : ℕ
 allPlaces = mostNodes * historySize
 
+abbrev pub fewPlaces : ℕ
+fewPlaces = allPlaces / 8
+
 -- the inbox is the crew's, and every node has a place in the columns
-pub record Inboxed (crew : Crew) (bytes : List ℕ) : Type 0 where
+pub record OwnInbox (crew : Crew) (bytes : List ℕ) : Type 0 where
   pub places : crew .n ≤ mostNodes
   pub whole : length bytes ≡ slotSize * crew .n
 
--- what the walk asks: the array of histories is empty and, where these are looked at, has room for every slot and phase
+-- what the walk asks: the array of histories is empty and, where these are looked at, has room for every slot and each
+-- phase before the coming one
 pub record Walkable (round : Round) (bytes blank : List ℕ) : Type 0 where
-  pub own : Inboxed (round .crew) bytes
+  pub own : OwnInbox (round .crew) bytes
   pub clear : blank ≡ replicate (length blank) 0
   pub room : LooksBack round → round .header .phase * round .crew .n ≤ length blank
 
 -- there are no histories to look at; or few places are enough for them; or they have one for each slot and phase
 pub record Without (round : Round) (bytes : List ℕ) : Type 0 where
-  pub own : Inboxed (round .crew) bytes
+  pub own : OwnInbox (round .crew) bytes
   pub unlisted : LooksBack round → ⊥
 
 pub record WithFew (round : Round) (bytes : List ℕ) (fill : ℕ) : Type 0 where
-  pub own : Inboxed (round .crew) bytes
+  pub own : OwnInbox (round .crew) bytes
   pub empty : fill ≡ 0
-  pub few : round .header .phase * round .crew .n ≤ allPlaces / 8
+  pub few : round .header .phase * round .crew .n ≤ fewPlaces
 
 pub record WithAll (round : Round) (bytes : List ℕ) (fill : ℕ) : Type 0 where
-  pub own : Inboxed (round .crew) bytes
+  pub own : OwnInbox (round .crew) bytes
   pub empty : fill ≡ 0
   pub early : round .header .phase < spentPhase
 
 -- what is known of a node's round and its inbox
 pub record Heard (round : Round) (bytes : List ℕ) (fill : ℕ) : Type 0 where
-  pub own : Inboxed (round .crew) bytes
+  pub own : OwnInbox (round .crew) bytes
   pub class-from : 1 ≤ round .crew .class
   pub class-to : round .crew .class ≤ 3
   pub early : round .header .phase < spentPhase

@@ -162,7 +162,7 @@ struct Round {
 
 // What the rule of the round says of the columns: a plan or none, and where the selection is only asked for, 'any' as
 // well.
-fn ruling(
+fn rule_on_columns(
     round: Round,
     present: &[bool; MOST_NODES],
     votes: &[Plan; MOST_NODES],
@@ -189,7 +189,7 @@ fn ruling(
 }
 
 // What the round comes to. The inbox is walked once, into columns, and the rule runs over these.
-fn come_to(round: Round, inbox: &[u8], histories: &mut [Plan]) -> Choice
+fn outcome_with(round: Round, inbox: &[u8], histories: &mut [Plan]) -> Choice
     requires { ⌜ Walkable round (now inbox) (now histories) ⌝ }
     ensures { λ r. ⌜ choiceAs r ≡ outcomeOf round (now (inbox .entry)) ⌝ }
 {
@@ -205,38 +205,38 @@ fn come_to(round: Round, inbox: &[u8], histories: &mut [Plan]) -> Choice
         &mut stamps,
         histories,
     );
-    ruling(round, &present, &votes, &stamps, histories)
+    rule_on_columns(round, &present, &votes, &stamps, histories)
 }
 
 // Without histories: only a selection in class 3 looks at them.
-fn come_without(round: Round, inbox: &[u8]) -> Choice
+fn outcome_without_histories(round: Round, inbox: &[u8]) -> Choice
     requires { ⌜ Without round (now inbox) ⌝ }
     ensures { λ r. ⌜ choiceAs r ≡ outcomeOf round (now (inbox .entry)) ⌝ }
 {
     let mut none = [Node::NO_PLAN; 1];
-    come_to(round, inbox, &mut none[..0])
+    outcome_with(round, inbox, &mut none[..0])
 }
 
 // With histories of a crew or phase so small that few places are enough: they are sooner cleared.
-fn come_with_few(round: Round, inbox: &[u8], empty: Plan) -> Choice
+fn outcome_in_few_places(round: Round, inbox: &[u8], empty: Plan) -> Choice
     requires { ⌜ WithFew round (now inbox) empty ⌝ }
     ensures { λ r. ⌜ choiceAs r ≡ outcomeOf round (now (inbox .entry)) ⌝ }
 {
     let mut histories = [empty; FEW_PLACES];
-    come_to(round, inbox, &mut histories)
+    outcome_with(round, inbox, &mut histories)
 }
 
 // With histories of any crew and phase.
-fn come_with_all(round: Round, inbox: &[u8], empty: Plan) -> Choice
+fn outcome_in_all_places(round: Round, inbox: &[u8], empty: Plan) -> Choice
     requires { ⌜ WithAll round (now inbox) empty ⌝ }
     ensures { λ r. ⌜ choiceAs r ≡ outcomeOf round (now (inbox .entry)) ⌝ }
 {
     let mut histories = [empty; ALL_PLACES];
-    come_to(round, inbox, &mut histories)
+    outcome_with(round, inbox, &mut histories)
 }
 
 // What the round comes to, with as many places for histories as it takes. `empty` is what an empty place holds, where
-// there are any: see `unselected`.
+// there are any: see `coming_entry`.
 fn outcome(round: Round, inbox: &[u8], empty: Plan) -> Choice
     requires { ⌜ Heard round (now inbox) empty ⌝ }
     ensures { λ r. ⌜ choiceAs r ≡ outcomeOf round (now (inbox .entry)) ⌝ }
@@ -247,11 +247,11 @@ fn outcome(round: Round, inbox: &[u8], empty: Plan) -> Choice
     if lists {
         let n = crew.n as usize;
         if (header.phase as usize) * n <= FEW_PLACES {
-            return come_with_few(round, inbox, empty);
+            return outcome_in_few_places(round, inbox, empty);
         }
-        return come_with_all(round, inbox, empty);
+        return outcome_in_all_places(round, inbox, empty);
     }
-    come_without(round, inbox)
+    outcome_without_histories(round, inbox)
 }
 
 // A node's coming round: round k takes kind k.
@@ -273,7 +273,7 @@ fn coming(node: Node, asked: bool) -> Round
 // What the history has at the record's phase: before its selection, nothing. It fills the places of the histories: the
 // compiler, which cannot know that it is 0, fills them by itself then, and the archive needs no function of the C
 // library for it.
-fn unselected(node: Node) -> Plan
+fn coming_entry(node: Node) -> Plan
     requires { ⌜ node .phase < spentPhase ⌝ }
     ensures { λ r. ⌜ r ≡ getD (node .history) (node .phase) 0 ⌝ }
 {
@@ -323,7 +323,7 @@ pub fn take(node: Node, inbox: &[u8]) -> Taken
         if node.phase < Node::SPENT {
             let n = node.crew.n as usize;
             if inbox.len() == SLOT * n {
-                let choice = outcome(coming(node, false), inbox, unselected(node));
+                let choice = outcome(coming(node, false), inbox, coming_entry(node));
                 return Taken {
                     answer: Taking::Accepted,
                     node: after_plan(node, plan_in(choice)),
@@ -364,7 +364,7 @@ pub fn ask(node: Node, inbox: &[u8]) -> Asked
         if node.phase < Node::SPENT {
             let n = node.crew.n as usize;
             if inbox.len() == SLOT * n {
-                let choice = outcome(coming(node, true), inbox, unselected(node));
+                let choice = outcome(coming(node, true), inbox, coming_entry(node));
                 return Asked {
                     answer: to_asking(choice),
                     node: node,

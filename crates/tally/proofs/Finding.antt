@@ -17,7 +17,7 @@ use Rattle.tally.specs.Marks.{
   marked,
   voting,
   votersOf,
-  isPossible,
+  hasNeeded,
   isNew,
   reaching,
   told,
@@ -29,11 +29,11 @@ use Rattle.tally.specs.Promises.{Alike, WithPlan, Holds}
 use Rattle.tally.proofs.Telling.{told-new, lowered-settles, joined-settles, max-settles}
 
 -- a slot that says what an earlier one said is possible as that one is
-pub alike-possible : {present : List Bool} {votes stamps : List ℕ} (histories : List ℕ) (needed : Needed) {q p : ℕ}
+pub alike-needed : {present : List Bool} {votes stamps : List ℕ} (histories : List ℕ) (needed : Needed) {q p : ℕ}
     → Alike present votes stamps q p
-    → (marked present q && isPossible present votes stamps histories needed p)
-    ≡ isPossible present votes stamps histories needed q
-alike-possible histories needed alike = rw (alike .there, alike .vote, alike .stamp)
+    → (marked present q && hasNeeded present votes stamps histories needed p)
+    ≡ hasNeeded present votes stamps histories needed q
+alike-needed histories needed alike = rw (alike .there, alike .vote, alike .stamp)
 
 -- The plans that slots vote for and that so many marked slots have, found one slot after the other.
 module _ (present marks : List Bool) (votes : List ℕ) (n needed : ℕ) where

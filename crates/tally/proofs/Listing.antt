@@ -16,7 +16,7 @@ use Rattle.wire.specs.Entry.{entryOf, entriesFrom}
 use Rattle.ballot.specs.Count.{bit, countIf}
 use Rattle.ballot.specs.Ballot.{isEntry, lists}
 use Rattle.ballot.proofs.Counting.{count-append}
-use Rattle.inbox.specs.Columns.{Columns, rowAt, listedIn, rowOf}
+use Rattle.inbox.specs.Columns.{Columns, rowAt, listedIn, ballotFrom}
 
 module _ (row : List ℕ) (v t : ℕ) where
   -- the plan stands at the phase's place
@@ -83,7 +83,7 @@ module _ (row : List ℕ) (v t : ℕ) where
 
 -- the slot lists the plan at the phase where the plan stands at that place of the slot's row
 pub place-lists : (read : Columns) (histories : List ℕ) (phases v t q : ℕ)
-    → lists v t (rowOf read (listedIn histories phases) q)
+    → lists v t (ballotFrom read (listedIn histories phases) q)
     ≡ ((ltb t phases && ltb 0 v) && eqb (getD histories (phases * q + t) 0) v)
 unfolding lists
 place-lists read histories phases v t q =

@@ -15,7 +15,7 @@ use Rattle.ballot.specs.Ballot.{Ballot, votes}
 use Rattle.ballot.specs.Least.{lower, least}
 use Rattle.ballot.specs.Selection.{besides, backing}
 use Rattle.ballot.proofs.Counting.{count-gather, length-count}
-use Rattle.inbox.specs.Columns.{Columns, rowOf, slotOf, polled}
+use Rattle.inbox.specs.Columns.{Columns, ballotFrom, slotOf, polled}
 use Rattle.tally.specs.Marks.{Marks, marked, voting, supporting, told, leastMarked, backingMarked}
 use Rattle.tally.proofs.Tallies.{tally-same}
 use Rattle.tally.proofs.Backings.{besideIt, besidesMarked, backing-told}
@@ -28,16 +28,16 @@ module _ (read : Columns) (h : ℕ → List Entry) where
   abbrev pub onSlot : (Ballot → Bool) → ℕ → Bool
   onSlot p q = holds p (slotOf read h q)
 
-  pub on-slot : (p : Ballot → Bool) (q : ℕ) → onSlot p q ≡ (marked (read .present) q && p (rowOf read h q))
+  pub on-slot : (p : Ballot → Bool) (q : ℕ) → onSlot p q ≡ (marked (read .present) q && p (ballotFrom read h q))
   on-slot p q = go (marked (read .present) q)
     where
-      go : (b : Bool) → holds p (cond b (some (rowOf read h q)) none) ≡ (b && p (rowOf read h q))
+      go : (b : Bool) → holds p (cond b (some (ballotFrom read h q)) none) ≡ (b && p (ballotFrom read h q))
       go true = refl
       go false = refl
 
   -- a count of ballots is a tally of slots
   pub count-polled : (n : ℕ) (p : Ballot → Bool) (test : ℕ → Bool)
-      → ((q : ℕ) → q < n → (marked (read .present) q && p (rowOf read h q)) ≡ test q)
+      → ((q : ℕ) → q < n → (marked (read .present) q && p (ballotFrom read h q)) ≡ test q)
       → countIf p (polled read h n) ≡ tally test n
   count-polled n p test same =
       count-gather p (slotOf read h) n ∙ tally-same (onSlot p) test n (λ q less. on-slot p q ∙ same q less)
@@ -63,8 +63,8 @@ module _ (read : Columns) (h : ℕ → List Entry) where
   marked-polled n vote p marks are =
       count-polled n (λ k. p k && votes vote k) _
       (λ q less.
-      sym (and-assoc (marked (read .present) q) (p (rowOf read h q)) (votes vote (rowOf read h q)))
-      ∙ ap (λ b. b && votes vote (rowOf read h q)) (sym (are q less ∙ on-slot p q)))
+      sym (and-assoc (marked (read .present) q) (p (ballotFrom read h q)) (votes vote (ballotFrom read h q)))
+      ∙ ap (λ b. b && votes vote (ballotFrom read h q)) (sym (are q less ∙ on-slot p q)))
 
   -- the least vote of the ballots that pass a test
   pub least-polled : (n : ℕ) (p : Ballot → Bool) → least p (polled read h n) ≡ leastMarked (onSlot p) voteAt n
@@ -73,8 +73,8 @@ module _ (read : Columns) (h : ℕ → List Entry) where
   least-polled (suc n) p =
       go (marked (read .present) n) ∙ ap (λ o. cond (onSlot p n) (lower (voteAt n) o) o) (least-polled n p)
     where
-      go : (b : Bool) → least p (push (cond b (some (rowOf read h n)) none) (polled read h n))
-          ≡ cond (holds p (cond b (some (rowOf read h n)) none)) (lower (voteAt n) (least p (polled read h n)))
+      go : (b : Bool) → least p (push (cond b (some (ballotFrom read h n)) none) (polled read h n))
+          ≡ cond (holds p (cond b (some (ballotFrom read h n)) none)) (lower (voteAt n) (least p (polled read h n)))
           (least p (polled read h n))
       go true = refl
       go false = refl
@@ -92,8 +92,8 @@ module _ (read : Columns) (h : ℕ → List Entry) where
       others v =
           count-polled n (λ m. p m && not (votes v m)) _
           (λ q less.
-          sym (and-assoc (marked (read .present) q) (p (rowOf read h q)) (not (votes v (rowOf read h q))))
-          ∙ ap (λ b. b && not (votes v (rowOf read h q))) (sym (on-slot p q)))
+          sym (and-assoc (marked (read .present) q) (p (ballotFrom read h q)) (not (votes v (ballotFrom read h q))))
+          ∙ ap (λ b. b && not (votes v (ballotFrom read h q))) (sym (on-slot p q)))
 
       go : (o : Option ℕ) → besides p (polled read h n) o ≡ besidesMarked (onSlot p) voteAt n o
       go none = refl

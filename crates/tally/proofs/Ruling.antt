@@ -20,7 +20,7 @@ use Rattle.ballot.specs.Least.{leastOf, orZero}
 use Rattle.ballot.specs.Selection.{possible, backed, backing, leading}
 use Rattle.ballot.specs.Validation.{valid}
 use Rattle.ballot.specs.Decision.{fresh, decides}
-use Rattle.inbox.specs.Columns.{Columns, listedIn, rowOf, polled}
+use Rattle.inbox.specs.Columns.{Columns, listedIn, ballotFrom, polled}
 use Rattle.tally.specs.declared.counts.Plans.{Plans}
 use Rattle.tally.specs.Marks.{
   Marks,
@@ -28,7 +28,7 @@ use Rattle.tally.specs.Marks.{
   voting,
   votersOf,
   isLister,
-  isPossible,
+  hasNeeded,
   supportersOf,
   listersOf,
   stampedWith,
@@ -184,14 +184,14 @@ module _ (read : Columns) (h : ℕ → List Entry) (n : ℕ) where
 
       -- what a possible slot needs is told by as many supporters
       supported : (q : ℕ) → leb (e + 1) (supportersOf (read .present) (read .votes) (read .stamps) n q)
-          ≡ possible crew ballots (rowOf read h q)
+          ≡ possible crew ballots (ballotFrom read h q)
       unfolding possible
       supported q =
           more-than e _
           ∙ ap₂ ltb (bounded .bound) (sym (supports-polled read h n (voteAt read h q) (getD (read .stamps) q 0)))
 
       pub possible-marks : (histories : List ℕ) (phases : ℕ) (marks : List Bool)
-          → Marks marks n (isPossible (read .present) (read .votes) (read .stamps) histories
+          → Marks marks n (hasNeeded (read .present) (read .votes) (read .stamps) histories
           (record { slots = n; phases = phases; supporters = e + 1; listers = 0 }))
           → Marks marks n (onSlot read h (possible crew ballots))
       possible-marks histories phases marks are q less =
@@ -223,7 +223,7 @@ module _ (read : Columns) (histories : List ℕ) (n phases : ℕ) (crew : Crew) 
       (place-lists read histories phases (voteAt read h q) (getD (read .stamps) q 0) k))))
 
   pub three-marks : (marks : List Bool)
-      → Marks marks n (isPossible (read .present) (read .votes) (read .stamps) histories
+      → Marks marks n (hasNeeded (read .present) (read .votes) (read .stamps) histories
       (record { slots = n; phases = phases; supporters = e + 1; listers = crew .b + 1 }))
       → Marks marks n (onSlot read h (backed three crew (polled read h n)))
   unfolding backed

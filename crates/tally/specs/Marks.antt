@@ -49,8 +49,8 @@ listersOf present votes stamps histories phases n q =
     tally (isLister present histories phases (getD votes q 0) (getD stamps q 0)) n
 
 -- slot q is present and has as many of both as it needs
-abbrev pub isPossible : List Bool → List ℕ → List ℕ → List ℕ → Needed → ℕ → Bool
-isPossible present votes stamps histories needed q =
+abbrev pub hasNeeded : List Bool → List ℕ → List ℕ → List ℕ → Needed → ℕ → Bool
+hasNeeded present votes stamps histories needed q =
     marked present q
     && (leb (needed .supporters) (supportersOf present votes stamps (needed .slots) q)
     && leb (needed .listers) (listersOf present votes stamps histories (needed .phases) (needed .slots) q))

@@ -16,7 +16,7 @@ ghost use Rattle.tally.specs.Marks.{
   votersOf,
   supporting,
   isLister,
-  isPossible,
+  hasNeeded,
   stampedWith,
   repeated,
   isNew,
@@ -118,14 +118,14 @@ fn count_listing(
     count
 }
 
-// Whether a marked slot before slot q has its vote.
-fn is_repeated(marks: &[bool; MOST_NODES], votes: &[Plan; MOST_NODES], q: usize) -> bool
+// Whether a slot before slot q has its vote.
+fn is_repeated(present: &[bool; MOST_NODES], votes: &[Plan; MOST_NODES], q: usize) -> bool
     requires { ⌜ q < mostNodes ⌝ }
-    ensures { λ r. ⌜ r ≡ repeated (now (marks .entry)) (now (votes .entry)) q ⌝ }
+    ensures { λ r. ⌜ r ≡ repeated (now (present .entry)) (now (votes .entry)) q ⌝ }
 {
     let mut p = 0;
     while p < q {
-        let same = marks[p] & (votes[p] == votes[q]);
+        let same = present[p] & (votes[p] == votes[q]);
         if same {
             return true;
         }
@@ -158,8 +158,8 @@ fn first_alike(
     q
 }
 
-// What a slot needs to be possible, and in class 3 to back its vote: how many slots support what it says, and how many
-// list its vote at its stamp. `slots` and `phases` say how far the columns and the rows of the histories go.
+// What a slot needs to be possible, and in class 3 to back its vote: that so many slots support what it says, and that so
+// many list its vote at its stamp. `slots` and `phases` say how far the columns and the rows of the histories go.
 pub(crate) struct Needed {
     pub slots: usize,
     pub phases: u8,
@@ -168,7 +168,7 @@ pub(crate) struct Needed {
 }
 
 // Whether slot q is there and has what it needs. Listers are counted only where some are asked for.
-fn is_possible(
+fn has_needed(
     present: &[bool; MOST_NODES],
     votes: &[Plan; MOST_NODES],
     stamps: &[u8; MOST_NODES],
@@ -177,7 +177,7 @@ fn is_possible(
     q: usize,
 ) -> bool
     requires { ⌜ (needed .slots ≤ mostNodes) × (q < mostNodes) ⌝ }
-    ensures { λ r. ⌜ r ≡ isPossible (now (present .entry)) (now (votes .entry)) (now (stamps .entry))
+    ensures { λ r. ⌜ r ≡ hasNeeded (now (present .entry)) (now (votes .entry)) (now (stamps .entry))
         (now (histories .entry)) needed q ⌝ }
 {
     if present[q] {
@@ -193,9 +193,9 @@ fn is_possible(
     false
 }
 
-// Marks the slots that are possible. What slots say is counted once: a slot that says what an earlier one said has its
+// Marks the slots that have what they need. What slots say is counted once: a slot that says what an earlier one said has its
 // mark. Marks are put into an array that the caller lends: an answered one would be copied.
-pub(crate) fn mark_possible(
+pub(crate) fn mark_with_needed(
     out: &mut [bool; MOST_NODES],
     present: &[bool; MOST_NODES],
     votes: &[Plan; MOST_NODES],
@@ -205,7 +205,7 @@ pub(crate) fn mark_possible(
 )
     requires { ⌜ Fillable (needed .slots) (now out) ⌝ }
     ensures { λ _. ⌜ Marks (now (out .exit)) (needed .slots)
-        (isPossible (now (present .entry)) (now (votes .entry)) (now (stamps .entry)) (now (histories .entry))
+        (hasNeeded (now (present .entry)) (now (votes .entry)) (now (stamps .entry)) (now (histories .entry))
         needed) ⌝ }
 {
     let n = needed.slots;
@@ -215,7 +215,7 @@ pub(crate) fn mark_possible(
         if first < q {
             out[q] = present[q] & out[first];
         } else {
-            out[q] = is_possible(present, votes, stamps, histories, needed, q);
+            out[q] = has_needed(present, votes, stamps, histories, needed, q);
         }
         q = q + 1;
     }

@@ -125,7 +125,7 @@ fn choose_two(
         listers: 0,
     };
     let mut possible = [false; MOST_NODES];
-    counts::mark_possible(&mut possible, present, votes, stamps, &none, needed);
+    counts::mark_with_needed(&mut possible, present, votes, stamps, &none, needed);
     let backed = counts::find_plans(present, &possible, votes, n, b + 1);
     answer_below_three(backed, e + b < arrivals)
 }
@@ -153,7 +153,7 @@ fn choose_three(
         listers: b + 1,
     };
     let mut backing = [false; MOST_NODES];
-    counts::mark_possible(&mut backing, present, votes, stamps, histories, needed);
+    counts::mark_with_needed(&mut backing, present, votes, stamps, histories, needed);
     let backed = counts::find_plans(&backing, &backing, votes, n, 1);
     let mut unstamped = [false; MOST_NODES];
     counts::mark_stamped(&mut unstamped, present, stamps, n, Node::UNSTAMPED);

@@ -24,8 +24,6 @@ impl Ballot<'_> {
 
     /// The plan that the entries list at the phase. Their phases rise strictly, so the entry of phase t stands at place
     /// t where no earlier phase is missing, else before it, where halving finds it.
-    /// This is another way than the proved engine's, which lays the entries of all slots into one array by slot and
-    /// phase: an error in the one is hardly an error in the other.
     pub fn listed_at(&self, phase: u8) -> Option<Plan> {
         let (entries, _) = self.entries.as_chunks::<{ message::ENTRY }>();
         let latest = usize::from(phase);

@@ -46,10 +46,10 @@ returns c =
     let called = plan .before .before .before .before in
     let phase = called .before .before in
     let count = phase .before .before in
-    let laid = simp (count .wide .ensures .same, phase .wide2 .ensures .same) at (called .lay-entries .ensures) in
+    let rowWith = simp (count .wide .ensures .same, phase .wide2 .ensures .same) at (called .lay-entries .ensures) in
     record {
-      answer = simp (plan .before .has-phase .ensures, plan .has-plan .ensures, laid .answer, entries-count);
-      lays = laid .lays;
+      answer = simp (plan .before .has-phase .ensures, plan .has-plan .ensures, rowWith .answer, entries-count);
+      lays = rowWith .lays;
     }
 
 pub lay-selection-spec : {M : Type 1} → statement M

@@ -12,7 +12,7 @@ use Rattle.wire.proofs.Tests.{and-false}
 use Rattle.message.specs.Layout.{phasePlace}
 use Rattle.message.specs.Encoding.{sizeOf}
 use Rattle.message.specs.Reading.{lengthAt, kindKnown, bodyAt, isKind, tested, readOf}
-use Rattle.message.specs.Laying.{headed, laid, keptOf, entriesAt, rowAfter}
+use Rattle.message.specs.Laying.{headed, rowWith, keptOf, entriesAt, rowAfter}
 use Rattle.message.specs.declared.Header.{Header}
 use Rattle.message.specs.Promises.{HeldInFull}
 use Rattle.message.proofs.ReadLaws.{framed-long, size-held}
@@ -73,7 +73,7 @@ module _ (c : tie.Then3) where
 
   row-left : (row : List ℕ) → rowAfter header s row
       ≡ cond (eqb (header .kind) 1 && leb (getD s phasePlace 0) (length row))
-      (laid row (keptOf (getD s phasePlace 0) (entriesAt s)))
+      (rowWith row (keptOf (getD s phasePlace 0) (entriesAt s)))
       row
   unfolding rowAfter
   row-left row = simp (headed-so found, sized) (simp (has found .phase))

@@ -10,11 +10,6 @@ use native.Mathlib.Omega.{arith}
 use borrow.Author.Needs.{needs}
 use Rattle.rounds.proofs.outcome.Statement.{statement}
 use Rattle.rounds.proofs.outcome.Tie as tie
-use Rattle.rounds.proofs.outcome.Reads as reads
-use Rattle.rounds.proofs.outcome.Lts as lts
-use Rattle.rounds.proofs.come_with_all.Reads as come-with-all-reads
-use Rattle.rounds.proofs.come_with_few.Reads as come-with-few-reads
-use Rattle.rounds.proofs.come_without.Reads as come-without-reads
 
 cast-n : tie.Need-cast-n
 cast-n c = search needs
@@ -38,8 +33,8 @@ mul-if2 c =
     (omega arith) (omega arith) in
     omega (arith, small)
 
-come-with-few-requires : tie.Need-come-with-few-requires
-come-with-few-requires c κs =
+outcome-in-few-places-requires : tie.Need-outcome-in-few-places-requires
+outcome-in-few-places-requires c κs =
     let lists = c .before .before .before in
     let heard = startOf lists .pre in
     record { own = heard .own; empty = heard .empty (first-kind lists); few = c .if2 .taken }
@@ -47,8 +42,8 @@ come-with-few-requires c κs =
 returns : tie.Need-returns
 returns c = search needs
 
-come-with-all-requires : tie.Need-come-with-all-requires
-come-with-all-requires c κs =
+outcome-in-all-places-requires : tie.Need-outcome-in-all-places-requires
+outcome-in-all-places-requires c κs =
     let lists = c .before .before .before in
     let heard = startOf lists .pre in
     record { own = heard .own; empty = heard .empty (first-kind lists); early = heard .early }
@@ -56,8 +51,8 @@ come-with-all-requires c κs =
 returns-2 : tie.Need-returns-2
 returns-2 c = search needs
 
-come-without-requires : tie.Need-come-without-requires
-come-without-requires c κs =
+outcome-without-histories-requires : tie.Need-outcome-without-histories-requires
+outcome-without-histories-requires c κs =
     let start = c .before .before .before .before .before .before in
     let heard = start .pre in
     record {
@@ -77,9 +72,9 @@ outcome-spec =
     cast-n
     cast-if2
     mul-if2
-    come-with-few-requires
+    outcome-in-few-places-requires
     returns
-    come-with-all-requires
+    outcome-in-all-places-requires
     returns-2
-    come-without-requires
+    outcome-without-histories-requires
     returns-3)

@@ -2,8 +2,6 @@
 use borrow.Author.Tests.{eq-eqb, ne-eqb}
 use Rattle.rounds.proofs.planned.Statement.{statement}
 use Rattle.rounds.proofs.planned.Tie as tie
-use Rattle.rounds.proofs.planned.Reads as reads
-use Rattle.rounds.proofs.planned.Lts as lts
 
 returns : tie.Need-returns
 returns c = rw (eq-eqb _ _ (c .if1 .taken))

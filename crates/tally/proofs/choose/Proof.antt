@@ -4,11 +4,6 @@ use borrow.Author.Tests.{eq-eqb, ne-eqb}
 use borrow.Author.Needs.{needs}
 use Rattle.tally.proofs.choose.Statement.{statement}
 use Rattle.tally.proofs.choose.Tie as tie
-use Rattle.tally.proofs.choose.Reads as reads
-use Rattle.tally.proofs.choose.Lts as lts
-use Rattle.tally.proofs.choose_one.Reads as choose-one-reads
-use Rattle.tally.proofs.choose_three.Reads as choose-three-reads
-use Rattle.tally.proofs.choose_two.Reads as choose-two-reads
 
 choose-one-requires : tie.Need-choose-one-requires
 choose-one-requires c κs = search needs

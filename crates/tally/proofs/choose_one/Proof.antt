@@ -6,13 +6,6 @@ use denote.Ref.{now}
 use borrow.Author.Needs.{needs}
 use Rattle.tally.proofs.choose_one.Statement.{statement}
 use Rattle.tally.proofs.choose_one.Tie as tie
-use Rattle.tally.proofs.choose_one.Reads as reads
-use Rattle.tally.proofs.choose_one.Lts as lts
-use Rattle.tally.proofs.answer_below_three.Reads as answer-below-three-reads
-use Rattle.tally.proofs.bound.Reads as bound-reads
-use Rattle.tally.proofs.counts.count_marks.Reads as count-marks-reads
-use Rattle.tally.proofs.counts.find_plans.Reads as find-plans-reads
-use Rattle.tally.proofs.slots_of.Reads as slots-of-reads
 
 slots-of-requires : tie.Need-slots-of-requires
 slots-of-requires c κs = search needs

@@ -7,15 +7,6 @@ use denote.Ref.{now}
 use borrow.Author.Needs.{needs}
 use Rattle.tally.proofs.choose_three.Statement.{statement}
 use Rattle.tally.proofs.choose_three.Tie as tie
-use Rattle.tally.proofs.choose_three.Reads as reads
-use Rattle.tally.proofs.choose_three.Lts as lts
-use Rattle.tally.proofs.answer_three.Reads as answer-three-reads
-use Rattle.tally.proofs.bound.Reads as bound-reads
-use Rattle.tally.proofs.counts.count_marks.Reads as count-marks-reads
-use Rattle.tally.proofs.counts.find_plans.Reads as find-plans-reads
-use Rattle.tally.proofs.counts.mark_possible.Reads as mark-possible-reads
-use Rattle.tally.proofs.counts.mark_stamped.Reads as mark-stamped-reads
-use Rattle.tally.proofs.slots_of.Reads as slots-of-reads
 
 slots-of-requires : tie.Need-slots-of-requires
 slots-of-requires c κs = search needs
@@ -32,8 +23,8 @@ add-answer-three c = search needs
 add-t15 : tie.Need-add-t15
 add-t15 c = search needs
 
-mark-possible-requires : tie.Need-mark-possible-requires
-mark-possible-requires c κs = search needs
+mark-with-needed-requires : tie.Need-mark-with-needed-requires
+mark-with-needed-requires c κs = search needs
 
 find-plans-requires : tie.Need-find-plans-requires
 find-plans-requires c κs = search needs
@@ -61,8 +52,8 @@ returns c =
     let h = listedIn histories (a .phase) in
     let n = placed .slots-of .result in
     let e = bounded .bound .ensures in
-    let marks = marked .mark-possible .last .0 in
-    let backs = three-marks read histories n (a .phase) (a .crew) e marks (marked .mark-possible .ensures) in
+    let marks = marked .mark-with-needed .last .0 in
+    let backs = three-marks read histories n (a .phase) (a .crew) e marks (marked .mark-with-needed .ensures) in
     rw (← placed .slots-of .ensures .same)
     (selection-found (a .crew) read h n three (found .find-plans .result) (c .answer-three .ensures)
     (backing-three (a .crew) read h n marks backs (found .find-plans .ensures))
@@ -78,7 +69,7 @@ choose-three-spec =
     bound-requires
     add-answer-three
     add-t15
-    mark-possible-requires
+    mark-with-needed-requires
     find-plans-requires
     mark-stamped-requires
     count-marks-requires

@@ -8,14 +8,6 @@ use denote.Ref.{now}
 use borrow.Author.Needs.{needs}
 use Rattle.tally.proofs.choose_two.Statement.{statement}
 use Rattle.tally.proofs.choose_two.Tie as tie
-use Rattle.tally.proofs.choose_two.Reads as reads
-use Rattle.tally.proofs.choose_two.Lts as lts
-use Rattle.tally.proofs.answer_below_three.Reads as answer-below-three-reads
-use Rattle.tally.proofs.bound.Reads as bound-reads
-use Rattle.tally.proofs.counts.count_marks.Reads as count-marks-reads
-use Rattle.tally.proofs.counts.find_plans.Reads as find-plans-reads
-use Rattle.tally.proofs.counts.mark_possible.Reads as mark-possible-reads
-use Rattle.tally.proofs.slots_of.Reads as slots-of-reads
 
 slots-of-requires : tie.Need-slots-of-requires
 slots-of-requires c κs = search needs
@@ -32,11 +24,11 @@ count-marks-requires c κs = search needs
 add-find-plans : tie.Need-add-find-plans
 add-find-plans c = search needs
 
-slice-aggregate-mark-possible : tie.Need-slice-aggregate-mark-possible
-slice-aggregate-mark-possible c = search needs
+slice-aggregate-mark-with-needed : tie.Need-slice-aggregate-mark-with-needed
+slice-aggregate-mark-with-needed c = search needs
 
-mark-possible-requires : tie.Need-mark-possible-requires
-mark-possible-requires c κs = search needs
+mark-with-needed-requires : tie.Need-mark-with-needed-requires
+mark-with-needed-requires c κs = search needs
 
 add-find-plans-2 : tie.Need-add-find-plans-2
 add-find-plans-2 c = search needs
@@ -62,8 +54,8 @@ returns c =
     let read = columns (now (a .present)) (now (a .votes)) (now (a .stamps)) in
     let n = placed .slots-of .result in
     let e = bounded .bound .ensures in
-    let marks = marked .mark-possible .last .0 in
-    let possible = possible-marks read h n (a .crew) e (replicate 1 0) 0 marks (marked .mark-possible .ensures) in
+    let marks = marked .mark-with-needed .last .0 in
+    let possible = possible-marks read h n (a .crew) e (replicate 1 0) 0 marks (marked .mark-with-needed .ensures) in
     rw (← placed .slots-of .ensures .same)
     (selection-found (a .crew) read h n two (found .find-plans .result) (c .answer-below-three .ensures .in-two)
     (backing-two (a .crew) read h n e marks possible (found .find-plans .ensures))
@@ -78,8 +70,8 @@ choose-two-spec =
     bound-requires
     count-marks-requires
     add-find-plans
-    slice-aggregate-mark-possible
-    mark-possible-requires
+    slice-aggregate-mark-with-needed
+    mark-with-needed-requires
     add-find-plans-2
     find-plans-requires
     add-answer-below-three

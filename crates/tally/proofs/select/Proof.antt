@@ -4,10 +4,6 @@ use Rattle.ballot.specs.Selection.{taken}
 use borrow.Author.Needs.{needs}
 use Rattle.tally.proofs.select.Statement.{statement}
 use Rattle.tally.proofs.select.Tie as tie
-use Rattle.tally.proofs.select.Reads as reads
-use Rattle.tally.proofs.select.Lts as lts
-use Rattle.tally.proofs.choose.Reads as choose-reads
-use Rattle.tally.proofs.take_on.Reads as take-on-reads
 
 choose-requires : tie.Need-choose-requires
 choose-requires c κs = search needs

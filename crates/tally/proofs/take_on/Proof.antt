@@ -2,9 +2,6 @@
 use borrow.Author.Needs.{needs}
 use Rattle.tally.proofs.take_on.Statement.{statement}
 use Rattle.tally.proofs.take_on.Tie as tie
-use Rattle.tally.proofs.take_on.Reads as reads
-use Rattle.tally.proofs.take_on.Lts as lts
-use Rattle.tally.proofs.any_plan.Reads as any-plan-reads
 
 enum-known-choice : tie.Need-enum-known-choice
 enum-known-choice c = search needs

@@ -4,10 +4,6 @@ use native.Mathlib.Nat.{mul-le-mul}
 use borrow.Author.Needs.{needs}
 use Rattle.tally.proofs.counts.count_listing.Statement.{statement}
 use Rattle.tally.proofs.counts.count_listing.Tie as tie
-use Rattle.tally.proofs.counts.count_listing.Reads as reads
-use Rattle.tally.proofs.counts.count_listing.Lts as lts
-use Rattle.tally.proofs.counts.one_if.Reads as one-if-reads
-use Rattle.tally.proofs.counts.plan_at.Reads as plan-at-reads
 use Prim.Native.Nat.{_-_}
 use native.Mathlib.Omega.{arith}
 use Rattle.tally.proofs.Tallies.{Through, through-all, counted-none, counted-more}

@@ -3,10 +3,6 @@ use mathlib.Core.Path.{sym, _∙_}
 use borrow.Author.Needs.{needs}
 use Rattle.tally.proofs.counts.count_new.Statement.{statement}
 use Rattle.tally.proofs.counts.count_new.Tie as tie
-use Rattle.tally.proofs.counts.count_new.Reads as reads
-use Rattle.tally.proofs.counts.count_new.Lts as lts
-use Rattle.tally.proofs.counts.count_votes.Reads as count-votes-reads
-use Rattle.tally.proofs.counts.is_new.Reads as is-new-reads
 
 is-new-requires : tie.Need-is-new-requires
 is-new-requires c κs = search needs

@@ -2,9 +2,6 @@
 use borrow.Author.Needs.{needs}
 use Rattle.tally.proofs.counts.count_votes.Statement.{statement}
 use Rattle.tally.proofs.counts.count_votes.Tie as tie
-use Rattle.tally.proofs.counts.count_votes.Reads as reads
-use Rattle.tally.proofs.counts.count_votes.Lts as lts
-use Rattle.tally.proofs.counts.one_if.Reads as one-if-reads
 use Prim.Native.Nat.{_-_}
 use native.Mathlib.Omega.{arith}
 use Rattle.tally.proofs.Tallies.{Through, through-all, counted-none, counted-more}

@@ -1,4 +1,4 @@
--- `find_plans` meets its contract.
+-- `find_plans` meets its contract. The invariant: the plans are those that the first q slots vote for.
 use denote.Ref.{now}
 use Rattle.tally.proofs.Finding.{holds-none, holds-more, holds-same}
 use Rattle.tally.proofs.Tallies.{Through, through-all}
@@ -12,10 +12,6 @@ use mathlib.Core.Logic.{inl, inr}
 use borrow.Author.Needs.{needs}
 use Rattle.tally.proofs.counts.find_plans.Statement.{statement}
 use Rattle.tally.proofs.counts.find_plans.Tie as tie
-use Rattle.tally.proofs.counts.find_plans.Reads as reads
-use Rattle.tally.proofs.counts.find_plans.Lts as lts
-use Rattle.tally.proofs.counts.is_reached.Reads as is-reached-reads
-use Rattle.tally.proofs.counts.with_plan.Reads as with-plan-reads
 
 abbrev Inv-loop : tie.InvT-loop
 Inv-loop present marks votes n needed plans₀ q₀ plans q =

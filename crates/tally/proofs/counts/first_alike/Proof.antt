@@ -6,8 +6,6 @@ use Rattle.wire.proofs.Tests.{both-true}
 use borrow.Author.Needs.{needs}
 use Rattle.tally.proofs.counts.first_alike.Statement.{statement}
 use Rattle.tally.proofs.counts.first_alike.Tie as tie
-use Rattle.tally.proofs.counts.first_alike.Reads as reads
-use Rattle.tally.proofs.counts.first_alike.Lts as lts
 
 abbrev Inv-loop : tie.InvT-loop
 Inv-loop present votes stamps q p₀ p = p ≤ q

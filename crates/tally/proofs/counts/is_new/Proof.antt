@@ -3,9 +3,6 @@ use mathlib.Core.Path.{sym, _∙_}
 use borrow.Author.Needs.{needs}
 use Rattle.tally.proofs.counts.is_new.Statement.{statement}
 use Rattle.tally.proofs.counts.is_new.Tie as tie
-use Rattle.tally.proofs.counts.is_new.Reads as reads
-use Rattle.tally.proofs.counts.is_new.Lts as lts
-use Rattle.tally.proofs.counts.is_repeated.Reads as is-repeated-reads
 
 element-copy-out-if1 : tie.Need-element-copy-out-if1
 element-copy-out-if1 c = search needs

@@ -6,10 +6,6 @@ use mathlib.Core.Path.{sym, _∙_}
 use borrow.Author.Needs.{needs}
 use Rattle.tally.proofs.counts.is_reached.Statement.{statement}
 use Rattle.tally.proofs.counts.is_reached.Tie as tie
-use Rattle.tally.proofs.counts.is_reached.Reads as reads
-use Rattle.tally.proofs.counts.is_reached.Lts as lts
-use Rattle.tally.proofs.counts.count_votes.Reads as count-votes-reads
-use Rattle.tally.proofs.counts.is_new.Reads as is-new-reads
 
 is-new-requires : tie.Need-is-new-requires
 is-new-requires c κs = search needs

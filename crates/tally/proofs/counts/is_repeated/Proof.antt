@@ -5,8 +5,6 @@ use denote.Ref.{now}
 use borrow.Author.Needs.{needs}
 use Rattle.tally.proofs.counts.is_repeated.Statement.{statement}
 use Rattle.tally.proofs.counts.is_repeated.Tie as tie
-use Rattle.tally.proofs.counts.is_repeated.Reads as reads
-use Rattle.tally.proofs.counts.is_repeated.Lts as lts
 use Prim.Native.Nat.{_-_}
 use mathlib.Core.Path.{_≡_, refl, sym}
 use native.Mathlib.Omega.{arith}
@@ -18,10 +16,10 @@ use Rattle.tally.specs.Marks.{voting, votersOf}
 use Rattle.tally.proofs.Tallies.{Through, through-all}
 
 abbrev Inv-loop : tie.InvT-loop
-Inv-loop marks votes q p₀ p = Through q (λ k. tally (voting marks votes (getD votes q 0)) k ≡ 0) p
+Inv-loop present votes q p₀ p = Through q (λ k. tally (voting present votes (getD votes q 0)) k ≡ 0) p
 
 abbrev μ-loop : tie.MeasureT-loop
-μ-loop marks votes q p₀ p = q - p
+μ-loop present votes q p₀ p = q - p
 
 loop-holds : tie.Need-loop-holds Inv-loop μ-loop
 unfolding tally
@@ -46,7 +44,7 @@ returns : tie.Need-returns Inv-loop μ-loop
 returns c =
     let looped = c .before .before .before .before .before in
     let args = looped .before .args in
-    let says = voting (now (args .marks)) (now (args .votes)) (getD (now (args .votes)) (args .q) 0) in
+    let says = voting (now (args .present)) (now (args .votes)) (getD (now (args .votes)) (args .q) 0) in
     let p = looped .loop .p in
     let found : T (says p) = rw (c .if1 .taken) tt in
     sym (lt-ltb 0 _ (tally-has says (args .q) p (omega arith) found))
@@ -67,7 +65,7 @@ returns-2 : tie.Need-returns-2 Inv-loop μ-loop
 returns-2 c =
     let args = c .before .before .args in
     let none = through-all (c .before .loop .inv) (c .loop-test .left) in
-    sym (le-ltb 0 (votersOf (now (args .marks)) (now (args .votes)) (args .q) (args .q)) (omega (arith, none)))
+    sym (le-ltb 0 (votersOf (now (args .present)) (now (args .votes)) (args .q) (args .q)) (omega (arith, none)))
 
 pub is-repeated-spec : {M : Type 1} → statement M
 is-repeated-spec =

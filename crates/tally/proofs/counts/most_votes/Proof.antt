@@ -1,4 +1,4 @@
--- `most_votes` meets its contract.
+-- `most_votes` meets its contract. The invariant: the count is the highest of the first q slots.
 use Rattle.tally.proofs.Finding.{most-more}
 use Rattle.tally.proofs.Tallies.{Through, through-all}
 use Rattle.tally.specs.Marks.{marked, votersOf, told, highest}
@@ -9,10 +9,6 @@ use mathlib.Core.Path.{_≡_, refl, _∙_}
 use borrow.Author.Needs.{needs}
 use Rattle.tally.proofs.counts.most_votes.Statement.{statement}
 use Rattle.tally.proofs.counts.most_votes.Tie as tie
-use Rattle.tally.proofs.counts.most_votes.Reads as reads
-use Rattle.tally.proofs.counts.most_votes.Lts as lts
-use Rattle.tally.proofs.counts.count_new.Reads as count-new-reads
-use Rattle.tally.proofs.counts.higher.Reads as higher-reads
 
 abbrev Inv-loop : tie.InvT-loop
 Inv-loop present votes n most₀ q₀ most q =

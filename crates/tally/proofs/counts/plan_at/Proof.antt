@@ -3,8 +3,6 @@ use denote.Ref.{now}
 use borrow.Author.Needs.{needs}
 use Rattle.tally.proofs.counts.plan_at.Statement.{statement}
 use Rattle.tally.proofs.counts.plan_at.Tie as tie
-use Rattle.tally.proofs.counts.plan_at.Reads as reads
-use Rattle.tally.proofs.counts.plan_at.Lts as lts
 use mathlib.Core.Path.{sym}
 use lib.ListN.{List·getD-eq-default}
 

@@ -1,7 +1,7 @@
--- `mark_possible` meets its contract.
+-- `mark_with_needed` meets its contract. The invariant: the first q slots are marked as they should be.
 use denote.Ref.{now}
-use Rattle.tally.proofs.Finding.{alike-possible}
-use Rattle.tally.specs.Marks.{isPossible}
+use Rattle.tally.proofs.Finding.{alike-needed}
+use Rattle.tally.specs.Marks.{hasNeeded}
 use Rattle.wire.proofs.Arrays.{Filling, filling-none, filling-more, filling-until}
 use Rattle.crew.specs.Parts.{mostNodes}
 use native.Mathlib.Omega.{arith}
@@ -9,16 +9,12 @@ use Prim.Native.Nat.{_-_}
 use mathlib.Core.Logic.{inl, inr}
 use mathlib.Core.Bool.{false}
 use borrow.Author.Needs.{needs}
-use Rattle.tally.proofs.counts.mark_possible.Statement.{statement}
-use Rattle.tally.proofs.counts.mark_possible.Tie as tie
-use Rattle.tally.proofs.counts.mark_possible.Reads as reads
-use Rattle.tally.proofs.counts.mark_possible.Lts as lts
-use Rattle.tally.proofs.counts.first_alike.Reads as first-alike-reads
-use Rattle.tally.proofs.counts.is_possible.Reads as is-possible-reads
+use Rattle.tally.proofs.counts.mark_with_needed.Statement.{statement}
+use Rattle.tally.proofs.counts.mark_with_needed.Tie as tie
 
 abbrev Inv-loop : tie.InvT-loop
 Inv-loop out₀ present votes stamps histories needed n q₀ out q =
-    Filling false (isPossible present votes stamps histories needed) mostNodes out q
+    Filling false (hasNeeded present votes stamps histories needed) mostNodes out q
 
 abbrev μ-loop : tie.MeasureT-loop
 μ-loop out₀ present votes stamps histories needed n q₀ out q = n - q
@@ -38,8 +34,8 @@ element-copy-out-out-2 c = search needs
 element-write-out : tie.Need-element-write-out Inv-loop μ-loop
 element-write-out c = search needs
 
-is-possible-requires : tie.Need-is-possible-requires Inv-loop μ-loop
-is-possible-requires c κs = search needs
+has-needed-requires : tie.Need-has-needed-requires Inv-loop μ-loop
+has-needed-requires c κs = search needs
 
 element-write-out-2 : tie.Need-element-write-out-2 Inv-loop μ-loop
 element-write-out-2 c = search needs
@@ -60,15 +56,15 @@ loop-again c =
           let first = c .before .first-alike .ensures .alike (said .0 .taken) in
           let before = looped .so-far (c .before .first-alike .result) (said .0 .taken) in
           rw (said .3) (filling-more _ (omega arith) looped
-          (rw before (alike-possible (now (args .histories)) (args .needed) first)))
+          (rw before (alike-needed (now (args .histories)) (args .needed) first)))
       | inr new ↦ rw (new .2) (filling-more _ (omega arith) looped (new .1 .ensures))
     ]
 
 returns : tie.Need-returns Inv-loop μ-loop
 returns c = filling-until (c .before .loop .inv) (c .loop-test .left)
 
-pub mark-possible-spec : {M : Type 1} → statement M
-mark-possible-spec =
+pub mark-with-needed-spec : {M : Type 1} → statement M
+mark-with-needed-spec =
     tie.close
     (tie.spec
     Inv-loop
@@ -78,7 +74,7 @@ mark-possible-spec =
     element-copy-out-out
     element-copy-out-out-2
     element-write-out
-    is-possible-requires
+    has-needed-requires
     element-write-out-2
     add-q
     loop-less

@@ -1,4 +1,4 @@
--- `come_with_all` meets its contract.
+-- `outcome_in_all_places` meets its contract.
 use Rattle.rounds.proofs.Sizes.{clear-array}
 use Rattle.rounds.specs.Steps.{allPlaces}
 use Rattle.crew.specs.Parts.{mostNodes}
@@ -6,17 +6,14 @@ use Rattle.wire.specs.Sizes.{historySize}
 use native.Mathlib.Omega.{arith}
 use native.Mathlib.Nat.{mul-le-mul}
 use borrow.Author.Needs.{needs}
-use Rattle.rounds.proofs.come_with_all.Statement.{statement}
-use Rattle.rounds.proofs.come_with_all.Tie as tie
-use Rattle.rounds.proofs.come_with_all.Reads as reads
-use Rattle.rounds.proofs.come_with_all.Lts as lts
-use Rattle.rounds.proofs.come_to.Reads as come-to-reads
+use Rattle.rounds.proofs.outcome_in_all_places.Statement.{statement}
+use Rattle.rounds.proofs.outcome_in_all_places.Tie as tie
 
-slice-aggregate-come-to : tie.Need-slice-aggregate-come-to
-slice-aggregate-come-to c = search needs
+slice-aggregate-outcome-with : tie.Need-slice-aggregate-outcome-with
+slice-aggregate-outcome-with c = search needs
 
-come-to-requires : tie.Need-come-to-requires
-come-to-requires c κs =
+outcome-with-requires : tie.Need-outcome-with-requires
+outcome-with-requires c κs =
     let start = c .before .before in
     let asked = start .pre in
     let round = start .args .round in
@@ -32,5 +29,5 @@ come-to-requires c κs =
 returns : tie.Need-returns
 returns c = search needs
 
-pub come-with-all-spec : {M : Type 1} → statement M
-come-with-all-spec = tie.close (tie.spec slice-aggregate-come-to come-to-requires returns)
+pub outcome-in-all-places-spec : {M : Type 1} → statement M
+outcome-in-all-places-spec = tie.close (tie.spec slice-aggregate-outcome-with outcome-with-requires returns)

@@ -1,18 +1,11 @@
--- `ruling` meets its contract.
+-- `rule_on_columns` meets its contract.
 use Rattle.rounds.specs.Steps.{planIf}
 use denote.Ref.{now}
 use borrow.Author.Tests.{eq-eqb, ne-eqb}
 use mathlib.Core.Path.{ap, _∙_}
 use borrow.Author.Needs.{needs}
-use Rattle.rounds.proofs.ruling.Statement.{statement}
-use Rattle.rounds.proofs.ruling.Tie as tie
-use Rattle.rounds.proofs.ruling.Reads as reads
-use Rattle.rounds.proofs.ruling.Lts as lts
-use Rattle.rounds.proofs.planned.Reads as planned-reads
-use Rattle.tally.proofs.choose.Reads as choose-reads
-use Rattle.tally.proofs.decide.Reads as decide-reads
-use Rattle.tally.proofs.select.Reads as select-reads
-use Rattle.tally.proofs.validate.Reads as validate-reads
+use Rattle.rounds.proofs.rule_on_columns.Statement.{statement}
+use Rattle.rounds.proofs.rule_on_columns.Tie as tie
 
 choose-requires : tie.Need-choose-requires
 choose-requires c κs = search needs
@@ -67,8 +60,8 @@ returns-4 c =
     rw (ne-eqb _ _ (later .if1 .left), ne-eqb _ _ (third .if3 .left))
     (c .planned3 .ensures ∙ ap planIf (c .before .decide .ensures h))
 
-pub ruling-spec : {M : Type 1} → statement M
-ruling-spec =
+pub rule-on-columns-spec : {M : Type 1} → statement M
+rule-on-columns-spec =
     tie.close
     (tie.spec
     choose-requires

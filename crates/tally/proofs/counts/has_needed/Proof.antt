@@ -1,13 +1,9 @@
--- `is_possible` meets its contract.
+-- `has_needed` meets its contract.
 use lib.Dec.{leb·zero}
 use borrow.Author.Tests.{le-leb, lt-leb}
 use borrow.Author.Needs.{needs}
-use Rattle.tally.proofs.counts.is_possible.Statement.{statement}
-use Rattle.tally.proofs.counts.is_possible.Tie as tie
-use Rattle.tally.proofs.counts.is_possible.Reads as reads
-use Rattle.tally.proofs.counts.is_possible.Lts as lts
-use Rattle.tally.proofs.counts.count_listing.Reads as count-listing-reads
-use Rattle.tally.proofs.counts.count_supporting.Reads as count-supporting-reads
+use Rattle.tally.proofs.counts.has_needed.Statement.{statement}
+use Rattle.tally.proofs.counts.has_needed.Tie as tie
 
 element-copy-out-if1 : tie.Need-element-copy-out-if1
 element-copy-out-if1 c = search needs
@@ -62,8 +58,8 @@ returns-3 c =
 returns-4 : tie.Need-returns-4
 returns-4 c = rw (c .if1 .left)
 
-pub is-possible-spec : {M : Type 1} → statement M
-is-possible-spec =
+pub has-needed-spec : {M : Type 1} → statement M
+has-needed-spec =
     tie.close
     (tie.spec
     element-copy-out-if1
