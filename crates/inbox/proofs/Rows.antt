@@ -67,7 +67,8 @@ listed-laid least (suc count) phase row (e ∷ es) sum long ok clear =
     by-equality (e .phase) least
     (λ same.
     let here : getD (set (rowWith row es) (e .phase) (e .plan)) least 0 ≡ e .plan =
-    rw (sym same) (getD-set-same (rowWith row es) (e .phase) (e .plan) 0 (omega (arith, r .below, laid-length row es))) in
+    rw (sym same) (getD-set-same (rowWith row es) (e .phase) (e .plan) 0
+    (omega (arith, r .below, laid-length row es))) in
     let others : entriesFrom (set (rowWith row es) (e .phase) (e .plan)) (least + 1) count ≡ es =
     listed-after (rowWith row es) (e .phase) (e .plan) (least + 1) count (omega arith)
     ∙ listed-laid (least + 1) count phase row es (omega arith) long (rw same at (r .rest)) clear in

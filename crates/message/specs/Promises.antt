@@ -63,7 +63,13 @@ pub record LaidSelection (s row : List ℕ) (r : Bool) (after : List ℕ) : Type
   pub answer : r ≡ within (messageWith s (selectionAt s))
   pub lays : after ≡ rowWith row (keptOf (getD s phasePlace 0) (entriesAt s))
 
--- the same of any message; only a selection's entries are laid, where the row has a place for each phase before its own
+-- the same, where the row has a place for each phase before its own; else no entry is laid
+pub record KeptSelection (s row : List ℕ) (r : Bool) (after : List ℕ) : Type 0 where
+  pub answer : r ≡ within (messageWith s (selectionAt s))
+  pub lays : after
+      ≡ cond (leb (getD s phasePlace 0) (length row)) (rowWith row (keptOf (getD s phasePlace 0) (entriesAt s))) row
+
+-- the same of any message: only a selection's entries are laid
 pub record KeptLaying (s : List ℕ) (kind : ℕ) (row : List ℕ) (r : Bool) (after : List ℕ) : Type 0 where
   pub answer : r ≡ within (messageWith s (bodyAt s))
   pub lays : after

@@ -39,7 +39,7 @@ ghost use Rattle.message.specs.Reading.{
 };
 ghost use Rattle.message.specs.Laying.{headed, ExpectedFrom};
 ghost use Rattle.message.specs.Promises.{Widened, Framed, HeldInFull};
-ghost use Rattle.message.specs.Promises.{RowFor, LaidEntry, LaidEntries, LaidSelection, KeptLaying};
+ghost use Rattle.message.specs.Promises.{RowFor, LaidEntry, LaidEntries, LaidSelection, KeptSelection, KeptLaying};
 
 // Where the fields stand, each where the one before it ends, as in specs/Layout.antt.
 pub const LENGTH_AT: usize = 0;
@@ -313,6 +313,19 @@ fn lay_selection(s: &[u8], row: &mut [Plan]) -> bool
         & (has_plan(s) & (s[STAMP_AT] < s[PHASE_AT]) & (s[COUNT_AT] <= MOST_ENTRIES) & laid)
 }
 
+// A selection's entries are laid where the row has a place for each phase before the message's, else only tested. As
+// both ways to read a message come here, this stays a function of its own when it is compiled: within the walk's loop
+// that over the entries would be slower.
+fn keeps_selection(s: &[u8], row: &mut [Plan]) -> bool
+    requires { ⌜ entriesPlace + entrySize * getD (now s) countPlace 0 ≤ length (now s) ⌝ }
+    ensures { λ r. ⌜ KeptSelection (now (s .entry)) (now (row .entry)) r (now (row .exit)) ⌝ }
+{
+    if wide(s[PHASE_AT]) as usize <= row.len() {
+        return lay_selection(s, row);
+    }
+    selection_keeps_bounds(s)
+}
+
 fn validation_keeps_bounds(s: &[u8]) -> bool
     requires { ⌜ planPlace + planSize ≤ length (now s) ⌝ }
     ensures { λ r. ⌜ r ≡ within (messageWith (now (s .entry)) (validationAt (now (s .entry)))) ⌝ }
@@ -363,7 +376,8 @@ fn keeps_bounds(s: &[u8], kind: u16) -> bool
     ensures { λ r. ⌜ r ≡ within (messageWith (now (s .entry)) (bodyAt (now (s .entry)))) ⌝ }
 {
     if kind == SELECTION {
-        return selection_keeps_bounds(s);
+        let mut none = [0u16; 1];
+        return keeps_selection(s, &mut none[..0]);
     }
     if kind == VALIDATION {
         return validation_keeps_bounds(s);
@@ -426,17 +440,13 @@ fn has_header(s: &[u8], header: Header) -> bool
     false
 }
 
-// As `keeps_bounds`; the entries of a selection are laid into the row where it has a place for each phase before the
-// message's. The kinds are tried here again and not by `keeps_bounds`: as the walk's alone, this is compiled into it.
+// As `keeps_bounds`, with a row for the entries of a selection.
 fn keeps_bounds_laying(s: &[u8], kind: u16, row: &mut [Plan]) -> bool
     requires { ⌜ HeldInFull (now s) kind ⌝ }
     ensures { λ r. ⌜ KeptLaying (now (s .entry)) kind (now (row .entry)) r (now (row .exit)) ⌝ }
 {
     if kind == SELECTION {
-        if wide(s[PHASE_AT]) as usize <= row.len() {
-            return lay_selection(s, row);
-        }
-        return selection_keeps_bounds(s);
+        return keeps_selection(s, row);
     }
     if kind == VALIDATION {
         return validation_keeps_bounds(s);

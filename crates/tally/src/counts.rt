@@ -158,8 +158,8 @@ fn first_alike(
     q
 }
 
-// What a slot needs to be possible, and in class 3 to back its vote: that so many slots support what it says, and that so
-// many list its vote at its stamp. `slots` and `phases` say how far the columns and the rows of the histories go.
+// What a slot needs to be possible, and in class 3 to back its vote: that so many slots support what it says, and that
+// so many list its vote at its stamp. `slots` and `phases` say how far the columns and the rows of the histories go.
 pub(crate) struct Needed {
     pub slots: usize,
     pub phases: u8,
@@ -193,8 +193,8 @@ fn has_needed(
     false
 }
 
-// Marks the slots that have what they need. What slots say is counted once: a slot that says what an earlier one said has its
-// mark. Marks are put into an array that the caller lends: an answered one would be copied.
+// Marks the slots that have what they need. What slots say is counted once: a slot that says what an earlier one said
+// has its mark. Marks are put into an array that the caller lends: an answered one would be copied.
 pub(crate) fn mark_with_needed(
     out: &mut [bool; MOST_NODES],
     present: &[bool; MOST_NODES],

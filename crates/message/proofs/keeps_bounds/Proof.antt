@@ -1,17 +1,25 @@
 -- `keeps_bounds` meets its contract: the kind picks the test.
+use borrow.Author.Needs.{needs}
 use Rattle.message.proofs.ReadLaws.{kind-one, kind-two, kind-other, size-one}
 use Rattle.message.proofs.keeps_bounds.Statement.{statement}
 use Rattle.message.proofs.keeps_bounds.Tie as tie
 
-selection-keeps-bounds-requires : tie.Need-selection-keeps-bounds-requires
-selection-keeps-bounds-requires c κs =
-    let held = c .before .before .pre in
-    rw (size-one (held .of-kind) (c .if1 .taken)) at (held .whole)
+array-borrow-prefix-none : tie.Need-array-borrow-prefix-none
+array-borrow-prefix-none c = search needs
+
+slice-aggregate-keeps-selection : tie.Need-slice-aggregate-keeps-selection
+slice-aggregate-keeps-selection c = search needs
+
+keeps-selection-requires : tie.Need-keeps-selection-requires
+keeps-selection-requires c κs =
+    let held = c .before .before .before .pre in
+    rw (size-one (held .of-kind) (c .before .if1 .taken)) at (held .whole)
 
 returns : tie.Need-returns
 returns c =
-    let held = c .before .before .before .pre in
-    simp (kind-one (held .of-kind) (c .before .if1 .taken), c .selection-keeps-bounds .ensures)
+    let first = c .before .before .before in
+    let held = first .before .before .pre in
+    simp (kind-one (held .of-kind) (first .if1 .taken), c .before .keeps-selection .ensures .answer)
 
 validation-keeps-bounds-requires : tie.Need-validation-keeps-bounds-requires
 validation-keeps-bounds-requires c κs =
@@ -41,7 +49,9 @@ pub keeps-bounds-spec : {M : Type 1} → statement M
 keeps-bounds-spec =
     tie.close
     (tie.spec
-    selection-keeps-bounds-requires
+    array-borrow-prefix-none
+    slice-aggregate-keeps-selection
+    keeps-selection-requires
     returns
     validation-keeps-bounds-requires
     returns-2
