@@ -1,8 +1,8 @@
--- What stands in the slots of an inbox while it is filled, sender by sender.
+-- What a say writes, and what stands in an array of slots while it is filled, sender by sender.
 use mathlib.Core.Path.{_≡_, refl, ap, sym, _∙_}
 use mathlib.Core.Bool.{Bool, cond}
 use mathlib.Core.List.{List, [], _++_, append-assoc}
-use Prim.Native.Nat.{ℕ, suc, _+_, _*_, _-_, _<_, _≤_}
+use Prim.Native.Nat.{ℕ, zero, suc, _+_, _*_, _-_, _<_, _≤_}
 use native.Mathlib.Nat.{add-sub-cancel-left}
 use native.Mathlib.Omega.{arith}
 use native.Mathlib.Numerals.{add-one}
@@ -15,8 +15,9 @@ use Rattle.message.specs.Fields.{selection, validation, decision}
 use Rattle.message.specs.Layout.{slotSize}
 use Rattle.writer.specs.Writing.{messageBufferOf, selectionBufferOf}
 use Rattle.wire.specs.Entry.{entriesFrom}
-use Rattle.aisle.specs.declared.State.{State}
-use Rattle.aisle.specs.Round.{sayBuffer, delivered, slotsOf, inboxSize}
+use Rattle.wire.proofs.Tests.{by-equality}
+use Rattle.aisle.specs.Round.{sayBuffer, emptySlot, slotsOf, inboxSize}
+use Rattle.aisle.specs.Promises.{slotIn}
 
 -- a selection that lists no phase has no entries
 pub selection-said : (phase plan stamp : ℕ) (history slot : List ℕ)
@@ -59,66 +60,118 @@ left s = slotSize * (mostNodes - s)
 abbrev empties : ℕ → List ℕ
 empties s = replicate (left s) 0
 
--- s senders' slots are filled, and all after them is 0
-pub record Laid (st : State) (receiver : ℕ) (inbox : List ℕ) (s : ℕ) : Type 0 where
+-- the same slots stand one after another where each sender's is the same
+pub slots-same : (f g : ℕ → List ℕ) (n : ℕ) → ((s : ℕ) → s < n → f s ≡ g s) → slotsOf f n ≡ slotsOf g n
+unfolding slotsOf
+slots-same f g zero same = refl
+slots-same f g (suc n) same = rw (slots-same f g n (λ s h. same s (omega arith)), same n (omega arith))
+
+module _ (slot : ℕ → List ℕ) where
+  -- the slots of the first n senders are as long as a slot is
+  abbrev Long : ℕ → Type 0
+  Long n = (s : ℕ) → s < n → length (slot s) ≡ slotSize
+
+  slots-more : (n : ℕ) → slotsOf slot (n + 1) ≡ slotsOf slot n ++ slot n
+  unfolding slotsOf
+  slots-more n = rw (add-one n)
+
+  slots-long : (n : ℕ) → Long n → length (slotsOf slot n) ≡ start n
+  unfolding slotsOf
+  slots-long zero long = refl
+  slots-long (suc n) long =
+      let before = slots-long n (λ s h. long s (omega arith)) in
+      length-append (slotsOf slot n) (slot n) ∙ omega (arith, before, long n (omega arith))
+
+  -- where a sender's slot begins, its slot stands
+  slot-there : (n s : ℕ) (rest : List ℕ) → s < n → Long n → slotIn (slotsOf slot n ++ rest) s ≡ slot s
+  unfolding slotsOf
+  slot-there zero s rest less long = absurd (omega arith)
+  slot-there (suc n) s rest less long =
+      let front : List ℕ = slotsOf slot n in
+      let before : Long n = λ k h. long k (omega arith) in
+      let is : (front ++ slot n) ++ rest ≡ front ++ (slot n ++ rest) = append-assoc front (slot n) rest in
+      by-equality s n
+      (λ same.
+      rw same
+      (the-part front (slot n) rest [] _ (start n) slotSize is (slots-long n before) (long n (omega arith))))
+      (λ apart. rw is (slot-there n s (slot n ++ rest) (omega (arith, apart)) before))
+
+  -- with as many empty slots behind as there are left, they fill the array
+  slots-size : (s : ℕ) → s ≤ mostNodes → Long s → length (slotsOf slot s ++ empties s) ≡ inboxSize
+  slots-size s within long =
+      length-append (slotsOf slot s) (empties s)
+      ∙ omega (arith, slots-long s long, length-replicate {A = ℕ} (left s) 0)
+
+-- s senders' slots are laid, and all after them is 0
+pub record Laid (slot : ℕ → List ℕ) (slots : List ℕ) (s : ℕ) : Type 0 where
   pub within : s ≤ mostNodes
-  pub long : length (slotsOf st receiver s) ≡ start s
-  pub laid : inbox ≡ slotsOf st receiver s ++ empties s
+  pub size : length slots ≡ inboxSize
+  pub long : Long slot s
+  pub laid : slots ≡ slotsOf slot s ++ empties s
 
-module _ (st : State) (receiver : ℕ) (inbox : List ℕ) where
-  pub laid-none : inbox ≡ replicate inboxSize 0 → Laid st receiver inbox 0
+module _ (slot : ℕ → List ℕ) (slots : List ℕ) where
+  pub laid-none : slots ≡ replicate inboxSize 0 → Laid slot slots 0
   unfolding slotsOf
-  laid-none e = record { within = omega arith; long = refl; laid = e }
+  laid-none e = record {
+    within = omega arith;
+    size = rw e (length-replicate {A = ℕ} inboxSize 0);
+    long = λ s less. absurd (omega arith);
+    laid = e;
+  }
 
-  laid-put : (s k : ℕ) (x : List ℕ) → s < mostNodes → k ≡ slotSize
-      → x ≡ delivered st s receiver (take k (drop (start s) inbox))
-      → length x ≡ length (take k (drop (start s) inbox))
-      → Laid st receiver inbox s
-      → Laid st receiver (take (start s) inbox ++ (x ++ drop k (drop (start s) inbox))) (s + 1)
-  unfolding slotsOf
-  laid-put s k x h ek ex lx inv =
-      let slots : List ℕ = slotsOf st receiver s in
-      let empty : List ℕ = replicate slotSize 0 in
-      let rest : List ℕ = empties (s + 1) in
-      let more : left s ≡ slotSize + left (s + 1) = omega arith in
-      let zeros : empties s ≡ empty ++ rest =
-      ap (λ (n : ℕ). replicate n 0) more ∙ sym (replicate-append-replicate {A = ℕ} slotSize (left (s + 1)) 0) in
-      let is : inbox ≡ slots ++ (empty ++ rest) = inv .laid ∙ ap (λ (z : List ℕ). slots ++ z) zeros in
-      let size : length empty ≡ k = length-replicate {A = ℕ} slotSize 0 ∙ sym ek in
-      let part : take k (drop (start s) inbox) ≡ empty =
-      the-part slots empty rest x inbox (start s) k is (inv .long) size in
-      let sent : x ≡ delivered st s receiver empty = ex ∙ ap (delivered st s receiver) part in
-      let x-long : length x ≡ slotSize = lx ∙ ap length part ∙ length-replicate {A = ℕ} slotSize 0 in
-      let one : s + 1 ≡ suc s = add-one s in
-      record {
-        within = omega arith;
-        long = rw (one, ← sent) (length-append slots x ∙ omega (arith, inv .long));
-        laid =
-            put-part slots empty rest x inbox (start s) k is (inv .long) size
-            ∙ rw (one, ← sent);
-      }
+  -- the slots of n senders stand at the front
+  pub laid-front : (n s : ℕ) → n ≤ s → s ≤ n → Laid slot slots s → take (start n) slots ≡ slotsOf slot n
+  laid-front n s h k inv =
+      let same : n ≡ s = omega arith in
+      rw (same, inv .laid) (take-at (slotsOf slot s) (empties s) (start s) (slots-long slot s (inv .long)))
 
-  -- the slot of sender s is lent, and comes back with what is delivered there
-  module _ (s : ℕ) where
+  -- each sender's slot stands at its place
+  pub laid-slot : (n s : ℕ) → s < n → Laid slot slots n → slotIn slots s ≡ slot s
+  laid-slot n s less inv = rw (inv .laid) (slot-there slot n s (empties n) less (inv .long))
+
+  module _ (s : ℕ) (less : s < mostNodes) (inv : Laid slot slots s) where
+    -- the slot of the next sender, which is lent, and what stands before and after it
     abbrev size : ℕ
     size = start s + slotSize - start s
 
-    pub laid-more : (x : List ℕ) → s < mostNodes
-        → x ≡ delivered st s receiver (take size (drop (start s) inbox))
-        → length x ≡ length (take size (drop (start s) inbox))
-        → Laid st receiver inbox s
-        → Laid st receiver (take (start s) inbox ++ (x ++ drop size (drop (start s) inbox))) (s + 1)
-    laid-more x h = laid-put s size x h (add-sub-cancel-left (start s) slotSize)
+    abbrev rest : List ℕ
+    rest = empties (s + 1)
 
-  pub laid-long : (s : ℕ) → Laid st receiver inbox s → length inbox ≡ inboxSize
-  laid-long s inv =
-      let sizes = length-append (slotsOf st receiver s) (empties s) in
-      rw (inv .laid) (omega (arith, sizes, inv .long, inv .within, length-replicate {A = ℕ} (left s) 0))
+    size-is : length emptySlot ≡ size
+    size-is = length-replicate {A = ℕ} slotSize 0 ∙ sym (add-sub-cancel-left (start s) slotSize)
 
-  pub laid-all : (n s : ℕ) → n ≤ s → s ≤ n → Laid st receiver inbox s → take (start n) inbox ≡ slotsOf st receiver n
-  laid-all n s h k inv =
-      let same : n ≡ s = omega arith in
-      rw (same, inv .laid) (take-at (slotsOf st receiver s) (empties s) (start s) (inv .long))
+    front-long : length (slotsOf slot s) ≡ start s
+    front-long = slots-long slot s (inv .long)
+
+    apart : slots ≡ slotsOf slot s ++ (emptySlot ++ rest)
+    apart =
+        let more : left s ≡ slotSize + left (s + 1) = omega arith in
+        let zeros : empties s ≡ emptySlot ++ rest =
+        ap (λ (n : ℕ). replicate n 0) more ∙ sym (replicate-append-replicate {A = ℕ} slotSize (left (s + 1)) 0) in
+        inv .laid ∙ ap (λ (z : List ℕ). slotsOf slot s ++ z) zeros
+
+    pub lent-empty : take size (drop (start s) slots) ≡ emptySlot
+    lent-empty = the-part (slotsOf slot s) emptySlot rest [] slots (start s) size apart front-long size-is
+
+    -- it comes back, as long as it was, and is the sender's
+    pub laid-more : (x : List ℕ) → x ≡ slot s → length x ≡ length (take size (drop (start s) slots))
+        → Laid slot (take (start s) slots ++ (x ++ drop size (drop (start s) slots))) (s + 1)
+    laid-more x is back-long = record {
+      within = omega arith;
+      size = rw now-laid (slots-size slot (s + 1) (omega arith) long);
+      long = long;
+      laid = now-laid;
+    } where
+      x-long : length x ≡ slotSize
+      x-long = back-long ∙ ap length lent-empty ∙ length-replicate {A = ℕ} slotSize 0
+
+      long : Long slot (s + 1)
+      long k h = by-equality k s (λ same. rw (same, ← is) x-long) (λ other. inv .long k (omega (arith, other)))
+
+      now-laid : take (start s) slots ++ (x ++ drop size (drop (start s) slots)) ≡ slotsOf slot (s + 1) ++ rest
+      now-laid =
+          put-part (slotsOf slot s) emptySlot rest x slots (start s) size apart front-long size-is
+          ∙ ap (λ (l : List ℕ). l ++ rest) (ap (λ (l : List ℕ). slotsOf slot s ++ l) is ∙ sym (slots-more slot s))
 
 -- what the size of the largest inbox comes to
 inbox-size : inboxSize ≡ 6464

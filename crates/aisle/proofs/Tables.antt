@@ -1,9 +1,9 @@
 -- Loops that fill an array place by place: at their end it is a table.
-use mathlib.Core.Path.{_≡_, refl, _∙_}
-use mathlib.Core.List.{List, [], _∷_}
+use mathlib.Core.Path.{_≡_, refl, sym, _∙_}
+use mathlib.Core.List.{List, [], _∷_, map}
 use Prim.Native.Nat.{ℕ, zero, suc, _<_, _≤_}
 use native.Mathlib.Omega.{arith}
-use lib.ListN.{length, length-append, List·getD-append}
+use lib.ListN.{length, length-append, length-map, List·getD-append}
 use lib.Seq.{getD-at}
 use Rattle.wire.proofs.Tests.{by-equality}
 use Rattle.wire.proofs.Arrays.{Filled, filled-all, Filling}
@@ -26,6 +26,10 @@ module _ {A : Type 0} (f : ℕ → A) where
       let before : k < length (table f n) = omega (arith, apart, table-long n) in
       List·getD-append (table f n) (f n ∷ []) other k before
       ∙ table-filled other n k (omega (arith, apart)))
+
+-- an array of records is as long as that of their values, which is as long as its type says
+pub length-mapped : (A B : Type 0) (f : A → B) (l : List A) (n : ℕ) → length (map f l) ≡ n → length l ≡ n
+length-mapped A B f l n long = sym (length-map l f) ∙ long
 
 -- i places of an array of n hold what the table has there
 abbrev pub Tabled : {A : Type 0} → (ℕ → A) → ℕ → List A → ℕ → Type 0

@@ -1,2 +1,3 @@
 pub mod Round
 pub mod Start
+pub mod Promises

@@ -1,7 +1,7 @@
 -- The aisle at the start of a drill: document 01, 'The drill'.
 use Prim.Native.Nat.{ℕ}
 use mathlib.Core.List.{List}
-use lib.ListN.{getD}
+use lib.ListN.{getD, replicate}
 use lib.Dec.{leb}
 use Rattle.wire.specs.Outcome.{valueOr}
 use Rattle.crew.specs.declared.Crew.{Crew}
@@ -16,10 +16,11 @@ use Rattle.aisle.specs.Round.{table}
 -- 01: "0 for a node that is not honest"; "Run is 1."
 unfoldable pub begunOf : Crew → List ℕ → State
 begunOf crew plans = record {
-  crew = crew;
-  phase = 1;
-  round = 1;
-  honest = table (λ i. leb 1 (getD plans i 0)) mostNodes;
-  nodes = table (λ i. valueOr blank (startOf crew i 1 (getD plans i 0))) mostNodes;
-  pending = nothing;
+  setup = record { crew = crew; honest = table (λ i. leb 1 (getD plans i 0)) mostNodes };
+  moment = record {
+    phase = 1;
+    round = 1;
+    nodes = table (λ i. valueOr blank (startOf crew i 1 (getD plans i 0))) mostNodes;
+    pending = replicate mostNodes nothing;
+  };
 }

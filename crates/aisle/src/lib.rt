@@ -5,29 +5,31 @@ use crew::MOST_NODES;
 use message::SLOT;
 use node::Node;
 use pending::Pending;
+use pending::Waiting;
 use wire::PHASES;
 use wire::Plan;
 ghost use mathlib.Core.Path.{_≡_};
 ghost use Prim.Native.Nat.{_<_, _≤_};
-ghost use lib.ListN.{getD};
+ghost use mathlib.Core.Bool.{cond};
+ghost use lib.ListN.{getD, length};
 ghost use lib.Dec.{leb};
 ghost use Rattle.wire.specs.Outcome.{valueOr};
 ghost use Rattle.wire.specs.Sizes.{spentPhase};
 ghost use Rattle.crew.specs.Parts.{mostNodes};
 ghost use Rattle.node.specs.Record.{blank};
 ghost use Rattle.node.specs.Place.{roundAfter, phaseAfter};
+ghost use Rattle.node.specs.Sending.{comingBufferOf};
 ghost use Rattle.node.specs.Starting.{startOf};
 ghost use Rattle.aisle.specs.Round.{
   table,
   sayBuffer,
   delivered,
-  InboxFor,
   nodeAfter,
-  resultAt,
+  resultIn,
   goOf,
-  Ready,
   gone,
 };
+ghost use Rattle.aisle.specs.Promises.{AllSent, Sendable, InboxFrom, Ready};
 ghost use Rattle.aisle.specs.Start.{begunOf};
 
 // A drill is one run of the algorithm.
@@ -35,17 +37,27 @@ const RUN: u32 = 1;
 // The inbox of the largest crew.
 const INBOX: usize = SLOT * MOST_NODES;
 
-// The drill between two lines.
-pub struct State {
+// What a drill never changes.
+pub struct Setup {
     pub crew: Crew,
+    // Which nodes are honest: those with an initial plan.
+    pub honest: [bool; MOST_NODES],
+}
+
+// All that a drill changes, as it stands between two lines.
+pub struct Moment {
     // The coming round. The drill counts by itself: all the nodes may be dishonest.
     pub phase: u8,
     pub round: u8,
-    // Which nodes are honest: those with an initial plan.
-    pub honest: [bool; MOST_NODES],
-    // The honest nodes' records; for any other number the blank record of its refused start, which no take changes.
+    // The honest nodes' records; for any other number the blank record of its refused start.
     pub nodes: [Node; MOST_NODES],
-    pub pending: Pending,
+    // The cuts and says that wait for the next go, by receivers.
+    pub pending: [Pending; MOST_NODES],
+}
+
+pub struct State {
+    pub setup: Setup,
+    pub moment: Moment,
 }
 
 // Writes the message of a say to the front of a slot.
@@ -66,53 +78,81 @@ fn write_say(slot: &mut [u8], phase: u8, round: u8, plan: Plan, stamp: u8)
     writer::write_decision(slot, RUN, phase, plan, stamp);
 }
 
-// Writes what a sender sends a receiver to the front of the receiver's slot for it.
-fn deliver(state: State, sender: usize, receiver: usize, slot: &mut [u8])
-    requires { ⌜ sender < mostNodes ⌝ }
-    ensures { λ _. ⌜ now (slot .exit) ≡ delivered state sender receiver (now (slot .entry)) ⌝ }
+// Writes an honest node's coming message to the front of a slot.
+fn write_message(slot: &mut [u8], node: Node, honest: bool)
+    ensures { λ _. ⌜ now (slot .exit) ≡ cond honest (comingBufferOf node (now (slot .entry))) (now (slot .entry)) ⌝ }
 {
-    let pending = state.pending;
-    if pending.is_cut(sender, receiver) {
-        return;
-    }
-    let honest = state.honest;
-    if honest[sender] {
-        let node = state.nodes[sender];
+    if honest {
         node.write(slot);
+    }
+}
+
+// What all honest nodes send in the coming round: each one's message, written once, at the front of its slot.
+fn messages(nodes: [Node; MOST_NODES], honest: [bool; MOST_NODES]) -> [u8; INBOX]
+    ensures { λ r. ⌜ AllSent nodes honest r ⌝ }
+{
+    let mut sent = [0u8; INBOX];
+    let mut sender: usize = 0;
+    while sender < MOST_NODES {
+        let at = SLOT * sender;
+        let end = at + SLOT;
+        write_message(&mut sent[at..end], nodes[sender], honest[sender]);
+        sender = sender + 1;
+    }
+    sent
+}
+
+fn hand_over(message: &[u8], slot: &mut [u8])
+    requires { ⌜ length (now message) ≡ length (now slot) ⌝ }
+    ensures { λ _. ⌜ now (slot .exit) ≡ now (message .entry) ⌝ }
+{
+    let mut i: usize = 0;
+    while i < slot.len() {
+        slot[i] = message[i];
+        i = i + 1;
+    }
+}
+
+// Puts what reaches a receiver from a sender into the receiver's slot for it.
+fn deliver(message: &[u8], honest: bool, waiting: Waiting, phase: u8, round: u8, slot: &mut [u8])
+    requires { ⌜ length (now message) ≡ length (now slot) ⌝ }
+    ensures { λ _. ⌜ now (slot .exit)
+        ≡ delivered honest (now (message .entry)) waiting phase round (now (slot .entry)) ⌝ }
+{
+    if waiting.cut {
         return;
     }
-    let said = pending.say_of(sender, receiver);
-    write_say(slot, state.phase, state.round, said.plan, said.stamp);
+    if honest {
+        hand_over(message, slot);
+        return;
+    }
+    write_say(slot, phase, round, waiting.plan, waiting.stamp);
 }
 
 // A receiver's inbox, made anew for each round: nothing of an earlier one stays behind a shorter message.
-fn inbox_for(state: State, receiver: usize) -> [u8; INBOX]
-    requires { ⌜ state .crew .n ≤ mostNodes ⌝ }
-    ensures { λ r. ⌜ InboxFor state receiver r ⌝ }
+fn inbox_for(setup: Setup, phase: u8, round: u8, sent: &[u8], pending: Pending) -> [u8; INBOX]
+    requires { ⌜ Sendable setup (now sent) ⌝ }
+    ensures { λ r. ⌜ InboxFrom setup phase round (now (sent .entry)) pending r ⌝ }
 {
+    let honest = setup.honest;
+    let n = setup.crew.n as usize;
     let mut inbox = [0u8; INBOX];
-    let n = state.crew.n as usize;
     let mut sender: usize = 0;
     while sender < n {
         let at = SLOT * sender;
         let end = at + SLOT;
-        deliver(state, sender, receiver, &mut inbox[at..end]);
+        let waiting = pending.from(sender);
+        deliver(
+            &sent[at..end],
+            honest[sender],
+            waiting,
+            phase,
+            round,
+            &mut inbox[at..end],
+        );
         sender = sender + 1;
     }
     inbox
-}
-
-// A node's record after it took the round.
-fn take_round(state: State, receiver: usize) -> Node
-    requires { ⌜ (state .crew .n ≤ mostNodes) × (receiver < mostNodes) ⌝ }
-    ensures { λ r. ⌜ r ≡ nodeAfter state receiver ⌝ }
-{
-    let inbox = inbox_for(state, receiver);
-    let size = SLOT * (state.crew.n as usize);
-    let node = state.nodes[receiver];
-    let taken = rounds::take(node, &inbox[..size]);
-    let after = taken.node;
-    after
 }
 
 fn round_after(class: u8, round: u8) -> u8
@@ -140,53 +180,65 @@ fn phase_after(phase: u8, round: u8) -> u8
     phase
 }
 
-// A whole round: all that is sent in it comes from the records as they are before it.
-fn whole_round(state: State) -> State
-    requires { ⌜ Ready state ⌝ }
-    ensures { λ r. ⌜ r ≡ goOf state ⌝ }
+// The records after a round: all that is sent in it comes from the records as they are before it. A node that is not
+// honest has no inbox, and its record stays.
+fn records_after(setup: Setup, moment: Moment) -> [Node; MOST_NODES]
+    requires { ⌜ setup .crew .n ≤ mostNodes ⌝ }
+    ensures { λ r. ⌜ r ≡ table (nodeAfter setup moment) mostNodes ⌝ }
 {
-    let crew = state.crew;
-    let honest = state.honest;
-    let node = state.nodes[0];
-    let mut nodes = [node; MOST_NODES];
+    let honest = setup.honest;
+    let size = SLOT * (setup.crew.n as usize);
+    let pending = moment.pending;
+    let mut nodes = moment.nodes;
+    let sent = messages(nodes, honest);
     let mut receiver: usize = 0;
     while receiver < MOST_NODES {
-        let after = take_round(state, receiver);
-        nodes[receiver] = after;
+        if honest[receiver] {
+            let inbox = inbox_for(setup, moment.phase, moment.round, &sent, pending[receiver]);
+            let taken = rounds::take(nodes[receiver], &inbox[..size]);
+            let after = taken.node;
+            nodes[receiver] = after;
+        }
         receiver = receiver + 1;
     }
-    let phase = phase_after(state.phase, state.round);
-    let round = round_after(crew.class, state.round);
-    let pending = Pending::empty();
-    State {
-        crew: crew,
+    nodes
+}
+
+fn whole_round(setup: Setup, moment: Moment) -> Moment
+    requires { ⌜ Ready setup moment ⌝ }
+    ensures { λ r. ⌜ r ≡ goOf setup moment ⌝ }
+{
+    let nodes = records_after(setup, moment);
+    let phase = phase_after(moment.phase, moment.round);
+    let round = round_after(setup.crew.class, moment.round);
+    let none = Pending::empty();
+    Moment {
         phase: phase,
         round: round,
-        honest: honest,
         nodes: nodes,
-        pending: pending,
+        pending: [none; MOST_NODES],
     }
 }
 
 // A go: a whole round, or nothing where no round can be run.
-pub fn go(state: State) -> State
-    ensures { λ r. ⌜ r ≡ gone state ⌝ }
+pub fn go(setup: Setup, moment: Moment) -> Moment
+    ensures { λ r. ⌜ r ≡ gone setup moment ⌝ }
 {
-    let ready = (state.crew.n as usize <= MOST_NODES) & (state.phase < Node::SPENT);
+    let ready = (setup.crew.n as usize <= MOST_NODES) & (moment.phase < Node::SPENT);
     if ready {
-        return whole_round(state);
+        return whole_round(setup, moment);
     }
-    state
+    moment
 }
 
 // The results that the nodes have, 0 where there is none.
-pub fn results_of(state: State) -> [Plan; MOST_NODES]
-    ensures { λ r. ⌜ r ≡ table (resultAt state) mostNodes ⌝ }
+pub fn results_of(nodes: [Node; MOST_NODES]) -> [Plan; MOST_NODES]
+    ensures { λ r. ⌜ r ≡ table (resultIn nodes) mostNodes ⌝ }
 {
     let mut results = [Node::NO_PLAN; MOST_NODES];
     let mut i: usize = 0;
     while i < MOST_NODES {
-        let node = state.nodes[i];
+        let node = nodes[i];
         results[i] = node.result;
         i = i + 1;
     }
@@ -214,9 +266,8 @@ fn start_node(crew: Crew, i: usize, plan: Plan) -> Node
     node
 }
 
-// The aisle before its first round: each node started with its plan.
-pub fn begin(crew: Crew, plans: [Plan; MOST_NODES]) -> State
-    ensures { λ r. ⌜ r ≡ begunOf crew plans ⌝ }
+fn start_nodes(crew: Crew, plans: [Plan; MOST_NODES]) -> [Node; MOST_NODES]
+    ensures { λ r. ⌜ r ≡ table (λ i. valueOr blank (startOf crew i 1 (getD plans i 0))) mostNodes ⌝ }
 {
     let node = start_node(crew, 0, Node::NO_PLAN);
     let mut nodes = [node; MOST_NODES];
@@ -226,14 +277,28 @@ pub fn begin(crew: Crew, plans: [Plan; MOST_NODES]) -> State
         nodes[i] = started;
         i = i + 1;
     }
+    nodes
+}
+
+// The aisle before its first round: each node started with its plan.
+pub fn begin(crew: Crew, plans: [Plan; MOST_NODES]) -> State
+    ensures { λ r. ⌜ r ≡ begunOf crew plans ⌝ }
+{
     let honest = honest_of(plans);
-    let pending = Pending::empty();
-    State {
+    let nodes = start_nodes(crew, plans);
+    let none = Pending::empty();
+    let setup = Setup {
         crew: crew,
+        honest: honest,
+    };
+    let moment = Moment {
         phase: Node::FIRST_PHASE,
         round: Node::SELECTION,
-        honest: honest,
         nodes: nodes,
-        pending: pending,
+        pending: [none; MOST_NODES],
+    };
+    State {
+        setup: setup,
+        moment: moment,
     }
 }

@@ -22,14 +22,14 @@ use Rattle.node.specs.Record.{begun, blank}
 use Rattle.node.specs.Starting.{startOf}
 use Rattle.node.specs.Sending.{comingOf, writeComingOf}
 use Rattle.rounds.specs.Taking.{afterRound, takeOf}
-use Rattle.script.specs.Commands.{commandOf}
+use Rattle.script.specs.Commands.{lineOf}
 use Rattle.script.specs.Lines.{until, onto, split}
 use Rattle.script.specs.Fields.{valueFrom, numberOf, numbersFrom, starts}
 use Rattle.print.specs.Texts.{decimalOf, fieldOf, fieldsFrom, resultLine, badLine}
-use Rattle.pending.specs.Pairs.{nothing, withCut, withSay, isCut, saidOf}
+use Rattle.pending.specs.Pairs.{nothing, withCut, withSay, waitingFrom}
 use Rattle.drill.specs.Run.{follow, second, first, drillOf}
 use Rattle.aisle.specs.Start.{begunOf}
-use Rattle.aisle.specs.Round.{table, sayBuffer, delivered, slotsOf, nodeAfter, goOf}
+use Rattle.aisle.specs.Round.{table, sayBuffer, slotsOf, slotFrom, nodeAfter, goOf}
 
 -- a text's bytes: each of its characters is one of ASCII
 abbrev bytes : String → List ℕ
@@ -62,7 +62,7 @@ pub examples-hold : map (λ e. drillOf (bytes (e .script))) examples ≡ map (λ
 unfolding
     acceptOf writeMessageOf entriesFrom entriesIn bodyAt tested readOf entryBytes encode entriesOk decides decision
     tally countIf gather valid validated lists possible backed backing enough selection leading mostVoted anyPlan taken
-    least leastOf emptyFrom sound begun blank startOf comingOf writeComingOf afterRound takeOf commandOf until onto
+    least leastOf emptyFrom sound begun blank startOf comingOf writeComingOf afterRound takeOf lineOf until onto
     split valueFrom numberOf numbersFrom starts decimalOf fieldOf fieldsFrom resultLine badLine nothing withCut
-    withSay isCut saidOf follow second first drillOf begunOf table sayBuffer delivered slotsOf nodeAfter goOf
+    withSay waitingFrom follow second first drillOf begunOf table sayBuffer slotsOf slotFrom nodeAfter goOf
 examples-hold = refl

@@ -1,4 +1,6 @@
-pub mod Stepping
-pub mod Following
-pub mod Bound
+pub mod Pieces
+pub mod Places
+pub mod Noted
+pub mod Turns
+pub mod Whole
 pub mod Example

@@ -1,3 +1,4 @@
-pub mod Steps
+pub mod Lines
 pub mod Run
+pub mod Stepping
 pub mod Promises

@@ -1,39 +1,83 @@
-// The drill: from the bytes of a script to the bytes of its output, over the engine's promises alone.
-// specs/Run.antt says what a whole script prints, specs/Steps.antt what each line may ask for and changes; what a go
-// does among the nodes is crate aisle's. proofs/Bound.antt bounds the output of every script.
+// The drill, step by step: from a script and a place in it to the text that comes next, over the engine's promises
+// alone. specs/Run.antt says what a whole script prints, specs/Lines.antt what a line asks for and changes,
+// specs/Stepping.antt what a step does; proofs/Whole.antt shows that the texts of all steps, joined, are what the script
+// prints. What a go does among the nodes is crate aisle's. Nothing here is read or written but what is lent.
+use aisle::Setup;
 use aisle::State;
-use crew::Crew;
 use crew::MOST_NODES;
-use libc::STDOUT_FILENO;
 use node::Node;
-use print::MOST_BAD;
-use print::MOST_RESULT;
+use pending::Pending;
 use script::Command;
 use script::CrewLine;
-use wire::LAST_PHASE;
+use script::Line;
+use script::Note;
 ghost use mathlib.Core.Path.{_≡_};
-ghost use mathlib.Core.Bool.{false};
-ghost use lib.ListN.{getD, drop};
-ghost use Rattle.script.specs.Lines.{newline, split};
-ghost use Rattle.print.specs.Texts.{Wrote, badLine, endLine, longLine};
-ghost use Rattle.aisle.specs.Round.{Ready};
-ghost use Rattle.drill.specs.Steps.{stampFits, allowed};
-ghost use Rattle.drill.specs.Run.{follow, second, drillOf, OutputOf};
-ghost use Rattle.drill.specs.Promises.{Followable, Performable, Performed};
+ghost use mathlib.Core.Bool.{false, _&&_};
+ghost use mathlib.Core.List.{[]};
+ghost use Prim.Native.Nat.{_+_, _≤_};
+ghost use lib.ListN.{getD, length};
+ghost use lib.Dec.{leb};
+ghost use Rattle.crew.specs.Parts.{mostNodes};
+ghost use Rattle.script.specs.Fields.{numbersOn};
+ghost use Rattle.script.specs.Commands.{crewLineOf, plansOf, lineOf};
+ghost use Rattle.print.specs.Texts.{endLine, longLine};
+ghost use Rattle.drill.specs.Lines.{stampFits, fits, receiverOf, waits};
+ghost use Rattle.drill.specs.Stepping.{
+  linesFrom,
+  outset,
+  stopped,
+  over,
+  overBad,
+  behind,
+  overCrew,
+  overPlans,
+  overGo,
+  stepOf,
+  Stepped,
+};
+ghost use Rattle.drill.specs.Promises.{
+  Standing,
+  Passable,
+  Heading,
+  notingOf,
+  settled,
+  passing,
+  finishing,
+  stepHead,
+  NotedAll,
+};
 
 // A script has at most so many bytes.
 pub const MOST_BYTES: usize = 65536;
 // A program reads so many: one byte more is enough for the drill to see that a script is too long.
 pub const MOST_READ: usize = MOST_BYTES + 1;
-// A phase has at most so many rounds: the decision is its last.
-const ROUNDS: usize = Node::DECISION as usize;
-// No output is longer: each go prints a line and does one of the rounds of a phase, and one line more may come.
-const MOST_PRINTED: usize = MOST_RESULT * (ROUNDS * (LAST_PHASE as usize)) + MOST_BAD;
+// No step's text is longer: a step prints one line at most.
+pub const MOST_TEXT: usize = print::MOST_LINE;
+// The line of a drill that is over.
+pub const NO_LINE: u32 = 0;
 
-// A state, and the place where the output goes on.
-pub struct Step {
+const FIRST_LINE: u32 = 1;
+const SECOND_LINE: u32 = 2;
+
+// Where a drill stands in a script.
+pub struct Cursor {
+    // Where the coming line begins.
+    pub at: u32,
+    // The coming line's number, NO_LINE where the drill is over.
+    pub line: u32,
     pub state: State,
-    pub next: usize,
+}
+
+// Where a drill stands after a step, and how long the step's text is.
+pub struct Advance {
+    pub next: Cursor,
+    pub size: usize,
+}
+
+// What a line can be while cuts and says are noted: one that can wait for the coming round, or anything else.
+pub enum Noting {
+    Note(Note),
+    Other,
 }
 
 fn is_honest(honest: [bool; MOST_NODES], i: u8) -> bool
@@ -59,208 +103,339 @@ fn stamp_fits(round: u8, phase: u8, stamp: u8) -> bool
     stamp <= phase
 }
 
-// Whether the drill can do now what a line asks for.
-fn is_allowed(state: State, command: Command) -> bool
-    ensures { λ r. ⌜ r ≡ allowed state command ⌝ }
+// Whether a cut or a say can wait for the coming round.
+fn is_fit(setup: Setup, phase: u8, round: u8, note: Note) -> bool
+    ensures { λ r. ⌜ r ≡ fits setup phase round note ⌝ }
 {
-    match command {
-        Command::Cut { sender, receiver } => (sender < state.crew.n) & (receiver < state.crew.n),
-        Command::Say {
+    match note {
+        Note::Cut { sender, receiver } => (sender < setup.crew.n) & (receiver < setup.crew.n),
+        Note::Say {
             sender,
             receiver,
             plan,
             stamp,
         } => {
-            let honest = state.honest;
-            (sender < state.crew.n)
-                & (receiver < state.crew.n)
+            let honest = setup.honest;
+            (sender < setup.crew.n)
+                & (receiver < setup.crew.n)
                 & (Node::NO_PLAN < plan)
                 & !is_honest(honest, sender)
-                & stamp_fits(state.round, state.phase, stamp)
-                & (state.phase < Node::SPENT)
+                & stamp_fits(round, phase, stamp)
+                & (phase < Node::SPENT)
         }
-        Command::Go => state.phase < Node::SPENT,
-        Command::BadLine => false,
     }
 }
 
-// Writes out the part of the output that is new. Standard output may be closed: the drill goes on all the same. A line
-// that does not fit into the buffer is not written out. What goes out is in no contract: no C function promises it, and
-// a program's output is compared with its file.
-fn show(out: &[u8], from: usize, to: usize) -> bool {
-    if out.len() < to {
-        return false;
-    }
-    if to < from {
-        return false;
-    }
-    io::write_all(STDOUT_FILENO, &out[from..to])
-}
-
-fn put_bad(out: &mut [u8], at: u32, line: u32) -> usize
-    ensures { λ r. ⌜ Wrote (now (out .entry)) at (badLine line) (now (out .exit)) r ⌝ }
+fn receiver_of(note: Note) -> u8
+    ensures { λ r. ⌜ r ≡ receiverOf note ⌝ }
 {
-    let end = print::bad_line(out, at, line);
-    show(out, at as usize, end);
-    end
-}
-
-fn put_end(out: &mut [u8], at: u32) -> usize
-    ensures { λ r. ⌜ Wrote (now (out .entry)) at endLine (now (out .exit)) r ⌝ }
-{
-    let end = print::end_line(out, at);
-    show(out, at as usize, end);
-    end
-}
-
-fn put_long(out: &mut [u8], at: u32) -> usize
-    ensures { λ r. ⌜ Wrote (now (out .entry)) at longLine (now (out .exit)) r ⌝ }
-{
-    let end = print::long_line(out, at);
-    show(out, at as usize, end);
-    end
-}
-
-// A go and its line.
-fn perform_go(state: State, out: &mut [u8], at: u32) -> Step
-    requires { ⌜ Ready state ⌝ }
-    ensures { λ r. ⌜ Performed state Command.Go (now (out .entry)) at (now (out .exit)) r ⌝ }
-{
-    let after = aisle::go(state);
-    let results = aisle::results_of(after);
-    let honest = state.honest;
-    let n = state.crew.n as usize;
-    let end = print::result_line(out, at, state.phase, state.round, n, results, honest);
-    show(out, at as usize, end);
-    Step {
-        state: after,
-        next: end,
-    }
-}
-
-// What a good line changes and prints.
-fn perform(state: State, command: Command, out: &mut [u8], at: u32) -> Step
-    requires { ⌜ Performable state command ⌝ }
-    ensures { λ r. ⌜ Performed state command (now (out .entry)) at (now (out .exit)) r ⌝ }
-{
-    match command {
-        Command::Cut { sender, receiver } => {
-            let pending = state.pending;
-            let more = pending.with_cut(sender as usize, receiver as usize);
-            let mut after = state;
-            after.pending = more;
-            Step {
-                state: after,
-                next: at as usize,
-            }
-        }
-        Command::Say {
+    match note {
+        Note::Cut { sender, receiver } => receiver,
+        Note::Say {
             sender,
             receiver,
             plan,
             stamp,
-        } => {
-            let pending = state.pending;
-            let more = pending.with_say(sender as usize, receiver as usize, plan, stamp);
-            let mut after = state;
-            after.pending = more;
-            Step {
-                state: after,
-                next: at as usize,
-            }
-        }
-        Command::Go => perform_go(state, out, at),
-        Command::BadLine => Step {
-            state: state,
-            next: at as usize,
-        },
+        } => receiver,
     }
 }
 
-// The lines from line 3 on.
-fn follow_lines(begun: State, input: &[u8], from: usize, out: &mut [u8]) -> usize
-    requires { ⌜ Followable (begun .crew .n) from (now input) ⌝ }
-    ensures { λ r. ⌜ Wrote (now (out .entry)) 0 (follow begun 3 (split newline (drop from (now (input .entry)))))
-        (now (out .exit)) r ⌝ }
+// What waits for the receiver of a cut or a say, with it.
+fn with_note(pending: Pending, note: Note) -> Pending
+    ensures { λ r. ⌜ r ≡ waits pending note ⌝ }
 {
-    let mut state = begun;
-    let mut at = from;
-    let mut line: u32 = 3;
-    let mut written: u32 = 0;
+    match note {
+        Note::Cut { sender, receiver } => pending.with_cut(sender as usize),
+        Note::Say {
+            sender,
+            receiver,
+            plan,
+            stamp,
+        } => pending.with_say(sender as usize, plan, stamp),
+    }
+}
+
+fn noting_of(setup: Setup, phase: u8, round: u8, line: &[u8]) -> Noting
+    ensures { λ r. ⌜ r ≡ notingOf setup phase round (lineOf (now (line .entry))) ⌝ }
+{
+    let read = script::command_line(line);
+    let Line::Good(command) = read else {
+        return Noting::Other;
+    };
+    let Command::Note(note) = command else {
+        return Noting::Other;
+    };
+    if is_fit(setup, phase, round, note) {
+        return Noting::Note(note);
+    }
+    Noting::Other
+}
+
+// The drill at another line, with other cuts and says.
+fn settle(cursor: Cursor, at: u32, line: u32, pending: [Pending; MOST_NODES]) -> Cursor
+    ensures { λ r. ⌜ r ≡ settled cursor at line pending ⌝ }
+{
+    let mut moment = cursor.state.moment;
+    moment.pending = pending;
+    let setup = cursor.state.setup;
+    let state = State {
+        setup: setup,
+        moment: moment,
+    };
+    Cursor {
+        at: at,
+        line: line,
+        state: state,
+    }
+}
+
+// Notes the cuts and says that come first: the drill then stands before the first line that is neither.
+fn note_all(input: &[u8], cursor: Cursor) -> Cursor
+    requires { ⌜ Standing (now input) cursor ⌝ }
+    ensures { λ r. ⌜ NotedAll (now (input .entry)) cursor r ⌝ }
+{
+    let setup = cursor.state.setup;
+    let phase = cursor.state.moment.phase;
+    let round = cursor.state.moment.round;
+    let mut pending = cursor.state.moment.pending;
+    let mut at = cursor.at as usize;
+    let mut line = cursor.line;
     loop {
         let end = script::find(input, script::NEWLINE, at);
         if input.len() <= end {
-            if at == input.len() {
-                return put_end(out, written);
-            }
-            return put_bad(out, written, line);
+            return settle(cursor, at as u32, line, pending);
         }
-        let command = script::command_line(&input[at..end]);
-        if is_allowed(state, command) {
-            let step = perform(state, command, out, written);
-            let next = step.state;
-            state = next;
-            written = step.next as u32;
-            at = end + 1;
-            line = line + 1;
-        } else {
-            return put_bad(out, written, line);
-        }
+        let noting = noting_of(setup, phase, round, &input[at..end]);
+        let Noting::Note(note) = noting else {
+            return settle(cursor, at as u32, line, pending);
+        };
+        let receiver = receiver_of(note) as usize;
+        let waiting = pending[receiver];
+        let more = with_note(waiting, note);
+        pending[receiver] = more;
+        at = end + 1;
+        line = line + 1;
     }
 }
 
-// The lines from line 2 on.
-fn follow_crew(crew: Crew, input: &[u8], at: usize, out: &mut [u8]) -> usize
-    requires { ⌜ Followable (crew .n) at (now input) ⌝ }
-    ensures { λ r. ⌜ Wrote (now (out .entry)) 0 (second crew (split newline (drop at (now (input .entry)))))
-        (now (out .exit)) r ⌝ }
+fn stop(cursor: Cursor) -> Cursor
+    ensures { λ r. ⌜ r ≡ stopped cursor ⌝ }
 {
+    let mut next = cursor;
+    next.line = NO_LINE;
+    next
+}
+
+// The drill is over at a bad line.
+fn over_bad(cursor: Cursor, text: &mut [u8]) -> Advance
+    ensures { λ r. ⌜ Stepped (overBad cursor) (now (text .entry)) (now (text .exit)) r ⌝ }
+{
+    let size = print::bad_line(text, cursor.line);
+    let next = stop(cursor);
+    Advance {
+        next: next,
+        size: size,
+    }
+}
+
+// The drill is over behind its last line.
+fn over_end(cursor: Cursor, text: &mut [u8]) -> Advance
+    ensures { λ r. ⌜ Stepped (over endLine cursor) (now (text .entry)) (now (text .exit)) r ⌝ }
+{
+    let size = print::end_line(text);
+    let next = stop(cursor);
+    Advance {
+        next: next,
+        size: size,
+    }
+}
+
+// The drill is over before it begins: the script is too long.
+fn over_long(cursor: Cursor, text: &mut [u8]) -> Advance
+    ensures { λ r. ⌜ Stepped (over longLine cursor) (now (text .entry)) (now (text .exit)) r ⌝ }
+{
+    let size = print::long_line(text);
+    let next = stop(cursor);
+    Advance {
+        next: next,
+        size: size,
+    }
+}
+
+// The drill behind a line, in another state.
+fn pass(cursor: Cursor, line: &[u8], state: State) -> Cursor
+    requires { ⌜ Passable cursor (now line) ⌝ }
+    ensures { λ r. ⌜ r ≡ behind cursor (now (line .entry)) state ⌝ }
+{
+    Cursor {
+        at: cursor.at + line.len() as u32 + 1,
+        line: cursor.line + 1,
+        state: state,
+    }
+}
+
+// A go: a whole round, and the line that it prints.
+fn pass_go(cursor: Cursor, line: &[u8], text: &mut [u8]) -> Advance
+    requires { ⌜ Passable cursor (now line) ⌝ }
+    ensures { λ r. ⌜ Stepped (overGo cursor (now (line .entry))) (now (text .entry)) (now (text .exit)) r ⌝ }
+{
+    let setup = cursor.state.setup;
+    let moment = cursor.state.moment;
+    if moment.phase < Node::SPENT {
+        let after = aisle::go(setup, moment);
+        let nodes = after.nodes;
+        let results = aisle::results_of(nodes);
+        let honest = setup.honest;
+        let n = setup.crew.n as usize;
+        let size = print::result_line(text, moment.phase, moment.round, n, results, honest);
+        let state = State {
+            setup: setup,
+            moment: after,
+        };
+        let next = pass(cursor, line, state);
+        return Advance {
+            next: next,
+            size: size,
+        };
+    }
+    over_bad(cursor, text)
+}
+
+// The line behind the cuts and says: a go, or a bad one, be it a cut or a say that cannot wait.
+fn pass_command(cursor: Cursor, line: &[u8], text: &mut [u8]) -> Advance
+    requires { ⌜ Passable cursor (now line) ⌝ }
+    ensures { λ r. ⌜ Stepped (passing cursor (now (line .entry)) (lineOf (now (line .entry))))
+        (now (text .entry)) (now (text .exit)) r ⌝ }
+{
+    let read = script::command_line(line);
+    let Line::Good(command) = read else {
+        return over_bad(cursor, text);
+    };
+    let Command::Go = command else {
+        return over_bad(cursor, text);
+    };
+    pass_go(cursor, line, text)
+}
+
+// What stands behind the cuts and says: a line, or the script's end.
+fn pass_line(input: &[u8], cursor: Cursor, text: &mut [u8]) -> Advance
+    requires { ⌜ Standing (now input) cursor ⌝ }
+    ensures { λ r. ⌜ Stepped (finishing cursor (linesFrom (now (input .entry)) (cursor .at)))
+        (now (text .entry)) (now (text .exit)) r ⌝ }
+{
+    let at = cursor.at as usize;
     let end = script::find(input, script::NEWLINE, at);
-    if input.len() <= end {
-        return put_bad(out, 0, 2);
+    if end < input.len() {
+        return pass_command(cursor, &input[at..end], text);
     }
-    let line = script::plans_line(&input[at..end], crew.n as usize);
-    if line.good {
-        let plans = line.plans;
-        let state = aisle::begin(crew, plans);
-        return follow_lines(state, input, end + 1, out);
+    if at == input.len() {
+        return over_end(cursor, text);
     }
-    put_bad(out, 0, 2)
+    over_bad(cursor, text)
 }
 
-// The whole drill. Each line of the output goes out as it comes; the buffer keeps all of them.
-pub fn run(input: &[u8], out: &mut [u8]) -> usize
-    ensures { λ r. ⌜ Wrote (now (out .entry)) 0 (drillOf (now (input .entry))) (now (out .exit)) r ⌝ }
+// Line 1, a crew. Its nodes start with line 2.
+fn pass_crew(cursor: Cursor, line: &[u8], text: &mut [u8]) -> Advance
+    requires { ⌜ Passable cursor (now line) ⌝ }
+    ensures { λ r. ⌜ Stepped (overCrew cursor (now (line .entry)) (crewLineOf (numbersOn (now (line .entry)))))
+        (now (text .entry)) (now (text .exit)) r ⌝ }
 {
-    if MOST_BYTES < input.len() {
-        return put_long(out, 0);
-    }
-    let end = script::find(input, script::NEWLINE, 0);
-    if input.len() <= end {
-        return put_bad(out, 0, 1);
-    }
-    match script::crew_line(&input[..end]) {
+    match script::crew_line(line) {
         CrewLine::Crew(crew) => {
             if crew::is_accepted(crew) {
-                return follow_crew(crew, input, end + 1, out);
+                let state = aisle::begin(crew, [Node::NO_PLAN; MOST_NODES]);
+                let next = pass(cursor, line, state);
+                return Advance {
+                    next: next,
+                    size: 0,
+                };
             }
-            put_bad(out, 0, 1)
+            over_bad(cursor, text)
         }
-        CrewLine::NoCrew => put_bad(out, 0, 1),
+        CrewLine::NoCrew => over_bad(cursor, text),
     }
 }
 
-// The whole output of a script: no script prints more than the text has room for (proofs/Bound.antt).
-pub struct Output {
-    pub text: [u8; MOST_PRINTED],
-    pub size: usize,
+// Line 2, the nodes' initial plans.
+fn pass_plans(cursor: Cursor, line: &[u8], text: &mut [u8]) -> Advance
+    requires { ⌜ Passable cursor (now line) ⌝ }
+    ensures { λ r. ⌜ Stepped
+        (overPlans cursor (now (line .entry)) (plansOf (numbersOn (now (line .entry))) (cursor .state .setup .crew .n)))
+        (now (text .entry)) (now (text .exit)) r ⌝ }
+{
+    let crew = cursor.state.setup.crew;
+    let read = script::plans_line(line, crew.n as usize);
+    if read.good {
+        let plans = read.plans;
+        let state = aisle::begin(crew, plans);
+        let next = pass(cursor, line, state);
+        return Advance {
+            next: next,
+            size: 0,
+        };
+    }
+    over_bad(cursor, text)
 }
 
-// The drill with a buffer that holds every output: nothing is ever cut.
-pub fn run_whole(input: &[u8]) -> Output
-    ensures { λ r. ⌜ OutputOf (now (input .entry)) r ⌝ }
+// One of the first two lines.
+fn pass_head(input: &[u8], cursor: Cursor, text: &mut [u8]) -> Advance
+    requires { ⌜ Heading (now input) cursor ⌝ }
+    ensures { λ r. ⌜ Stepped (stepHead cursor (linesFrom (now (input .entry)) (cursor .at)))
+        (now (text .entry)) (now (text .exit)) r ⌝ }
 {
-    let mut text = [0u8; MOST_PRINTED];
-    let size = run(input, &mut text);
-    Output { text, size }
+    let at = cursor.at as usize;
+    let end = script::find(input, script::NEWLINE, at);
+    if end < input.len() {
+        if cursor.line == FIRST_LINE {
+            return pass_crew(cursor, &input[at..end], text);
+        }
+        return pass_plans(cursor, &input[at..end], text);
+    }
+    over_bad(cursor, text)
+}
+
+// Whether a drill can stand there before a line of a script: no drill comes to any other place.
+fn can_stand(length: usize, at: u32, line: u32, n: u8) -> bool
+    ensures { λ r. ⌜ r ≡ leb 1 line && leb line (at + 1) && leb at length && leb n mostNodes ⌝ }
+{
+    (FIRST_LINE <= line)
+        & (line as usize <= at as usize + 1)
+        & (at as usize <= length)
+        & (n as usize <= MOST_NODES)
+}
+
+// The drill goes on by a step: over the cuts and says that come first, and one line more. The text of the step stands at
+// the front of the lent buffer, which has MOST_TEXT bytes: what would lie beyond its end is left out. Of a drill that is
+// over, and from a place where no drill can stand, nothing is to come.
+pub fn step(input: &[u8], cursor: Cursor, text: &mut [u8]) -> Advance
+    ensures { λ r. ⌜ Stepped (stepOf (now (input .entry)) cursor) (now (text .entry)) (now (text .exit)) r ⌝ }
+{
+    if can_stand(input.len(), cursor.at, cursor.line, cursor.state.setup.crew.n) {
+        if MOST_BYTES < input.len() {
+            return over_long(cursor, text);
+        }
+        if cursor.line <= SECOND_LINE {
+            return pass_head(input, cursor, text);
+        }
+        let noted = note_all(input, cursor);
+        return pass_line(input, noted, text);
+    }
+    let next = stop(cursor);
+    Advance {
+        next: next,
+        size: 0,
+    }
+}
+
+// A drill before line 1.
+pub fn start() -> Cursor
+    ensures { λ r. ⌜ r ≡ outset ⌝ }
+{
+    let crew = crew::blank_crew();
+    let state = aisle::begin(crew, [Node::NO_PLAN; MOST_NODES]);
+    Cursor {
+        at: 0,
+        line: FIRST_LINE,
+        state: state,
+    }
 }

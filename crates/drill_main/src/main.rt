@@ -2,5 +2,5 @@
 fn main() {
     let mut input = [0u8; drill::MOST_READ];
     let size = io::read_full(libc::STDIN_FILENO, &mut input);
-    drill::run_whole(&input[..size]);
+    console::run(&input[..size]);
 }

@@ -28,7 +28,7 @@ fn run_named(i: usize) {
     let mut script = [0u8; MOST_READ];
     let size = io::read_full(file, &mut script);
     libc::close(file);
-    drill::run_whole(&script[..size]);
+    console::run(&script[..size]);
 }
 
 // The long script has a crew, its plans, and nothing but cuts.
@@ -54,9 +54,9 @@ fn long_script() -> [u8; MOST_READ]
 fn run_long() {
     let script = long_script();
     io::write_all(STDOUT_FILENO, b"65,536 bytes\n");
-    drill::run_whole(&script[..MOST_BYTES]);
+    console::run(&script[..MOST_BYTES]);
     io::write_all(STDOUT_FILENO, b"65,537 bytes\n");
-    drill::run_whole(&script);
+    console::run(&script);
 }
 
 fn main() {

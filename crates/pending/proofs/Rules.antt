@@ -8,29 +8,37 @@ use lib.Seq.{getD-set-same, set-set}
 use borrow.Author.Tests.{lt-ltb}
 use Rattle.crew.specs.Parts.{mostNodes}
 use Rattle.pending.specs.declared.Pending.{Pending}
-use Rattle.pending.specs.Pairs.{pairs, known, placeOf, withCut, withSay, isCut}
+use Rattle.pending.specs.Pairs.{known, withCut, withSay, idle, standing, waitingFrom}
 
-module _ (p : Pending) (s r : ℕ) (hs : s < mostNodes) (hr : r < mostNodes) where
+module _ (p : Pending) (s : ℕ) (inside : s < mostNodes) where
   -- of two says for one pair the last stands
   pub last-say-stands : (plan stamp plan′ stamp′ : ℕ)
-      → withSay (withSay p s r plan stamp) s r plan′ stamp′ ≡ withSay p s r plan′ stamp′
+      → withSay (withSay p s plan stamp) s plan′ stamp′ ≡ withSay p s plan′ stamp′
   unfolding withSay
-  last-say-stands plan stamp plan′ stamp′ = rw (lt-ltb s mostNodes hs, lt-ltb r mostNodes hr) (simp set-set)
+  last-say-stands plan stamp plan′ stamp′ = rw (lt-ltb s mostNodes inside) (simp set-set)
 
   -- what is cut is lost
-  pub cut-stands : length (p .cut) ≡ pairs → isCut (withCut p s r) s r ≡ true
-  unfolding isCut withCut
+  pub cut-stands : length (p .cut) ≡ mostNodes → waitingFrom (withCut p s) s .cut ≡ true
+  unfolding waitingFrom withCut
   cut-stands long =
-      let inside : placeOf s r < length (p .cut) = omega arith in
-      rw (lt-ltb s mostNodes hs, lt-ltb r mostNodes hr, getD-set-same (p .cut) (placeOf s r) true false inside)
+      let room : s < length (p .cut) = omega arith in
+      rw (lt-ltb s mostNodes inside, getD-set-same (p .cut) s true false room)
 
-either-cut : (t : Bool) (q p : Pending) (s r : ℕ) → q .cut ≡ p .cut → isCut (cond t q p) s r ≡ isCut p s r
-unfolding isCut
-either-cut true q p s r e = rw e
-either-cut false q p s r e = refl
+-- whether what a sender sends is lost goes by the cuts alone
+same-cuts : (q p : Pending) (s : ℕ) → q .cut ≡ p .cut → waitingFrom q s .cut ≡ waitingFrom p s .cut
+unfolding waitingFrom
+same-cuts q p s e = go (known s)
+  where
+    go : (t : Bool) → cond t (standing q s) idle .cut ≡ cond t (standing p s) idle .cut
+    go true = rw e
+    go false = refl
+
+said-cuts : (t : Bool) (q p : Pending) → q .cut ≡ p .cut → cond t q p .cut ≡ p .cut
+said-cuts true q p e = e
+said-cuts false q p e = refl
 
 -- no say takes a cut back
-pub say-keeps-cuts : (p : Pending) (s r plan stamp s′ r′ : ℕ)
-    → isCut (withSay p s r plan stamp) s′ r′ ≡ isCut p s′ r′
+pub say-keeps-cuts : (p : Pending) (s plan stamp s′ : ℕ)
+    → waitingFrom (withSay p s plan stamp) s′ .cut ≡ waitingFrom p s′ .cut
 unfolding withSay
-say-keeps-cuts p s r plan stamp s′ r′ = either-cut (known s r) _ p s′ r′ refl
+say-keeps-cuts p s plan stamp s′ = same-cuts _ p s′ (said-cuts (known s) _ p refl)

@@ -1,55 +1,43 @@
--- Cuts and says by pairs of nodes: document 01, 'The drill'.
-use Prim.Native.Nat.{ℕ, _+_, _*_}
-use mathlib.Core.Bool.{Bool, true, false, cond, _&&_}
+-- Cuts and says by pairs of nodes: document 01, 'The drill'. What waits for one receiver stands together, by senders.
+use Prim.Native.Nat.{ℕ}
+use mathlib.Core.Bool.{Bool, true, false, cond}
 use lib.ListN.{getD, set, replicate}
 use lib.Dec.{ltb}
 use Rattle.crew.specs.Parts.{mostNodes}
 use Rattle.pending.specs.declared.Pending.{Pending}
-use Rattle.pending.specs.declared.Said.{Said}
-
--- how many pairs of a sender and a receiver there are
-abbrev pub pairs : ℕ
-pairs = mostNodes * mostNodes
-
--- A pair of nodes that a crew can have. Nothing is kept of any other, and nothing waits for it.
-abbrev pub known : ℕ → ℕ → Bool
-known sender receiver = ltb sender mostNodes && ltb receiver mostNodes
-
--- where a known pair stands
-abbrev pub placeOf : ℕ → ℕ → ℕ
-placeOf sender receiver = mostNodes * sender + receiver
+use Rattle.pending.specs.declared.Waiting.{Waiting}
 
 -- no cut and no say: so a drill begins, and so it goes on after each go
 unfoldable pub nothing : Pending
-nothing = record { cut = replicate pairs false; plan = replicate pairs 0; stamp = replicate pairs 0 }
+nothing = record {
+  cut = replicate mostNodes false;
+  plan = replicate mostNodes 0;
+  stamp = replicate mostNodes 0;
+}
+
+-- A node that a crew can have. Nothing is kept of any other, and nothing waits from it.
+abbrev pub known : ℕ → Bool
+known sender = ltb sender mostNodes
 
 -- 01: "(s to r is lost)"
-unfoldable pub withCut : Pending → ℕ → ℕ → Pending
-withCut p s r =
-    cond (known s r)
-    (record { cut = set (p .cut) (placeOf s r) true; plan = p .plan; stamp = p .stamp })
-    p
+unfoldable pub withCut : Pending → ℕ → Pending
+withCut p s = cond (known s) (record { cut = set (p .cut) s true; plan = p .plan; stamp = p .stamp }) p
 
 -- 01: "of two says for one pair the last stands"
-unfoldable pub withSay : Pending → ℕ → ℕ → ℕ → ℕ → Pending
-withSay p s r plan stamp =
-    cond (known s r)
-    (record {
-      cut = p .cut;
-      plan = set (p .plan) (placeOf s r) plan;
-      stamp = set (p .stamp) (placeOf s r) stamp;
-    })
+unfoldable pub withSay : Pending → ℕ → ℕ → ℕ → Pending
+withSay p s plan stamp =
+    cond (known s)
+    (record { cut = p .cut; plan = set (p .plan) s plan; stamp = set (p .stamp) s stamp })
     p
 
-unfoldable pub isCut : Pending → ℕ → ℕ → Bool
-isCut p s r = cond (known s r) (getD (p .cut) (placeOf s r) false) false
+-- nothing waits from a sender; plan 0 stands for no say
+abbrev pub idle : Waiting
+idle = record { cut = false; plan = 0; stamp = 0 }
 
--- without a say
-abbrev pub unsaid : Said
-unsaid = record { plan = 0; stamp = 0 }
+-- what stands at a sender's place
+abbrev pub standing : Pending → ℕ → Waiting
+standing p s = record { cut = getD (p .cut) s false; plan = getD (p .plan) s 0; stamp = getD (p .stamp) s 0 }
 
-unfoldable pub saidOf : Pending → ℕ → ℕ → Said
-saidOf p s r =
-    cond (known s r)
-    (record { plan = getD (p .plan) (placeOf s r) 0; stamp = getD (p .stamp) (placeOf s r) 0 })
-    unsaid
+-- what waits from a sender
+unfoldable pub waitingFrom : Pending → ℕ → Waiting
+waitingFrom p s = cond (known s) (standing p s) idle

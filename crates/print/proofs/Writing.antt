@@ -8,7 +8,7 @@ use native.Mathlib.Omega.{arith}
 use lib.ListN.{length, length-append, set, getD}
 use lib.Seq.{sets}
 use Rattle.wire.proofs.Stores.{sets-append}
-use Rattle.print.specs.Texts.{Wrote, WroteWithin, fieldOf, fieldsFrom}
+use Rattle.print.specs.Texts.{Wrote, WroteWithin, Laid, lineMost, fieldOf, fieldsFrom}
 
 wrote-then : {l xs l′ ys l″ : List ℕ} {at at′ at″ : ℕ}
     → Wrote l at xs l′ at′ → Wrote l′ at′ ys l″ at″ → Wrote l at (xs ++ ys) l″ at″
@@ -56,6 +56,15 @@ wrote-none l at = record { next = sym (add-zero at); left = refl }
 
 pub within-none : (most : ℕ) (l : List ℕ) (at : ℕ) → WroteWithin most l at [] l at
 within-none most l at = record { wrote = wrote-none l at; within = omega arith }
+
+-- a text at the front of a buffer is a line that is laid there
+pub laid : {most : ℕ} {l text l′ : List ℕ} {r : ℕ} → most ≤ lineMost → WroteWithin most l 0 text l′ r → Laid l text l′ r
+laid small a =
+    record {
+      size = omega (arith, a .wrote .next);
+      left = a .wrote .left;
+      within = omega (arith, a .within);
+    }
 
 -- the nodes' results from node i on
 module _ (rs : List ℕ) (hs : List Bool) (i n : ℕ) where

@@ -10,7 +10,7 @@ use Rattle.crew.specs.Parts.{mostNodes}
 use Rattle.script.specs.Lines.{space, newline}
 
 -- From the buffer l and the place at, writing a text leaves l′ and goes on to at′: the text stands there as far as the
--- buffer goes, and no other byte of it has changed.
+-- buffer goes, and no other byte of it has changed. Here and in the next a promise of private functions.
 pub record Wrote (l : List ℕ) (at : ℕ) (text l′ : List ℕ) (at′ : ℕ) : Type 0 where
   pub next : at′ ≡ at + length text
   pub left : l′ ≡ sets l at text
@@ -61,20 +61,19 @@ unfoldable pub resultLine : ℕ → ℕ → ℕ → List ℕ → List Bool → L
 resultLine phase round n results honest =
     decimalOf phase ++ (space ∷ (decimalOf round ++ (fieldsFrom results honest 0 n ++ (newline ∷ []))))
 
--- how long the line can be, with a result for each node of the largest crew
-abbrev pub resultMost : ℕ
-resultMost = decimalMost + 1 + decimalMost + fieldMost * mostNodes + 1
+-- how long the line can be, with a result for each node of the largest crew; no other line is longer
+abbrev pub lineMost : ℕ
+lineMost = decimalMost + 1 + decimalMost + fieldMost * mostNodes + 1
 
 abbrev pub wordOf : ℕ → ℕ → ℕ → ℕ → List ℕ
 wordOf w x y z = w ∷ x ∷ y ∷ z ∷ []
 
+abbrev pub wordSize : ℕ
+wordSize = 4
+
 -- the line for a bad line of that number
 unfoldable pub badLine : ℕ → List ℕ
 badLine l = wordOf 98 97 100 space ++ (decimalOf l ++ (newline ∷ []))
-
--- how long the line can be
-abbrev pub badMost : ℕ
-badMost = 4 + decimalMost + 1
 
 -- 01: "The end prints `end`."
 abbrev pub endLine : List ℕ
@@ -83,3 +82,10 @@ endLine = wordOf 101 110 100 newline
 -- the line for a script that is too long
 abbrev pub longLine : List ℕ
 longLine = wordOf 108 111 110 103 ++ (newline ∷ [])
+
+-- A line is laid: it stands at the front of the buffer as far as that goes, and no other byte of it has changed; the
+-- answer is the line's size, and no line is too long for a buffer of the longest.
+pub record Laid (l line l′ : List ℕ) (r : ℕ) : Type 0 where
+  pub size : r ≡ length line
+  pub left : l′ ≡ sets l 0 line
+  pub within : r ≤ lineMost

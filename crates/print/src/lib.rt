@@ -1,18 +1,17 @@
-// The lines that a drill prints, laid in a lent buffer from a place on; each function answers the place after its line.
-// A public function takes the place as a number of 32 bits, so that no sum with a line's length can pass the largest
-// number of 64 and nothing has to be required of it. What would lie beyond the buffer's end is left out, so a caller
-// lends enough: specs/Texts.antt has the texts and how long they can be, proofs/Lengths.antt that none is longer.
+// The lines that a drill prints, each laid at the front of a lent buffer; each public function answers its line's size.
+// What would lie beyond the buffer's end is left out, so a caller lends MOST_LINE bytes: no line is longer.
+// specs/Texts.antt has the texts, and how long they can be.
 use crew::MOST_NODES;
 use script::NEWLINE;
 use script::SPACE;
 use wire::Plan;
 ghost use mathlib.Core.Path.{_≡_};
-ghost use Prim.Native.Nat.{_*_, _≤_};
+ghost use Prim.Native.Nat.{_+_, _*_, _≤_};
 ghost use lib.ListN.{set};
 ghost use Rattle.crew.specs.Parts.{mostNodes};
 ghost use Rattle.print.specs.Texts.{
-  Wrote,
   WroteWithin,
+  Laid,
   placeOf,
   decimalOf,
   decimalMost,
@@ -20,11 +19,12 @@ ghost use Rattle.print.specs.Texts.{
   fieldMost,
   fieldsFrom,
   resultLine,
-  resultMost,
+  lineMost,
   badLine,
   endLine,
   longLine,
   wordOf,
+  wordSize,
   nodesShown,
   Shown,
 };
@@ -37,10 +37,8 @@ const ZERO: u32 = b'0' as u32;
 const MOST_DIGITS: usize = 5;
 // A space and a node's result.
 const MOST_FIELD: usize = 1 + MOST_DIGITS;
-// The longest line after a go: the phase, a space, the round, a result for each node, and the line's end.
-pub const MOST_RESULT: usize = MOST_DIGITS + 1 + MOST_DIGITS + MOST_FIELD * MOST_NODES + 1;
-// The longest line for a bad one: a word of four bytes, the line's number, and the line's end.
-pub const MOST_BAD: usize = 4 + MOST_DIGITS + 1;
+// The longest line is one after a go: the phase, a space, the round, a result for each node, and the line's end.
+pub const MOST_LINE: usize = MOST_DIGITS + 1 + MOST_DIGITS + MOST_FIELD * MOST_NODES + 1;
 
 // One byte at a place.
 fn put(buf: &mut [u8], at: usize, byte: u8)
@@ -51,24 +49,20 @@ fn put(buf: &mut [u8], at: usize, byte: u8)
     }
 }
 
-// Four bytes. The bounds here and below keep a place far from the largest number.
-fn put_word(buf: &mut [u8], at: usize, w: u8, x: u8, y: u8, z: u8) -> usize
-    requires { ⌜ at ≤ 4294967400 ⌝ }
-    ensures { λ r. ⌜ WroteWithin 4 (now (buf .entry)) at (wordOf w x y z) (now (buf .exit)) r ⌝ }
+// Four bytes at the front.
+fn put_word(buf: &mut [u8], w: u8, x: u8, y: u8, z: u8) -> usize
+    ensures { λ r. ⌜ WroteWithin wordSize (now (buf .entry)) 0 (wordOf w x y z) (now (buf .exit)) r ⌝ }
 {
-    put(buf, at, w);
-    let a = at + 1;
-    put(buf, a, x);
-    let b = a + 1;
-    put(buf, b, y);
-    let c = b + 1;
-    put(buf, c, z);
-    c + 1
+    put(buf, 0, w);
+    put(buf, 1, x);
+    put(buf, 2, y);
+    put(buf, 3, z);
+    4
 }
 
 // The digit of the worth p, where the number is that large.
 fn put_place(buf: &mut [u8], at: usize, v: u32, p: u32) -> usize
-    requires { ⌜ (at ≤ 4294970000) × (1 ≤ p) ⌝ }
+    requires { ⌜ (at ≤ lineMost + decimalMost) × (1 ≤ p) ⌝ }
     ensures { λ r. ⌜ WroteWithin 1 (now (buf .entry)) at (placeOf v p) (now (buf .exit)) r ⌝ }
 {
     if p <= v {
@@ -81,7 +75,7 @@ fn put_place(buf: &mut [u8], at: usize, v: u32, p: u32) -> usize
 
 // The digits of a number below 100,000.
 fn put_number(buf: &mut [u8], at: usize, v: u32) -> usize
-    requires { ⌜ at ≤ 4294969000 ⌝ }
+    requires { ⌜ at ≤ lineMost ⌝ }
     ensures { λ r. ⌜ WroteWithin decimalMost (now (buf .entry)) at (decimalOf v) (now (buf .exit)) r ⌝ }
 {
     let a = put_place(buf, at, v, 10000);
@@ -94,7 +88,7 @@ fn put_number(buf: &mut [u8], at: usize, v: u32) -> usize
 
 // A space, and a node's result, or a dash.
 fn put_field(buf: &mut [u8], at: usize, honest: bool, result: Plan) -> usize
-    requires { ⌜ at ≤ 4294968000 ⌝ }
+    requires { ⌜ at + fieldMost ≤ lineMost ⌝ }
     ensures { λ r. ⌜ WroteWithin fieldMost (now (buf .entry)) at (fieldOf honest result) (now (buf .exit)) r ⌝ }
 {
     put(buf, at, SPACE);
@@ -115,7 +109,7 @@ fn put_fields(
     results: [Plan; MOST_NODES],
     honest: [bool; MOST_NODES],
 ) -> usize
-    requires { ⌜ (start ≤ 4294967400) × (n ≤ mostNodes) ⌝ }
+    requires { ⌜ (start + fieldMost * mostNodes ≤ lineMost) × (n ≤ mostNodes) ⌝ }
     ensures { λ r. ⌜ WroteWithin (fieldMost * mostNodes) (now (buf .entry)) start (fieldsFrom results honest 0 n)
         (now (buf .exit)) r ⌝ }
 {
@@ -138,18 +132,17 @@ fn nodes_shown(n: usize) -> usize
 // The line after a go: the phase and the round that it did, and the results of n nodes.
 pub fn result_line(
     buf: &mut [u8],
-    at: u32,
     phase: u8,
     round: u8,
     n: usize,
     results: [Plan; MOST_NODES],
     honest: [bool; MOST_NODES],
 ) -> usize
-    ensures { λ r. ⌜ WroteWithin resultMost (now (buf .entry)) at
-        (resultLine phase round (nodesShown n) results honest) (now (buf .exit)) r ⌝ }
+    ensures { λ r. ⌜ Laid (now (buf .entry)) (resultLine phase round (nodesShown n) results honest)
+        (now (buf .exit)) r ⌝ }
 {
     let shown = nodes_shown(n);
-    let a = put_number(buf, at as usize, phase as u32);
+    let a = put_number(buf, 0, phase as u32);
     put(buf, a, SPACE);
     let b = put_number(buf, a + 1, round as u32);
     let c = put_fields(buf, b, shown, results, honest);
@@ -158,27 +151,27 @@ pub fn result_line(
 }
 
 // `bad L`. Of a number above 99,999 the last five digits are shown; no script has so many lines.
-pub fn bad_line(buf: &mut [u8], at: u32, line: u32) -> usize
-    ensures { λ r. ⌜ Wrote (now (buf .entry)) at (badLine line) (now (buf .exit)) r ⌝ }
+pub fn bad_line(buf: &mut [u8], line: u32) -> usize
+    ensures { λ r. ⌜ Laid (now (buf .entry)) (badLine line) (now (buf .exit)) r ⌝ }
 {
-    let a = put_word(buf, at as usize, b'b', b'a', b'd', SPACE);
+    let a = put_word(buf, b'b', b'a', b'd', SPACE);
     let b = put_number(buf, a, line);
     put(buf, b, NEWLINE);
     b + 1
 }
 
 // `end`
-pub fn end_line(buf: &mut [u8], at: u32) -> usize
-    ensures { λ r. ⌜ Wrote (now (buf .entry)) at endLine (now (buf .exit)) r ⌝ }
+pub fn end_line(buf: &mut [u8]) -> usize
+    ensures { λ r. ⌜ Laid (now (buf .entry)) endLine (now (buf .exit)) r ⌝ }
 {
-    put_word(buf, at as usize, b'e', b'n', b'd', NEWLINE)
+    put_word(buf, b'e', b'n', b'd', NEWLINE)
 }
 
 // `long`
-pub fn long_line(buf: &mut [u8], at: u32) -> usize
-    ensures { λ r. ⌜ Wrote (now (buf .entry)) at longLine (now (buf .exit)) r ⌝ }
+pub fn long_line(buf: &mut [u8]) -> usize
+    ensures { λ r. ⌜ Laid (now (buf .entry)) longLine (now (buf .exit)) r ⌝ }
 {
-    let a = put_word(buf, at as usize, b'l', b'o', b'n', b'g');
+    let a = put_word(buf, b'l', b'o', b'n', b'g');
     put(buf, a, NEWLINE);
     a + 1
 }

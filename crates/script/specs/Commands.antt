@@ -11,8 +11,10 @@ use Rattle.script.specs.declared.Numbers.{Numbers}
 use Rattle.script.specs.declared.Plans.{Plans}
 use Rattle.script.specs.declared.CrewLine.{CrewLine}
 use Rattle.script.specs.declared.CrewLine.the-variants.{Crew, NoCrew}
-use Rattle.script.specs.declared.Command.{Command}
-use Rattle.script.specs.declared.Command.the-variants.{Cut, Say, Go, BadLine}
+use Rattle.script.specs.declared.Note.the-variants.{Cut, Say}
+use Rattle.script.specs.declared.Command.the-variants.{Note, Go}
+use Rattle.script.specs.declared.Line.{Line}
+use Rattle.script.specs.declared.Line.the-variants.{Good, Bad}
 
 -- the number at place i of a line
 abbrev pub nth : Numbers → ℕ → ℕ
@@ -40,13 +42,15 @@ abbrev pub plansOf : Numbers → ℕ → Plans
 plansOf w n = cond (has w n) (record { good = true; plans = w .values }) noPlans
 
 -- a cut; a node's number is one byte
-abbrev pub cutOf : Numbers → Command
-cutOf w = cond (has w 2 && byte w 0 && byte w 1) (Cut (nth w 0) (nth w 1)) BadLine
+abbrev pub cutOf : Numbers → Line
+cutOf w = cond (has w 2 && byte w 0 && byte w 1) (Good (Note (Cut (nth w 0) (nth w 1)))) Bad
 
 -- a say; a stamp is one byte as well
-abbrev pub sayOf : Numbers → Command
+abbrev pub sayOf : Numbers → Line
 sayOf w =
-    cond (has w 4 && byte w 0 && byte w 1 && byte w 3) (Say (nth w 0) (nth w 1) (nth w 2) (nth w 3)) BadLine
+    cond (has w 4 && byte w 0 && byte w 1 && byte w 3)
+    (Good (Note (Say (nth w 0) (nth w 1) (nth w 2) (nth w 3))))
+    Bad
 
 -- "cut "
 abbrev pub cutWord : List ℕ
@@ -61,8 +65,8 @@ abbrev pub goWord : List ℕ
 goWord = 103 ∷ 111 ∷ []
 
 -- 01: "Then `cut s r` .., `say s r v t` .., or `go`."
-unfoldable pub commandOf : List ℕ → Command
-commandOf l =
+unfoldable pub lineOf : List ℕ → Line
+lineOf l =
     cond (starts cutWord l) (cutOf (numbersOn (drop 4 l)))
     (cond (starts sayWord l) (sayOf (numbersOn (drop 4 l)))
-    (cond (starts goWord l && eqb (length l) 2) Go BadLine))
+    (cond (starts goWord l && eqb (length l) 2) (Good Go) Bad))

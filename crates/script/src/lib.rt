@@ -9,7 +9,7 @@ ghost use Prim.Native.Nat.{_+_};
 ghost use lib.ListN.{drop};
 ghost use Rattle.script.specs.Lines.{until};
 ghost use Rattle.script.specs.Fields.{Digit, numberOf, noNumbers, numbersOn, starts};
-ghost use Rattle.script.specs.Commands.{crewLineOf, plansOf, cutOf, sayOf, commandOf};
+ghost use Rattle.script.specs.Commands.{crewLineOf, plansOf, cutOf, sayOf, lineOf};
 
 // Ends each line.
 pub const NEWLINE: u8 = b'\n';
@@ -54,8 +54,8 @@ pub struct Plans {
     pub plans: [Plan; MOST_NODES],
 }
 
-// A line after these. No node has a number of two bytes and no phase is a stamp of two, so a larger one is bad already.
-pub enum Command {
+// A cut or a say: it waits for the next go. No node has a number of two bytes and no phase is a stamp of two.
+pub enum Note {
     Cut {
         sender: u8,
         receiver: u8,
@@ -66,8 +66,18 @@ pub enum Command {
         plan: Plan,
         stamp: u8,
     },
+}
+
+// What a line after these asks for.
+pub enum Command {
+    Note(Note),
     Go,
-    BadLine,
+}
+
+// Such a line: a command, or bad for how it is written.
+pub enum Line {
+    Good(Command),
+    Bad,
 }
 
 // The first place from a start on that holds the byte, or where the slice ends; the start itself where it lies beyond.
@@ -231,39 +241,41 @@ pub fn plans_line(s: &[u8], n: usize) -> Plans
     }
 }
 
-fn to_cut(w: Numbers) -> Command
+fn to_cut(w: Numbers) -> Line
     ensures { λ r. ⌜ r ≡ cutOf w ⌝ }
 {
     let v = w.values;
     let good = w.good & (w.count == 2) & (v[0] <= 255) & (v[1] <= 255);
     if good {
-        return Command::Cut {
+        let cut = Note::Cut {
             sender: v[0] as u8,
             receiver: v[1] as u8,
         };
+        return Line::Good(Command::Note(cut));
     }
-    Command::BadLine
+    Line::Bad
 }
 
-fn to_say(w: Numbers) -> Command
+fn to_say(w: Numbers) -> Line
     ensures { λ r. ⌜ r ≡ sayOf w ⌝ }
 {
     let v = w.values;
     let good = w.good & (w.count == 4) & (v[0] <= 255) & (v[1] <= 255) & (v[3] <= 255);
     if good {
-        return Command::Say {
+        let say = Note::Say {
             sender: v[0] as u8,
             receiver: v[1] as u8,
             plan: v[2],
             stamp: v[3] as u8,
         };
+        return Line::Good(Command::Note(say));
     }
-    Command::BadLine
+    Line::Bad
 }
 
 // A line after these. Whether its numbers are within the bounds of the coming round is not asked here.
-pub fn command_line(s: &[u8]) -> Command
-    ensures { λ r. ⌜ r ≡ commandOf (now (s .entry)) ⌝ }
+pub fn command_line(s: &[u8]) -> Line
+    ensures { λ r. ⌜ r ≡ lineOf (now (s .entry)) ⌝ }
 {
     if begins(s, b"cut ") {
         return to_cut(numbers_on(&s[4..]));
@@ -272,7 +284,7 @@ pub fn command_line(s: &[u8]) -> Command
         return to_say(numbers_on(&s[4..]));
     }
     if begins(s, b"go") & (s.len() == 2) {
-        return Command::Go;
+        return Line::Good(Command::Go);
     }
-    Command::BadLine
+    Line::Bad
 }

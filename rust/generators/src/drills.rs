@@ -16,9 +16,7 @@ pub fn valid(random: &mut Random) -> Vec<u8> {
     }
     let pool = plans::pool(random);
     let initial = initial_plans(random, crew, &pool);
-    let mut script = Script { text: String::new(), crew, phase: 1, round: 1 };
-    script.line(&[crew.class, crew.n, crew.b, crew.f, crew.d].map(|number| number.to_string()));
-    script.line(&initial.iter().map(Plan::to_string).collect::<Vec<_>>());
+    let mut script = Script::new(crew, &initial);
     let gos = random.pick(&[0, 1, 3, 6, 9, 30, runs::rounds_in_all(crew)]);
     let business = random.pick(&[0, 1, 4, 12]);
     for _ in 0..gos {
@@ -53,6 +51,14 @@ struct Script {
 }
 
 impl Script {
+    /// Lines 1 and 2.
+    fn new(crew: Crew, initial: &[Plan]) -> Script {
+        let mut script = Script { text: String::new(), crew, phase: 1, round: 1 };
+        script.line(&[crew.class, crew.n, crew.b, crew.f, crew.d].map(|number| number.to_string()));
+        script.line(&initial.iter().map(Plan::to_string).collect::<Vec<_>>());
+        script
+    }
+
     fn line(&mut self, fields: &[String]) {
         self.text.push_str(&fields.join(" "));
         self.text.push('\n');
@@ -66,6 +72,11 @@ impl Script {
             (_, round) => round + 1,
         };
         self.phase += usize::from(self.round == 1);
+    }
+
+    /// The highest stamp that a say may have in the coming round.
+    fn highest_stamp(&self) -> usize {
+        [self.phase - 1, 0, self.phase][self.round - 1]
     }
 
     /// One cut, or cuts that leave a node half deaf.
@@ -84,7 +95,7 @@ impl Script {
         if byzantine.is_empty() || random.chance(1, 4) {
             return self.cut(random);
         }
-        let highest = [self.phase - 1, 0, self.phase][self.round - 1];
+        let highest = self.highest_stamp();
         let any_stamp = random.between(0, highest);
         let (s, v, t) = (random.pick(&byzantine), random.pick(pool), random.pick(&[0, highest, highest, any_stamp]));
         let (first, last) = if random.chance(1, 2) {
@@ -97,6 +108,36 @@ impl Script {
             self.text.push_str(&format!("say {s} {r} {v} {t}\n"));
         }
     }
+}
+
+/// How many says each round of the longest script has: the most that fit.
+const SAYS_OF_LONGEST: usize = 24;
+
+/// The longest run, in a script as long as may be: class 3, 32 nodes, all phases, and in every round as many liars as
+/// there can be, each of whom speaks to some honest nodes with the highest stamp. Cuts after the last round fill it up.
+pub fn longest() -> Vec<u8> {
+    let crew = Crew::new(3, 32, 10, 0, 21);
+    let liars = usize::from(crew.b);
+    let honest = usize::from(crew.n) - liars;
+    let plan = |number: usize| 5 + (number % 3) as Plan;
+    let initial: Vec<Plan> = (0..honest).map(plan).chain(vec![0; liars]).collect();
+    let mut script = Script::new(crew, &initial);
+    for round in 0..runs::rounds_in_all(crew) {
+        for say in 0..SAYS_OF_LONGEST {
+            // The steps are such that no liar speaks to a node twice in a round.
+            let (s, r) = (honest + say % liars, (7 * round + 5 * say) % honest);
+            let (v, t) = (plan(say + round), script.highest_stamp());
+            script.text.push_str(&format!("say {s} {r} {v} {t}\n"));
+        }
+        script.go();
+    }
+    // One cut is a byte longer than the other, so that there are as many of it as bytes would be left.
+    let (cut, longer_cut) = ("cut 0 0\n", "cut 0 10\n");
+    let spare = LONGEST_INPUT - script.text.len();
+    let (cuts, left) = (spare / cut.len(), spare % cut.len());
+    script.text.push_str(&longer_cut.repeat(left));
+    script.text.push_str(&cut.repeat(cuts - left));
+    script.text.into_bytes()
 }
 
 /// A valid script with one thing wrong with it, or near it.

@@ -9,7 +9,9 @@ cast-ready : tie.Need-cast-ready
 cast-ready c = search needs
 
 whole-round-requires : tie.Need-whole-round-requires
-whole-round-requires c κs = is-ready (c .before .before .before .args .state) (c .if1 .taken)
+whole-round-requires c κs =
+    let a = c .before .before .before .args in
+    is-ready (a .setup) (a .moment) (c .if1 .taken)
 
 returns : tie.Need-returns
 unfolding gone

@@ -1,8 +1,7 @@
 -- `results_of` meets its contract. The invariant: the first i results stand in their places.
 use Rattle.wire.proofs.Arrays.{filling-none, filling-more}
 use Rattle.aisle.proofs.Tables.{Tabled, tabled-all}
-use Rattle.aisle.specs.Round.{resultAt}
-use lib.ListN.{take}
+use Rattle.aisle.specs.Round.{resultIn}
 use Rattle.crew.specs.Parts.{mostNodes}
 use Prim.Native.Nat.{_-_}
 use mathlib.Core.Path.{refl}
@@ -11,10 +10,10 @@ use Rattle.aisle.proofs.results_of.Statement.{statement}
 use Rattle.aisle.proofs.results_of.Tie as tie
 
 abbrev Inv-loop : tie.InvT-loop
-Inv-loop state results₀ i₀ results i = Tabled (resultAt state) mostNodes results i
+Inv-loop nodes results₀ i₀ results i = Tabled (resultIn nodes) mostNodes results i
 
 abbrev μ-loop : tie.MeasureT-loop
-μ-loop state results₀ i₀ results i = mostNodes - i
+μ-loop nodes results₀ i₀ results i = mostNodes - i
 
 loop-holds : tie.Need-loop-holds Inv-loop μ-loop
 loop-holds c = filling-none _ refl
@@ -22,8 +21,8 @@ loop-holds c = filling-none _ refl
 mul-node : tie.Need-mul-node Inv-loop μ-loop
 mul-node c = search needs
 
-element-copy-out-node : tie.Need-element-copy-out-node Inv-loop μ-loop
-element-copy-out-node c = search needs
+array-copy-out-node : tie.Need-array-copy-out-node Inv-loop μ-loop
+array-copy-out-node c = search needs
 
 mul-results : tie.Need-mul-results Inv-loop μ-loop
 mul-results c = search needs
@@ -51,7 +50,7 @@ results-of-spec =
     μ-loop
     loop-holds
     mul-node
-    element-copy-out-node
+    array-copy-out-node
     mul-results
     array-write-results
     add-i

@@ -19,13 +19,13 @@ write-all-requires c κs = search needs
 array-share-prefix-script : tie.Need-array-share-prefix-script
 array-share-prefix-script c = search needs
 
-slice-aggregate-run-whole : tie.Need-slice-aggregate-run-whole
-slice-aggregate-run-whole c =
+slice-aggregate-run : tie.Need-slice-aggregate-run
+slice-aggregate-run c =
     let made = c .before .before .before .long-script in
     sym (length-take-le mostBytes (made .result) (omega (arith, made .ensures)))
 
-run-whole-requires : tie.Need-run-whole-requires
-run-whole-requires c κs = search needs
+run-requires : tie.Need-run-requires
+run-requires c κs = search needs
 
 slice-aggregate-write-all-2 : tie.Need-slice-aggregate-write-all-2
 slice-aggregate-write-all-2 c = search needs
@@ -33,11 +33,11 @@ slice-aggregate-write-all-2 c = search needs
 write-all-requires-2 : tie.Need-write-all-requires-2
 write-all-requires-2 c κs = search needs
 
-slice-aggregate-run-whole-2 : tie.Need-slice-aggregate-run-whole-2
-slice-aggregate-run-whole-2 c = search needs
+slice-aggregate-run-2 : tie.Need-slice-aggregate-run-2
+slice-aggregate-run-2 c = search needs
 
-run-whole-requires-2 : tie.Need-run-whole-requires-2
-run-whole-requires-2 c κs = search needs
+run-requires-2 : tie.Need-run-requires-2
+run-requires-2 c κs = search needs
 
 returns : tie.Need-returns
 returns c = search needs
@@ -50,10 +50,10 @@ run-long-spec =
     slice-aggregate-write-all
     write-all-requires
     array-share-prefix-script
-    slice-aggregate-run-whole
-    run-whole-requires
+    slice-aggregate-run
+    run-requires
     slice-aggregate-write-all-2
     write-all-requires-2
-    slice-aggregate-run-whole-2
-    run-whole-requires-2
+    slice-aggregate-run-2
+    run-requires-2
     returns)

@@ -1,6 +1,7 @@
 -- `bad_line` meets its contract.
 use Rattle.print.specs.Texts.{badLine}
-use Rattle.print.proofs.Writing.{within-then, within-one}
+use Rattle.print.proofs.Writing.{within-then, within-one, laid}
+use native.Mathlib.Omega.{arith}
 use borrow.Author.Needs.{needs}
 use Rattle.print.proofs.bad_line.Statement.{statement}
 use Rattle.print.proofs.bad_line.Tie as tie
@@ -25,9 +26,9 @@ unfolding badLine
 returns c =
     let number = c .before .before .before .before .before .before in
     let word = number .before .before .before .before in
-    within-then (word .put-word .ensures)
-    (within-then (number .put-number .ensures) (within-one _ _ _ _ (c .before .before .put .ensures)))
-    .wrote
+    laid (omega arith)
+    (within-then (word .put-word .ensures)
+    (within-then (number .put-number .ensures) (within-one _ _ _ _ (c .before .before .put .ensures))))
 
 pub bad-line-spec : {M : Type 1} → statement M
 bad-line-spec =

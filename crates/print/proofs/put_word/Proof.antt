@@ -7,26 +7,14 @@ use Rattle.print.proofs.put_word.Tie as tie
 put-requires : tie.Need-put-requires
 put-requires c κs = search needs
 
-add-a : tie.Need-add-a
-add-a c = search needs
-
 put-requires-2 : tie.Need-put-requires-2
 put-requires-2 c κs = search needs
-
-add-b : tie.Need-add-b
-add-b c = search needs
 
 put-requires-3 : tie.Need-put-requires-3
 put-requires-3 c κs = search needs
 
-add-c : tie.Need-add-c
-add-c c = search needs
-
 put-requires-4 : tie.Need-put-requires-4
 put-requires-4 c κs = search needs
-
-add-result : tie.Need-add-result
-add-result c = search needs
 
 same-length : tie.Need-same-length
 same-length c = search needs
@@ -43,14 +31,4 @@ returns c =
 pub put-word-spec : {M : Type 1} → statement M
 put-word-spec =
     tie.close
-    (tie.spec
-    put-requires
-    add-a
-    put-requires-2
-    add-b
-    put-requires-3
-    add-c
-    put-requires-4
-    add-result
-    same-length
-    returns)
+    (tie.spec put-requires put-requires-2 put-requires-3 put-requires-4 same-length returns)

@@ -1,6 +1,7 @@
 -- `result_line` meets its contract.
 use Rattle.print.specs.Texts.{resultLine}
-use Rattle.print.proofs.Writing.{within-then, within-one}
+use Rattle.print.proofs.Writing.{within-then, within-one, laid}
+use native.Mathlib.Omega.{arith}
 use borrow.Author.Needs.{needs}
 use Rattle.print.proofs.result_line.Statement.{statement}
 use Rattle.print.proofs.result_line.Tie as tie
@@ -41,10 +42,11 @@ returns c =
     let phase = parted .before .before .before .before in
     let shown = phase .before .before in
     rw (← shown .nodes-shown .ensures .count)
+    (laid (omega arith)
     (within-then (phase .put-number .ensures)
     (within-then (within-one _ _ _ _ (parted .put .ensures))
     (within-then (round .put-number2 .ensures)
-    (within-then (results .put-fields .ensures) (within-one _ _ _ _ (c .before .before .put2 .ensures))))))
+    (within-then (results .put-fields .ensures) (within-one _ _ _ _ (c .before .before .put2 .ensures)))))))
 
 pub result-line-spec : {M : Type 1} → statement M
 result-line-spec =

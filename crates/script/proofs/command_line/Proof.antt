@@ -1,5 +1,5 @@
 -- `command_line` meets its contract.
-use Rattle.script.proofs.Cases.{cut-case, say-case, command-cases}
+use Rattle.script.proofs.Cases.{cut-case, say-case, line-cases}
 use mathlib.Core.Path.{_≡_, ap, _∙_, sym}
 use mathlib.Core.Bool.{Bool, true, false, cond, _&&_}
 use mathlib.Core.List.{List}
@@ -7,9 +7,10 @@ use Prim.Native.Nat.{ℕ}
 use lib.ListN.{length}
 use lib.Dec.{eqb}
 use denote.Ref.{now}
-use Rattle.script.specs.declared.Command.the-variants.{Go, BadLine}
+use Rattle.script.specs.declared.Command.the-variants.{Go}
+use Rattle.script.specs.declared.Line.the-variants.{Good, Bad}
 use Rattle.script.specs.Fields.{starts}
-use Rattle.script.specs.Commands.{cutWord, sayWord, cutOf, sayOf, commandOf}
+use Rattle.script.specs.Commands.{cutWord, sayWord, cutOf, sayOf, lineOf}
 use Rattle.script.proofs.Walk.{starts-long}
 use borrow.Author.Needs.{needs}
 use Rattle.script.proofs.command_line.Statement.{statement}
@@ -39,11 +40,11 @@ no-say c = sym (c .before .begins2 .ensures) ∙ c .if2 .left
 neither : (c : tie.After-begins3) (go : Bool)
     → let unsaid = c .before .before in
     let l = line (uncut (unsaid .before) .before) in
-    c .begins3 .result && eqb (length l) 2 ≡ go → cond go Go BadLine ≡ commandOf l
+    c .begins3 .result && eqb (length l) 2 ≡ go → cond go (Good Go) Bad ≡ lineOf l
 neither c go e =
     let unsaid = c .before .before in
     let is-go = rw (c .begins3 .ensures) at e in
-    sym (command-cases _ false false go (no-cut (uncut (unsaid .before))) (no-say unsaid) is-go)
+    sym (line-cases _ false false go (no-cut (uncut (unsaid .before))) (no-say unsaid) is-go)
 
 slice-aggregate-begins : tie.Need-slice-aggregate-begins
 slice-aggregate-begins c = search needs

@@ -22,17 +22,17 @@ array-read-good c = search needs
 array-read-good-2 : tie.Need-array-read-good-2
 array-read-good-2 c = search needs
 
-array-read-t17 : tie.Need-array-read-t17
-array-read-t17 c = search needs
+array-read-t18 : tie.Need-array-read-t18
+array-read-t18 c = search needs
 
-cast-t18 : tie.Need-cast-t18
-cast-t18 c = omega (arith, bytes c 0 tt)
+cast-t19 : tie.Need-cast-t19
+cast-t19 c = omega (arith, bytes c 0 tt)
 
-array-read-t21 : tie.Need-array-read-t21
-array-read-t21 c = search needs
+array-read-t22 : tie.Need-array-read-t22
+array-read-t22 c = search needs
 
-cast-t22 : tie.Need-cast-t22
-cast-t22 c = omega (arith, bytes c 1 tt)
+cast-t23 : tie.Need-cast-t23
+cast-t23 c = omega (arith, bytes c 1 tt)
 
 returns : tie.Need-returns
 returns c = passed _ _ _ (c .if1 .taken)
@@ -46,9 +46,9 @@ to-cut-spec =
     (tie.spec
     array-read-good
     array-read-good-2
-    array-read-t17
-    cast-t18
-    array-read-t21
-    cast-t22
+    array-read-t18
+    cast-t19
+    array-read-t22
+    cast-t23
     returns
     returns-2)

@@ -25,26 +25,26 @@ array-read-good-2 c = search needs
 array-read-good-3 : tie.Need-array-read-good-3
 array-read-good-3 c = search needs
 
-array-read-t22 : tie.Need-array-read-t22
-array-read-t22 c = search needs
+array-read-t23 : tie.Need-array-read-t23
+array-read-t23 c = search needs
 
-cast-t23 : tie.Need-cast-t23
-cast-t23 c = omega (arith, bytes c 0 tt)
+cast-t24 : tie.Need-cast-t24
+cast-t24 c = omega (arith, bytes c 0 tt)
 
-array-read-t26 : tie.Need-array-read-t26
-array-read-t26 c = search needs
+array-read-t27 : tie.Need-array-read-t27
+array-read-t27 c = search needs
 
-cast-t27 : tie.Need-cast-t27
-cast-t27 c = omega (arith, bytes c 1 tt)
+cast-t28 : tie.Need-cast-t28
+cast-t28 c = omega (arith, bytes c 1 tt)
 
-array-read-t30 : tie.Need-array-read-t30
-array-read-t30 c = search needs
+array-read-t31 : tie.Need-array-read-t31
+array-read-t31 c = search needs
 
-array-read-t33 : tie.Need-array-read-t33
-array-read-t33 c = search needs
+array-read-t34 : tie.Need-array-read-t34
+array-read-t34 c = search needs
 
-cast-t34 : tie.Need-cast-t34
-cast-t34 c = omega (arith, bytes c 3 tt)
+cast-t35 : tie.Need-cast-t35
+cast-t35 c = omega (arith, bytes c 3 tt)
 
 returns : tie.Need-returns
 returns c = passed _ _ _ (c .if1 .taken)
@@ -59,12 +59,12 @@ to-say-spec =
     array-read-good
     array-read-good-2
     array-read-good-3
-    array-read-t22
-    cast-t23
-    array-read-t26
-    cast-t27
-    array-read-t30
-    array-read-t33
-    cast-t34
+    array-read-t23
+    cast-t24
+    array-read-t27
+    cast-t28
+    array-read-t31
+    array-read-t34
+    cast-t35
     returns
     returns-2)

@@ -1,16 +1,21 @@
-//! Times the proved engine's archive against the second engine, both in this one run, on the same inboxes, in turn.
-//! docs/BENCHMARK.md says what is measured. Usage: benchmark [REPETITIONS]; it prints the summary that the page holds,
-//! then the whole tables.
+//! Times the proved engine's archive against the second engine, both in this one run, on the same inboxes, in turn, and
+//! the proved drill program against the second engine's, `second_drill`, which is expected beside this program.
+//! docs/BENCHMARK.md says what is measured. Usage: benchmark DRILL [REPETITIONS]; it prints the summary that the page
+//! holds, then the whole tables.
 
 use archive::engine::numbers;
 use archive::{image, Archive};
 use comparison::Engine;
+use generators::drills;
 use generators::messages::Fields;
 use rail::RECORD;
 use second_engine::inbox::SLOT;
 use second_engine::message::LAST_PHASE;
 use second_engine::{rounds, Crew, Node, Plan};
+use std::fs::{self, File};
 use std::hint::black_box;
+use std::path::{Path, PathBuf};
+use std::process::{exit, id, Command, Stdio};
 use std::time::Instant;
 
 /// The crews, by class and n: the most Byzantine nodes that the class allows, for n = 4 in classes 1 and 2 one node out
@@ -72,7 +77,12 @@ struct Times {
 }
 
 fn main() {
-    let repetitions = std::env::args().nth(1).map_or(31, |text| text.parse().expect("REPETITIONS is a number"));
+    let arguments: Vec<String> = std::env::args().skip(1).collect();
+    let (drill, repetitions) = match arguments.as_slice() {
+        [drill] => (drill, 31),
+        [drill, repetitions] => (drill, repetitions.parse().unwrap_or_else(|_| usage())),
+        _ => usage(),
+    };
     let mut rows = Vec::new();
     for operation in [Operation::Ask, Operation::Take] {
         for crews in CREWS {
@@ -91,6 +101,12 @@ fn main() {
     print_rows(&rows);
     print_growth(&rows);
     print_image(repetitions);
+    print_drill(repetitions, drill.into());
+}
+
+fn usage() -> ! {
+    eprintln!("usage: benchmark DRILL [REPETITIONS]");
+    exit(2);
 }
 
 fn rounds_of(operation: Operation, class: u8) -> Vec<u8> {
@@ -175,9 +191,9 @@ fn measure(repetitions: usize, operation: Operation, node: &Node, votes: Votes) 
     };
     let floor = || _ = black_box(black_box(&inbox).iter().fold(0u8, |sum, &byte| sum.wrapping_add(byte)));
     let times = time(repetitions, [&engine, &second, &floor]);
-    let ratios = times[0].iter().zip(&times[1]).map(|(engine, second)| engine / second).collect();
+    let ratio = median_ratio(&times[0], &times[1]);
     let [engine, second, floor] = times.map(median);
-    Times { engine, second, floor, ratio: median(ratios) }
+    Times { engine, second, floor, ratio }
 }
 
 /// What is timed is accepted, and both engines answer it alike.
@@ -216,6 +232,11 @@ fn time<const N: usize>(repetitions: usize, calls: [&dyn Fn(); N]) -> [Vec<f64>;
 fn median(mut numbers: Vec<f64>) -> f64 {
     numbers.sort_by(f64::total_cmp);
     numbers[numbers.len() / 2]
+}
+
+/// The median of the ratios of each repetition, so that a slow moment falls on both.
+fn median_ratio(engine: &[f64], second: &[f64]) -> f64 {
+    median(engine.iter().zip(second).map(|(engine, second)| engine / second).collect())
 }
 
 /// The ratios of both phases and all inboxes, by operation, class and round: the table of docs/BENCHMARK.md.
@@ -321,4 +342,43 @@ fn print_image(repetitions: usize) {
     println!("| the same test in the second engine, which has no image | {sound:.0} |");
     println!("| starting a node and writing its image (`rail_start`) | {start:.0} |");
     println!();
+}
+
+/// The drill programs, each from its start to its end: on the longest script, and on one that has the same first lines
+/// and no round, which is what starting a program costs.
+fn print_drill(repetitions: usize, engine: PathBuf) {
+    let this = std::env::current_exe().expect("this program has a path");
+    let second = this.with_file_name("second_drill");
+    let longest = drills::longest();
+    let without_a_go: Vec<u8> = longest.split_inclusive(|&byte| byte == b'\n').take(2).flatten().copied().collect();
+    println!("## Drill");
+    println!();
+    println!("Milliseconds of a process.");
+    println!();
+    println!("| script | engine | second | ratio |");
+    println!("|---|---|---|---|");
+    for (name, script) in [("the longest: 189 rounds", longest), ("without a go", without_a_go)] {
+        let [engine, second] = time_drills(repetitions, [&engine, &second], &script);
+        let ratio = median_ratio(&engine, &second);
+        println!("| {name} | {:.2} | {:.2} | {ratio:.2} |", median(engine) / 1e6, median(second) / 1e6);
+    }
+    println!();
+}
+
+/// Both programs on the script, in turn. It stands in a file, so that they read it and nobody has to feed them.
+fn time_drills(repetitions: usize, programs: [&PathBuf; 2], script: &[u8]) -> [Vec<f64>; 2] {
+    let [engine, second] = programs.map(|program| Archive { drill: program.clone() }.drill(script));
+    assert_eq!(String::from_utf8_lossy(&engine), String::from_utf8_lossy(&second), "the outputs differ");
+    let file = std::env::temp_dir().join(format!("script_of_benchmark_{}", id()));
+    fs::write(&file, script).expect("the script is written");
+    let [engine, second] = programs.map(|program| || run_drill(program, &file));
+    let times = time(repetitions, [&engine, &second]);
+    fs::remove_file(&file).expect("the script is removed");
+    times
+}
+
+fn run_drill(program: &Path, script: &Path) {
+    let input = File::open(script).expect("the script is there");
+    let status = Command::new(program).stdin(input).stdout(Stdio::null()).status();
+    assert!(status.expect("the drill is started").success(), "{} failed", program.display());
 }

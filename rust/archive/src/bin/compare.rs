@@ -1,5 +1,5 @@
-//! Holds the proved engine's archive and drill against the second engine: all small crews, random cases of every
-//! operation and of the boundary, and every mutant, which has to be told from the archive.
+//! Holds the proved engine's archive and drill against the second engine: all small crews, the longest drill, random
+//! cases of every operation and of the boundary, and every mutant, which has to be told from the archive.
 //! Usage: compare DRILL [MINUTES]. Without MINUTES each operation gets its number of cases once; with MINUTES it gets
 //! them again and again, with new seeds, until the time is over. SEED sets the first seed.
 
@@ -7,7 +7,7 @@ use archive::{boundary, Archive, Boundary};
 use comparison::cases::same;
 use comparison::mutants::{tell_all, Cases};
 use comparison::{compare, Engine, Operation, Second};
-use generators::crews;
+use generators::{crews, drills};
 use std::panic::{catch_unwind, AssertUnwindSafe};
 use std::process::exit;
 use std::time::{Duration, Instant, SystemTime, UNIX_EPOCH};
@@ -68,6 +68,7 @@ fn first_seed(is_new: bool) -> u64 {
 
 fn compare_once(archive: &Archive, first: u64) -> Result<(), String> {
     compare_small_crews(archive)?;
+    compare_longest_drill(archive)?;
     compare_all(archive, first, 1)?;
     tell_all(archive, Cases { rounds: 2_000, runs: 100, schedules: 400, drills: 100 })
 }
@@ -91,6 +92,15 @@ fn compare_small_crews(archive: &Archive) -> Result<(), String> {
         count += 1;
     }
     println!("small crews: all {count} the same");
+    Ok(())
+}
+
+/// The longest run of the drill, which random scripts hardly come to.
+fn compare_longest_drill(archive: &Archive) -> Result<(), String> {
+    let script = drills::longest();
+    let text = |output: Vec<u8>| String::from_utf8_lossy(&output).into_owned();
+    same(&"the longest script", text(archive.drill(&script)), text(Second::default().drill(&script)))?;
+    println!("longest drill: the same");
     Ok(())
 }
 

@@ -1,11 +1,9 @@
 -- `Pending::with_say` meets its contract.
-use Rattle.pending.proofs.Places.{say-inside, say-outside}
+use Rattle.pending.specs.Pairs.{withSay}
+use borrow.Author.Tests.{lt-ltb, le-ltb}
 use borrow.Author.Needs.{needs}
 use Rattle.pending.proofs.Pending.with_say.Statement.{statement}
 use Rattle.pending.proofs.Pending.with_say.Tie as tie
-
-place-requires : tie.Need-place-requires
-place-requires c κs = search needs
 
 mul-pending : tie.Need-mul-pending
 mul-pending c = search needs
@@ -17,16 +15,17 @@ element-write-pending-2 : tie.Need-element-write-pending-2
 element-write-pending-2 c = search needs
 
 returns : tie.Need-returns
-returns c = say-inside _ _ _ (c .before .place .ensures) _ _ _ (c .if1 .taken)
+unfolding withSay
+returns c = rw (lt-ltb _ _ (c .if1 .taken))
 
 returns-2 : tie.Need-returns-2
-returns-2 c = say-outside _ _ _ (c .before .place .ensures) _ _ _ (c .if1 .left)
+unfolding withSay
+returns-2 c = rw (le-ltb _ _ (c .if1 .left))
 
 pub with-say-spec : {M : Type 1} → statement M
 with-say-spec =
     tie.close
     (tie.spec
-    place-requires
     mul-pending
     element-write-pending
     element-write-pending-2

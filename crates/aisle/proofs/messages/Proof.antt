@@ -1,0 +1,89 @@
+-- `messages` meets its contract. The invariant: the first senders' slots hold what they send.
+use mathlib.Core.Path.{refl}
+use Prim.Native.Nat.{_-_}
+use Rattle.crew.specs.Parts.{mostNodes}
+use Rattle.aisle.specs.Round.{sentBy}
+use Rattle.aisle.proofs.Slots.{Laid, laid-none, laid-more, lent-empty, laid-slot}
+use native.Mathlib.Omega.{arith}
+use borrow.Author.Needs.{needs}
+use Rattle.aisle.proofs.messages.Statement.{statement}
+use Rattle.aisle.proofs.messages.Tie as tie
+
+abbrev Inv-loop : tie.InvT-loop
+Inv-loop nodes honest sent₀ sender₀ sent sender = Laid (sentBy nodes honest) sent sender
+
+abbrev μ-loop : tie.MeasureT-loop
+μ-loop nodes honest sent₀ sender₀ sent sender = mostNodes - sender
+
+loop-holds : tie.Need-loop-holds Inv-loop μ-loop
+loop-holds c = laid-none _ _ refl
+
+mul-at : tie.Need-mul-at Inv-loop μ-loop
+mul-at c = search needs
+
+add-end : tie.Need-add-end Inv-loop μ-loop
+add-end c = search needs
+
+sub-write-message : tie.Need-sub-write-message Inv-loop μ-loop
+sub-write-message c = search needs
+
+part-sent-start : tie.Need-part-sent-start Inv-loop μ-loop
+part-sent-start c = search needs
+
+part-sent-end : tie.Need-part-sent-end Inv-loop μ-loop
+part-sent-end c = search needs
+
+mul-write-message : tie.Need-mul-write-message Inv-loop μ-loop
+mul-write-message c = search needs
+
+array-copy-out-write-message : tie.Need-array-copy-out-write-message Inv-loop μ-loop
+array-copy-out-write-message c = search needs
+
+array-read-write-message : tie.Need-array-read-write-message Inv-loop μ-loop
+array-read-write-message c = search needs
+
+write-message-requires : tie.Need-write-message-requires Inv-loop μ-loop
+write-message-requires c κs = search needs
+
+add-sender : tie.Need-add-sender Inv-loop μ-loop
+add-sender c = search needs
+
+loop-less : tie.Need-loop-less Inv-loop μ-loop
+loop-less c = search needs
+
+loop-again : tie.Need-loop-again Inv-loop μ-loop
+loop-again c =
+    let wrote = c .before .write-message in
+    let turn = c .before .before .before .before in
+    let inv = turn .before .loop .inv in
+    let less = turn .loop-test .taken in
+    laid-more _ _ _ less inv _ (rw (lent-empty _ _ _ less inv) at (wrote .ensures)) (wrote .kept .0)
+
+returns : tie.Need-returns Inv-loop μ-loop
+returns c =
+    let laid = c .before .loop .inv in
+    record {
+      whole = laid .size;
+      each = λ s less. laid-slot _ _ _ s (omega arith) laid;
+    }
+
+pub messages-spec : {M : Type 1} → statement M
+messages-spec =
+    tie.close
+    (tie.spec
+    Inv-loop
+    μ-loop
+    loop-holds
+    mul-at
+    add-end
+    sub-write-message
+    part-sent-start
+    part-sent-end
+    mul-write-message
+    array-copy-out-write-message
+    array-read-write-message
+    write-message-requires
+    add-sender
+    loop-less
+    loop-again
+    returns)

@@ -1,0 +1,105 @@
+-- `run` meets its contract, and ends: every step goes on in the script.
+use mathlib.Core.Path.{_≡_, refl, sym, _∙_}
+use mathlib.Core.Bool.{true≢false}
+use mathlib.Core.List.{List}
+use Prim.Native.Nat.{ℕ}
+use native.Mathlib.Omega.{arith}
+use lib.ListN.{length}
+use lib.Seq.{length-take-le}
+use borrow.Author.Needs.{needs}
+use Rattle.print.specs.Texts.{lineMost}
+use Rattle.drill.specs.declared.Cursor.{Cursor}
+use Rattle.drill.proofs.Whole.{way, step-goes-on}
+use Rattle.console.proofs.Showing.{Shows, shows-none, shows-more, shows-within, shows-all}
+use Rattle.console.proofs.run.Statement.{statement}
+use Rattle.console.proofs.run.Tie as tie
+
+-- the buffer has room for a line, and so much has gone out
+record Shown (input : List ℕ) (cursor : Cursor) (text : List ℕ) (size : ℕ) : Type 0 where
+  room : length text ≡ lineMost
+  shows : Shows input cursor size
+
+abbrev Inv-loop : tie.InvT-loop
+Inv-loop input text₀ cursor₀ size₀ text cursor size = Shown input cursor text size
+
+abbrev μ-loop : tie.MeasureT-loop
+μ-loop input text₀ cursor₀ size₀ text cursor size = way input cursor
+
+-- a turn is made while the drill is not over
+runs-on : (c : tie.Then1 Inv-loop μ-loop) → c .before .before .loop .cursor .line ≡ 0 → ⊥
+runs-on c e = omega (arith, c .if1 .taken)
+
+start-requires : tie.Need-start-requires Inv-loop μ-loop
+start-requires c κs = search needs
+
+loop-holds : tie.Need-loop-holds Inv-loop μ-loop
+loop-holds c = record { room = refl; shows = shows-none _ _ (c .start .ensures) }
+
+slice-aggregate-step : tie.Need-slice-aggregate-step Inv-loop μ-loop
+slice-aggregate-step c = search needs
+
+step-requires : tie.Need-step-requires Inv-loop μ-loop
+step-requires c κs = search needs
+
+array-share-prefix-text : tie.Need-array-share-prefix-text Inv-loop μ-loop
+array-share-prefix-text c = search needs
+
+slice-aggregate-write-all : tie.Need-slice-aggregate-write-all Inv-loop μ-loop
+slice-aggregate-write-all c =
+    let step = c .before .before .before in
+    sym (length-take-le _ _ (omega (arith, step .step .ensures .within, step .step .kept .1 .1 .0,
+    step .before .before .before .before .loop .inv .room)))
+
+write-all-requires : tie.Need-write-all-requires Inv-loop μ-loop
+write-all-requires c κs = search needs
+
+add-size : tie.Need-add-size Inv-loop μ-loop
+add-size c =
+    let step = c .before .before .before .before .before .before in
+    let near = step .before .before .before .before .loop .inv .shows .near (runs-on (step .before .before)) in
+    search (needs, near .lines, near .low, step .step .ensures .within)
+
+loop-less : tie.Need-loop-less Inv-loop μ-loop
+loop-less c =
+    let step = c .before .before .before .before .before .before in
+    rw (step .step .ensures .next) (step-goes-on _ _ (runs-on (step .before .before)))
+
+loop-again : tie.Need-loop-again Inv-loop μ-loop
+loop-again c =
+    let step = c .before .before .before .before .before .before in
+    let made = step .step .ensures in
+    let so-far = step .before .before .before .before .loop .inv in
+    record {
+      room = step .step .kept .1 .1 .0 ∙ so-far .room;
+      shows = shows-more (so-far .shows) (runs-on (step .before .before)) _ _ (made .next) (made .size) (made .within);
+    }
+
+returns : tie.Need-returns Inv-loop μ-loop
+returns c =
+    let so-far = c .before .before .before .before .before .before .before .before .before .loop .inv in
+    record { within = shows-within (so-far .shows); all = λ whole. absurd (true≢false (sym whole)) }
+
+returns-2 : tie.Need-returns-2 Inv-loop μ-loop
+returns-2 c =
+    let so-far = c .before .before .loop .inv .shows in
+    let all = shows-all so-far (omega (arith, c .if1 .left)) in
+    record { within = shows-within so-far; all = λ whole. all }
+
+pub run-spec : {M : Type 1} → statement M
+run-spec =
+    tie.close
+    (tie.spec
+    Inv-loop
+    μ-loop
+    start-requires
+    loop-holds
+    slice-aggregate-step
+    step-requires
+    array-share-prefix-text
+    slice-aggregate-write-all
+    write-all-requires
+    add-size
+    loop-less
+    loop-again
+    returns
+    returns-2)
