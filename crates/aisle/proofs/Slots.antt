@@ -6,8 +6,18 @@ use Prim.Native.Nat.{ℕ, zero, suc, _+_, _*_, _-_, _<_, _≤_}
 use native.Mathlib.Nat.{add-sub-cancel-left}
 use native.Mathlib.Omega.{arith}
 use native.Mathlib.Numerals.{add-one}
-use lib.ListN.{length, take, drop, replicate, length-append, length-replicate, replicate-append-replicate}
-use lib.Seq.{take-at, drop-at}
+use lib.ListN.{
+  length,
+  take,
+  drop,
+  replicate,
+  length-append,
+  length-drop,
+  length-replicate,
+  replicate-append-replicate,
+  take-append-drop,
+}
+use lib.Seq.{length-take-le, take-at, drop-at, drop-drop}
 use lib.Dec.{eqb}
 use borrow.Author.Tests.{le-leb, ne-eqb}
 use Rattle.crew.specs.Parts.{mostNodes}
@@ -53,13 +63,6 @@ module _ (front part rest new l : List ℕ) (a k : ℕ) (is : l ≡ front ++ (pa
 abbrev start : ℕ → ℕ
 start s = slotSize * s
 
--- how many bytes the slots from a sender on have, and those slots, all empty
-abbrev left : ℕ → ℕ
-left s = slotSize * (mostNodes - s)
-
-abbrev empties : ℕ → List ℕ
-empties s = replicate (left s) 0
-
 -- the same slots stand one after another where each sender's is the same
 pub slots-same : (f g : ℕ → List ℕ) (n : ℕ) → ((s : ℕ) → s < n → f s ≡ g s) → slotsOf f n ≡ slotsOf g n
 unfolding slotsOf
@@ -96,82 +99,100 @@ module _ (slot : ℕ → List ℕ) where
       (the-part front (slot n) rest [] _ (start n) slotSize is (slots-long n before) (long n (omega arith))))
       (λ apart. rw is (slot-there n s (slot n ++ rest) (omega (arith, apart)) before))
 
-  -- with as many empty slots behind as there are left, they fill the array
-  slots-size : (s : ℕ) → s ≤ mostNodes → Long s → length (slotsOf slot s ++ empties s) ≡ inboxSize
-  slots-size s within long =
-      length-append (slotsOf slot s) (empties s)
-      ∙ omega (arith, slots-long s long, length-replicate {A = ℕ} (left s) 0)
-
--- s senders' slots are laid, and all after them is 0
-pub record Laid (slot : ℕ → List ℕ) (slots : List ℕ) (s : ℕ) : Type 0 where
+-- Of an array of slots, those of s senders are laid anew, and the others are as they were.
+pub record Laid (slot : ℕ → List ℕ) (before slots : List ℕ) (s : ℕ) : Type 0 where
   pub within : s ≤ mostNodes
-  pub size : length slots ≡ inboxSize
+  pub size : length before ≡ inboxSize
   pub long : Long slot s
-  pub laid : slots ≡ slotsOf slot s ++ empties s
+  pub laid : slots ≡ slotsOf slot s ++ drop (start s) before
 
-module _ (slot : ℕ → List ℕ) (slots : List ℕ) where
-  pub laid-none : slots ≡ replicate inboxSize 0 → Laid slot slots 0
+module _ (slot : ℕ → List ℕ) (before : List ℕ) where
+  pub laid-none : length before ≡ inboxSize → Laid slot before before 0
   unfolding slotsOf
-  laid-none e = record {
+  laid-none whole = record {
     within = omega arith;
-    size = rw e (length-replicate {A = ℕ} inboxSize 0);
+    size = whole;
     long = λ s less. absurd (omega arith);
-    laid = e;
+    laid = refl;
   }
 
-  -- the slots of n senders stand at the front
-  pub laid-front : (n s : ℕ) → n ≤ s → s ≤ n → Laid slot slots s → take (start n) slots ≡ slotsOf slot n
-  laid-front n s h k inv =
-      let same : n ≡ s = omega arith in
-      rw (same, inv .laid) (take-at (slotsOf slot s) (empties s) (start s) (slots-long slot s (inv .long)))
+  module _ (slots : List ℕ) where
+    pub laid-size : (s : ℕ) → Laid slot before slots s → length slots ≡ inboxSize
+    laid-size s inv =
+        rw (inv .laid)
+        (length-append (slotsOf slot s) (drop (start s) before)
+        ∙ omega (arith, slots-long slot s (inv .long), length-drop (start s) before, inv .size, inv .within))
 
-  -- each sender's slot stands at its place
-  pub laid-slot : (n s : ℕ) → s < n → Laid slot slots n → slotIn slots s ≡ slot s
-  laid-slot n s less inv = rw (inv .laid) (slot-there slot n s (empties n) less (inv .long))
+    -- the slots of n senders stand at the front
+    pub laid-front : (n s : ℕ) → n ≤ s → s ≤ n → Laid slot before slots s → take (start n) slots ≡ slotsOf slot n
+    laid-front n s h k inv =
+        let same : n ≡ s = omega arith in
+        rw (same, inv .laid)
+        (take-at (slotsOf slot s) (drop (start s) before) (start s) (slots-long slot s (inv .long)))
 
-  module _ (s : ℕ) (less : s < mostNodes) (inv : Laid slot slots s) where
-    -- the slot of the next sender, which is lent, and what stands before and after it
-    abbrev size : ℕ
-    size = start s + slotSize - start s
+    -- each sender's slot stands at its place
+    pub laid-slot : (n s : ℕ) → s < n → Laid slot before slots n → slotIn slots s ≡ slot s
+    laid-slot n s less inv = rw (inv .laid) (slot-there slot n s (drop (start n) before) less (inv .long))
 
-    abbrev rest : List ℕ
-    rest = empties (s + 1)
+    module _ (s : ℕ) (less : s < mostNodes) (inv : Laid slot before slots s) where
+      -- the slot of the next sender, which is lent, and what stands before and after it
+      abbrev size : ℕ
+      size = start s + slotSize - start s
 
-    size-is : length emptySlot ≡ size
-    size-is = length-replicate {A = ℕ} slotSize 0 ∙ sym (add-sub-cancel-left (start s) slotSize)
+      abbrev rest : List ℕ
+      rest = drop (start (s + 1)) before
 
-    front-long : length (slotsOf slot s) ≡ start s
-    front-long = slots-long slot s (inv .long)
+      old-long : length (slotIn before s) ≡ slotSize
+      old-long = length-take-le slotSize (drop (start s) before) (omega (arith, length-drop (start s) before, inv .size))
 
-    apart : slots ≡ slotsOf slot s ++ (emptySlot ++ rest)
-    apart =
-        let more : left s ≡ slotSize + left (s + 1) = omega arith in
-        let zeros : empties s ≡ emptySlot ++ rest =
-        ap (λ (n : ℕ). replicate n 0) more ∙ sym (replicate-append-replicate {A = ℕ} slotSize (left (s + 1)) 0) in
-        inv .laid ∙ ap (λ (z : List ℕ). slotsOf slot s ++ z) zeros
+      size-is : length (slotIn before s) ≡ size
+      size-is = old-long ∙ sym (add-sub-cancel-left (start s) slotSize)
 
-    pub lent-empty : take size (drop (start s) slots) ≡ emptySlot
-    lent-empty = the-part (slotsOf slot s) emptySlot rest [] slots (start s) size apart front-long size-is
+      front-long : length (slotsOf slot s) ≡ start s
+      front-long = slots-long slot s (inv .long)
 
-    -- it comes back, as long as it was, and is the sender's
-    pub laid-more : (x : List ℕ) → x ≡ slot s → length x ≡ length (take size (drop (start s) slots))
-        → Laid slot (take (start s) slots ++ (x ++ drop size (drop (start s) slots))) (s + 1)
-    laid-more x is back-long = record {
-      within = omega arith;
-      size = rw now-laid (slots-size slot (s + 1) (omega arith) long);
-      long = long;
-      laid = now-laid;
-    } where
-      x-long : length x ≡ slotSize
-      x-long = back-long ∙ ap length lent-empty ∙ length-replicate {A = ℕ} slotSize 0
+      apart : slots ≡ slotsOf slot s ++ (slotIn before s ++ rest)
+      apart =
+          let next : start s + slotSize ≡ start (s + 1) = omega arith in
+          let old : drop (start s) before ≡ slotIn before s ++ rest =
+          sym (take-append-drop slotSize (drop (start s) before))
+          ∙ ap (λ (l : List ℕ). slotIn before s ++ l)
+          (drop-drop slotSize (start s) before ∙ ap (λ (k : ℕ). drop k before) next) in
+          inv .laid ∙ ap (λ (l : List ℕ). slotsOf slot s ++ l) old
 
-      long : Long slot (s + 1)
-      long k h = by-equality k s (λ same. rw (same, ← is) x-long) (λ other. inv .long k (omega (arith, other)))
+      pub lent-old : take size (drop (start s) slots) ≡ slotIn before s
+      lent-old = the-part (slotsOf slot s) (slotIn before s) rest [] slots (start s) size apart front-long size-is
 
-      now-laid : take (start s) slots ++ (x ++ drop size (drop (start s) slots)) ≡ slotsOf slot (s + 1) ++ rest
-      now-laid =
-          put-part (slotsOf slot s) emptySlot rest x slots (start s) size apart front-long size-is
-          ∙ ap (λ (l : List ℕ). l ++ rest) (ap (λ (l : List ℕ). slotsOf slot s ++ l) is ∙ sym (slots-more slot s))
+      pub lent-long : length (take size (drop (start s) slots)) ≡ slotSize
+      lent-long = ap length lent-old ∙ old-long
+
+      -- it comes back, as long as it was, and is the sender's
+      pub laid-more : (x : List ℕ) → x ≡ slot s → length x ≡ length (take size (drop (start s) slots))
+          → Laid slot before (take (start s) slots ++ (x ++ drop size (drop (start s) slots))) (s + 1)
+      laid-more x is back-long = record {
+        within = omega arith;
+        size = inv .size;
+        long = λ k h.
+            by-equality k s
+            (λ same. rw (same, ← is) (back-long ∙ lent-long))
+            (λ other. inv .long k (omega (arith, other)));
+        laid =
+            put-part (slotsOf slot s) (slotIn before s) rest x slots (start s) size apart front-long size-is
+            ∙ ap (λ (l : List ℕ). l ++ rest) (ap (λ (l : List ℕ). slotsOf slot s ++ l) is ∙ sym (slots-more slot s));
+      }
+
+-- a slot of an array of zeros is an empty slot
+pub empty-there : (s : ℕ) → s < mostNodes → slotIn (replicate inboxSize 0) s ≡ emptySlot
+empty-there s less =
+    let more : inboxSize ≡ start s + (slotSize + (inboxSize - start s - slotSize)) = omega arith in
+    let zeros : List ℕ = replicate (inboxSize - start s - slotSize) 0 in
+    let is : replicate {A = ℕ} inboxSize 0 ≡ replicate (start s) 0 ++ (emptySlot ++ zeros) =
+    ap (λ (n : ℕ). replicate n 0) more
+    ∙ sym (replicate-append-replicate {A = ℕ} (start s) (slotSize + (inboxSize - start s - slotSize)) 0)
+    ∙ ap (λ (l : List ℕ). replicate (start s) 0 ++ l)
+    (sym (replicate-append-replicate {A = ℕ} slotSize (inboxSize - start s - slotSize) 0)) in
+    the-part (replicate (start s) 0) emptySlot zeros [] (replicate inboxSize 0) (start s) slotSize is
+    (length-replicate {A = ℕ} (start s) 0) (length-replicate {A = ℕ} slotSize 0)
 
 -- what the size of the largest inbox comes to
 inbox-size : inboxSize ≡ 6464

@@ -10,13 +10,13 @@ use Rattle.wire.proofs.Arrays.{Filled, filled-all, Filling}
 use Rattle.aisle.specs.Round.{table}
 
 module _ {A : Type 0} (f : ℕ → A) where
-  table-long : (n : ℕ) → length (table f n) ≡ n
+  pub table-long : (n : ℕ) → length (table f n) ≡ n
   unfolding table
   table-long zero = refl
   table-long (suc n) = omega (arith, length-append (table f n) (f n ∷ []), table-long n)
 
   -- place k of a table holds f k
-  table-filled : (other : A) (n : ℕ) → Filled f other (table f n) n
+  pub table-filled : (other : A) (n : ℕ) → Filled f other (table f n) n
   unfolding table
   table-filled other zero k less = absurd (omega arith)
   table-filled other (suc n) k less =

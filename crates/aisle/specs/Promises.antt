@@ -13,7 +13,7 @@ use Rattle.pending.specs.declared.Pending.{Pending}
 use Rattle.pending.specs.Pairs.{waitingFrom}
 use Rattle.aisle.specs.declared.Setup.{Setup}
 use Rattle.aisle.specs.declared.Moment.{Moment}
-use Rattle.aisle.specs.Round.{isIn, emptySlot, slotsOf, sentBy, delivered, inboxSize}
+use Rattle.aisle.specs.Round.{isIn, slotsOf, sentBy, delivered, inboxSize}
 
 -- a sender's slot of all that is sent
 abbrev pub slotIn : List ℕ → ℕ → List ℕ
@@ -24,15 +24,16 @@ pub record AllSent (nodes : List Node) (honest : List Bool) (r : List ℕ) : Typ
   pub whole : length r ≡ inboxSize
   pub each : (sender : ℕ) → sender < mostNodes → slotIn r sender ≡ sentBy nodes honest sender
 
--- what can be handed out: every node has its place, and every slot is there
-pub record Sendable (setup : Setup) (sent : List ℕ) : Type 0 where
+-- an inbox can be filled from all that is sent: every node has its place, and every slot is there
+pub record Fillable (setup : Setup) (inbox sent : List ℕ) : Type 0 where
   pub small : setup .crew .n ≤ mostNodes
-  pub whole : length sent ≡ inboxSize
+  pub whole : length inbox ≡ inboxSize
+  pub all : length sent ≡ inboxSize
 
 -- what a receiver's slot for a sender becomes by all that is sent
 abbrev pub reaching : List Bool → ℕ → ℕ → List ℕ → Pending → ℕ → List ℕ
 reaching honest phase round sent pending sender =
-    delivered (isIn honest sender) (slotIn sent sender) (waitingFrom pending sender) phase round emptySlot
+    delivered (isIn honest sender) (waitingFrom pending sender) phase round (slotIn sent sender)
 
 -- r is as long as the largest inbox, and at its front stands what reaches the receiver.
 pub record InboxFrom (setup : Setup) (phase round : ℕ) (sent : List ℕ) (pending : Pending) (r : List ℕ) : Type 0 where

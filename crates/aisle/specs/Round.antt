@@ -67,18 +67,19 @@ slotsOf slot (suc sender) = slotsOf slot sender ++ slot sender
 abbrev pub sentBy : List Node → List Bool → ℕ → List ℕ
 sentBy nodes honest sender = cond (isIn honest sender) (comingBufferOf (nodeIn nodes sender) emptySlot) emptySlot
 
--- What a receiver's slot for a sender becomes by what reaches it from there: an honest node's message, or a say.
+-- What becomes of a slot with what its sender sends to everybody, on its way to one receiver: it is lost, or, where the
+-- sender is not honest, there is what it says to that receiver.
 -- 01: "a cut wins over a say"
-abbrev pub delivered : Bool → List ℕ → Waiting → ℕ → ℕ → List ℕ → List ℕ
-delivered honest message waiting phase round slot =
-    cond (waiting .cut) slot
-    (cond honest message (sayBuffer phase round (waiting .plan) (waiting .stamp) slot))
+abbrev pub delivered : Bool → Waiting → ℕ → ℕ → List ℕ → List ℕ
+delivered honest waiting phase round slot =
+    cond (waiting .cut) emptySlot
+    (cond honest slot (sayBuffer phase round (waiting .plan) (waiting .stamp) slot))
 
 -- a receiver's slot for a sender
 unfoldable pub slotFrom : Setup → Moment → ℕ → ℕ → List ℕ
 slotFrom setup m receiver sender =
-    delivered (isIn (setup .honest) sender) (sentBy (m .nodes) (setup .honest) sender)
-    (waitingFrom (getD (m .pending) receiver nobody) sender) (m .phase) (m .round) emptySlot
+    delivered (isIn (setup .honest) sender) (waitingFrom (getD (m .pending) receiver nobody) sender) (m .phase) (m .round)
+    (sentBy (m .nodes) (setup .honest) sender)
 
 -- 01: "The drill lends each node an inbox of 6,464 bytes"
 abbrev pub inboxSize : ℕ
@@ -96,8 +97,9 @@ nodeAfter setup m receiver =
     let after = valueOr node (takeOf node (inboxOf setup m receiver)) in
     cond (isIn (setup .honest) receiver) after node
 
-abbrev pub resultIn : List Node → ℕ → ℕ
-resultIn nodes i = nodeIn nodes i .result
+-- the results of n nodes, 0 where there is none
+unfoldable pub resultsOf : List Node → ℕ → List ℕ
+resultsOf nodes n = table (λ i. cond (ltb i n) (nodeIn nodes i .result) 0) mostNodes
 
 -- 01: "Cuts and says last until the next go"
 unfoldable pub goOf : Setup → Moment → Moment

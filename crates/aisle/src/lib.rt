@@ -11,11 +11,12 @@ use wire::Plan;
 ghost use mathlib.Core.Path.{_≡_};
 ghost use Prim.Native.Nat.{_<_, _≤_};
 ghost use mathlib.Core.Bool.{cond};
-ghost use lib.ListN.{getD, length};
+ghost use lib.ListN.{getD, length, replicate};
 ghost use lib.Dec.{leb};
 ghost use Rattle.wire.specs.Outcome.{valueOr};
 ghost use Rattle.wire.specs.Sizes.{spentPhase};
 ghost use Rattle.crew.specs.Parts.{mostNodes};
+ghost use Rattle.message.specs.Layout.{slotSize};
 ghost use Rattle.node.specs.Record.{blank};
 ghost use Rattle.node.specs.Place.{roundAfter, phaseAfter};
 ghost use Rattle.node.specs.Sending.{comingBufferOf};
@@ -25,11 +26,11 @@ ghost use Rattle.aisle.specs.Round.{
   sayBuffer,
   delivered,
   nodeAfter,
-  resultIn,
+  resultsOf,
   goOf,
   gone,
 };
-ghost use Rattle.aisle.specs.Promises.{AllSent, Sendable, InboxFrom, Ready};
+ghost use Rattle.aisle.specs.Promises.{AllSent, Fillable, InboxFrom, Ready};
 ghost use Rattle.aisle.specs.Start.{begunOf};
 
 // A drill is one run of the algorithm.
@@ -102,57 +103,59 @@ fn messages(nodes: [Node; MOST_NODES], honest: [bool; MOST_NODES]) -> [u8; INBOX
     sent
 }
 
-fn hand_over(message: &[u8], slot: &mut [u8])
-    requires { ⌜ length (now message) ≡ length (now slot) ⌝ }
-    ensures { λ _. ⌜ now (slot .exit) ≡ now (message .entry) ⌝ }
+// Copies all that is sent into an inbox.
+fn hand_over(sent: &[u8], inbox: &mut [u8])
+    requires { ⌜ length (now sent) ≡ length (now inbox) ⌝ }
+    ensures { λ _. ⌜ now (inbox .exit) ≡ now (sent .entry) ⌝ }
 {
     let mut i: usize = 0;
-    while i < slot.len() {
-        slot[i] = message[i];
+    while i < inbox.len() {
+        inbox[i] = sent[i];
         i = i + 1;
     }
 }
 
-// Puts what reaches a receiver from a sender into the receiver's slot for it.
-fn deliver(message: &[u8], honest: bool, waiting: Waiting, phase: u8, round: u8, slot: &mut [u8])
-    requires { ⌜ length (now message) ≡ length (now slot) ⌝ }
-    ensures { λ _. ⌜ now (slot .exit)
-        ≡ delivered honest (now (message .entry)) waiting phase round (now (slot .entry)) ⌝ }
+fn clear(slot: &mut [u8])
+    ensures { λ _. ⌜ now (slot .exit) ≡ replicate (length (now (slot .entry))) 0 ⌝ }
+{
+    let mut i: usize = 0;
+    while i < slot.len() {
+        slot[i] = 0;
+        i = i + 1;
+    }
+}
+
+// Makes of a slot with what its sender sends to everybody what reaches one receiver.
+fn deliver(slot: &mut [u8], honest: bool, waiting: Waiting, phase: u8, round: u8)
+    requires { ⌜ length (now slot) ≡ slotSize ⌝ }
+    ensures { λ _. ⌜ now (slot .exit) ≡ delivered honest waiting phase round (now (slot .entry)) ⌝ }
 {
     if waiting.cut {
+        clear(slot);
         return;
     }
     if honest {
-        hand_over(message, slot);
         return;
     }
     write_say(slot, phase, round, waiting.plan, waiting.stamp);
 }
 
-// A receiver's inbox, made anew for each round: nothing of an earlier one stays behind a shorter message.
-fn inbox_for(setup: Setup, phase: u8, round: u8, sent: &[u8], pending: Pending) -> [u8; INBOX]
-    requires { ⌜ Sendable setup (now sent) ⌝ }
-    ensures { λ r. ⌜ InboxFrom setup phase round (now (sent .entry)) pending r ⌝ }
+// Fills a receiver's inbox, whatever it held: nothing of an earlier round stays behind a shorter message.
+fn fill_inbox(inbox: &mut [u8], sent: &[u8], setup: Setup, phase: u8, round: u8, pending: Pending)
+    requires { ⌜ Fillable setup (now inbox) (now sent) ⌝ }
+    ensures { λ _. ⌜ InboxFrom setup phase round (now (sent .entry)) pending (now (inbox .exit)) ⌝ }
 {
+    hand_over(sent, inbox);
     let honest = setup.honest;
     let n = setup.crew.n as usize;
-    let mut inbox = [0u8; INBOX];
     let mut sender: usize = 0;
     while sender < n {
         let at = SLOT * sender;
         let end = at + SLOT;
         let waiting = pending.from(sender);
-        deliver(
-            &sent[at..end],
-            honest[sender],
-            waiting,
-            phase,
-            round,
-            &mut inbox[at..end],
-        );
+        deliver(&mut inbox[at..end], honest[sender], waiting, phase, round);
         sender = sender + 1;
     }
-    inbox
 }
 
 fn round_after(class: u8, round: u8) -> u8
@@ -194,7 +197,8 @@ fn records_after(setup: Setup, moment: Moment) -> [Node; MOST_NODES]
     let mut receiver: usize = 0;
     while receiver < MOST_NODES {
         if honest[receiver] {
-            let inbox = inbox_for(setup, moment.phase, moment.round, &sent, pending[receiver]);
+            let mut inbox = [0u8; INBOX];
+            fill_inbox(&mut inbox, &sent, setup, moment.phase, moment.round, pending[receiver]);
             let taken = rounds::take(nodes[receiver], &inbox[..size]);
             let after = taken.node;
             nodes[receiver] = after;
@@ -231,13 +235,13 @@ pub fn go(setup: Setup, moment: Moment) -> Moment
     moment
 }
 
-// The results that the nodes have, 0 where there is none.
-pub fn results_of(nodes: [Node; MOST_NODES]) -> [Plan; MOST_NODES]
-    ensures { λ r. ⌜ r ≡ table (resultIn nodes) mostNodes ⌝ }
+// The results of n nodes, 0 where there is none.
+pub fn results_of(nodes: [Node; MOST_NODES], n: usize) -> [Plan; MOST_NODES]
+    ensures { λ r. ⌜ r ≡ resultsOf nodes n ⌝ }
 {
     let mut results = [Node::NO_PLAN; MOST_NODES];
     let mut i: usize = 0;
-    while i < MOST_NODES {
+    while (i < MOST_NODES) & (i < n) {
         let node = nodes[i];
         results[i] = node.result;
         i = i + 1;

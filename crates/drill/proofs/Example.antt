@@ -29,7 +29,7 @@ use Rattle.print.specs.Texts.{decimalOf, fieldOf, fieldsFrom, resultLine, badLi
 use Rattle.pending.specs.Pairs.{nothing, withCut, withSay, waitingFrom}
 use Rattle.drill.specs.Run.{follow, second, first, drillOf}
 use Rattle.aisle.specs.Start.{begunOf}
-use Rattle.aisle.specs.Round.{table, sayBuffer, slotsOf, slotFrom, nodeAfter, goOf}
+use Rattle.aisle.specs.Round.{table, sayBuffer, slotsOf, slotFrom, nodeAfter, resultsOf, goOf}
 
 -- a text's bytes: each of its characters is one of ASCII
 abbrev bytes : String → List ℕ
@@ -64,5 +64,6 @@ unfolding
     tally countIf gather valid validated lists possible backed backing enough selection leading mostVoted anyPlan taken
     least leastOf emptyFrom sound begun blank startOf comingOf writeComingOf afterRound takeOf lineOf until onto
     split valueFrom numberOf numbersFrom starts decimalOf fieldOf fieldsFrom resultLine badLine nothing withCut
-    withSay waitingFrom follow second first drillOf begunOf table sayBuffer slotsOf slotFrom nodeAfter goOf
+    withSay waitingFrom follow second first drillOf begunOf table sayBuffer slotsOf slotFrom nodeAfter resultsOf
+    goOf
 examples-hold = refl

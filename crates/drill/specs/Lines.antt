@@ -5,7 +5,6 @@ use mathlib.Core.List.{List, []}
 use lib.ListN.{getD, set}
 use lib.Dec.{ltb, leb, eqb}
 use Rattle.wire.specs.Sizes.{spentPhase}
-use Rattle.crew.specs.Parts.{mostNodes}
 use Rattle.script.specs.declared.Note.{Note}
 use Rattle.script.specs.declared.Note.the-variants.{Cut, Say}
 use Rattle.script.specs.declared.Command.{Command}
@@ -15,7 +14,7 @@ use Rattle.pending.specs.declared.Pending.{Pending}
 use Rattle.pending.specs.Pairs.{withCut, withSay}
 use Rattle.aisle.specs.declared.Setup.{Setup}
 use Rattle.aisle.specs.declared.Moment.{Moment}
-use Rattle.aisle.specs.Round.{table, nobody, isIn, resultIn, goOf}
+use Rattle.aisle.specs.Round.{nobody, isIn, resultsOf, goOf}
 
 -- the bounds of a stamp in the message that a say stands for; 01: "t is 0 in round 2"
 abbrev pub stampFits : ℕ → ℕ → ℕ → Bool
@@ -65,8 +64,8 @@ after setup m Go = goOf setup m
 -- what a go prints
 abbrev pub goText : Setup → Moment → List ℕ
 goText setup m =
-    resultLine (m .phase) (m .round) (nodesShown (setup .crew .n)) (table (resultIn (goOf setup m .nodes)) mostNodes)
-    (setup .honest)
+    let n = setup .crew .n in
+    resultLine (m .phase) (m .round) (nodesShown n) (resultsOf (goOf setup m .nodes) n) (setup .honest)
 
 -- what a good line prints
 abbrev pub text : Setup → Moment → Command → List ℕ

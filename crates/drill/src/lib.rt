@@ -284,9 +284,9 @@ fn pass_go(cursor: Cursor, line: &[u8], text: &mut [u8]) -> Advance
     if moment.phase < Node::SPENT {
         let after = aisle::go(setup, moment);
         let nodes = after.nodes;
-        let results = aisle::results_of(nodes);
-        let honest = setup.honest;
         let n = setup.crew.n as usize;
+        let results = aisle::results_of(nodes, n);
+        let honest = setup.honest;
         let size = print::result_line(text, moment.phase, moment.round, n, results, honest);
         let state = State {
             setup: setup,

@@ -1,16 +1,17 @@
 -- `deliver` meets its contract.
+use mathlib.Core.Path.{_∙_}
 use borrow.Author.Needs.{needs}
 use Rattle.aisle.proofs.deliver.Statement.{statement}
 use Rattle.aisle.proofs.deliver.Tie as tie
 
-returns : tie.Need-returns
-returns c = search needs
-
-hand-over-requires : tie.Need-hand-over-requires
-hand-over-requires c κs = search needs
+clear-requires : tie.Need-clear-requires
+clear-requires c κs = search needs
 
 same-length : tie.Need-same-length
 same-length c = search needs
+
+returns : tie.Need-returns
+returns c = c .before .before .clear .ensures ∙ rw (c .before .before .before .before .if1 .taken, c .before .before .before .before .before .before .pre)
 
 returns-2 : tie.Need-returns-2
 returns-2 c = search needs
@@ -30,9 +31,9 @@ pub deliver-spec : {M : Type 1} → statement M
 deliver-spec =
     tie.close
     (tie.spec
-    returns
-    hand-over-requires
+    clear-requires
     same-length
+    returns
     returns-2
     write-say-requires
     same-length-2

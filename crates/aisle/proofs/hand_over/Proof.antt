@@ -1,4 +1,4 @@
--- `hand_over` meets its contract. The invariant: the first i bytes of the slot are the message's.
+-- `hand_over` meets its contract. The invariant: the first i bytes of the inbox are what is sent.
 use mathlib.Core.Path.{refl, sym}
 use Prim.Native.Nat.{_-_}
 use lib.ListN.{length, getD}
@@ -8,19 +8,19 @@ use Rattle.aisle.proofs.hand_over.Statement.{statement}
 use Rattle.aisle.proofs.hand_over.Tie as tie
 
 abbrev Inv-loop : tie.InvT-loop
-Inv-loop message slot₀ i₀ slot i = Filling 0 (λ k. getD message k 0) (length message) slot i
+Inv-loop sent inbox₀ i₀ inbox i = Filling 0 (λ k. getD sent k 0) (length sent) inbox i
 
 abbrev μ-loop : tie.MeasureT-loop
-μ-loop message slot₀ i₀ slot i = length message - i
+μ-loop sent inbox₀ i₀ inbox i = length sent - i
 
 loop-holds : tie.Need-loop-holds Inv-loop μ-loop
 loop-holds c = filling-none _ (sym (c .pre))
 
-shared-slice-read-slot : tie.Need-shared-slice-read-slot Inv-loop μ-loop
-shared-slice-read-slot c = search needs
+shared-slice-read-inbox : tie.Need-shared-slice-read-inbox Inv-loop μ-loop
+shared-slice-read-inbox c = search needs
 
-slice-write-slot : tie.Need-slice-write-slot Inv-loop μ-loop
-slice-write-slot c = search needs
+slice-write-inbox : tie.Need-slice-write-inbox Inv-loop μ-loop
+slice-write-inbox c = search needs
 
 add-i : tie.Need-add-i Inv-loop μ-loop
 add-i c = search needs
@@ -46,8 +46,8 @@ hand-over-spec =
     Inv-loop
     μ-loop
     loop-holds
-    shared-slice-read-slot
-    slice-write-slot
+    shared-slice-read-inbox
+    slice-write-inbox
     add-i
     loop-less
     loop-again

@@ -1,22 +1,22 @@
 -- `messages` meets its contract. The invariant: the first senders' slots hold what they send.
-use mathlib.Core.Path.{refl}
-use Prim.Native.Nat.{_-_}
+use Prim.Native.Nat.{ℕ, _-_}
+use lib.ListN.{replicate, length-replicate}
 use Rattle.crew.specs.Parts.{mostNodes}
-use Rattle.aisle.specs.Round.{sentBy}
-use Rattle.aisle.proofs.Slots.{Laid, laid-none, laid-more, lent-empty, laid-slot}
+use Rattle.aisle.specs.Round.{inboxSize, sentBy}
+use Rattle.aisle.proofs.Slots.{Laid, laid-none, laid-more, laid-size, laid-slot, lent-old, empty-there}
 use native.Mathlib.Omega.{arith}
 use borrow.Author.Needs.{needs}
 use Rattle.aisle.proofs.messages.Statement.{statement}
 use Rattle.aisle.proofs.messages.Tie as tie
 
 abbrev Inv-loop : tie.InvT-loop
-Inv-loop nodes honest sent₀ sender₀ sent sender = Laid (sentBy nodes honest) sent sender
+Inv-loop nodes honest sent₀ sender₀ sent sender = Laid (sentBy nodes honest) (replicate inboxSize 0) sent sender
 
 abbrev μ-loop : tie.MeasureT-loop
 μ-loop nodes honest sent₀ sender₀ sent sender = mostNodes - sender
 
 loop-holds : tie.Need-loop-holds Inv-loop μ-loop
-loop-holds c = laid-none _ _ refl
+loop-holds c = laid-none _ _ (length-replicate {A = ℕ} inboxSize 0)
 
 mul-at : tie.Need-mul-at Inv-loop μ-loop
 mul-at c = search needs
@@ -31,7 +31,9 @@ part-sent-start : tie.Need-part-sent-start Inv-loop μ-loop
 part-sent-start c = search needs
 
 part-sent-end : tie.Need-part-sent-end Inv-loop μ-loop
-part-sent-end c = search needs
+part-sent-end c =
+    let looped = c .before .loop in
+    search (needs, laid-size _ _ _ _ (looped .inv))
 
 mul-write-message : tie.Need-mul-write-message Inv-loop μ-loop
 mul-write-message c = search needs
@@ -57,14 +59,14 @@ loop-again c =
     let turn = c .before .before .before .before in
     let inv = turn .before .loop .inv in
     let less = turn .loop-test .taken in
-    laid-more _ _ _ less inv _ (rw (lent-empty _ _ _ less inv) at (wrote .ensures)) (wrote .kept .0)
+    laid-more _ _ _ _ less inv _ (rw (lent-old _ _ _ _ less inv, empty-there _ less) at (wrote .ensures)) (wrote .kept .0)
 
 returns : tie.Need-returns Inv-loop μ-loop
 returns c =
     let laid = c .before .loop .inv in
     record {
-      whole = laid .size;
-      each = λ s less. laid-slot _ _ _ s (omega arith) laid;
+      whole = laid-size _ _ _ _ laid;
+      each = λ s less. laid-slot _ _ _ _ s (omega arith) laid;
     }
 
 pub messages-spec : {M : Type 1} → statement M

@@ -34,17 +34,20 @@ loop-holds c = record { taken = filling-none _ (search (needs, length-mapped)); 
 array-read-if1 : tie.Need-array-read-if1 Inv-loop μ-loop
 array-read-if1 c = search needs
 
-slice-aggregate-inbox-for : tie.Need-slice-aggregate-inbox-for Inv-loop μ-loop
-slice-aggregate-inbox-for c = search needs
+slice-aggregate-fill-inbox : tie.Need-slice-aggregate-fill-inbox Inv-loop μ-loop
+slice-aggregate-fill-inbox c = search needs
 
-mul-inbox-for : tie.Need-mul-inbox-for Inv-loop μ-loop
-mul-inbox-for c = search needs
+slice-aggregate-fill-inbox-2 : tie.Need-slice-aggregate-fill-inbox-2 Inv-loop μ-loop
+slice-aggregate-fill-inbox-2 c = search needs
 
-array-copy-out-inbox-for : tie.Need-array-copy-out-inbox-for Inv-loop μ-loop
-array-copy-out-inbox-for c = search needs
+mul-fill-inbox : tie.Need-mul-fill-inbox Inv-loop μ-loop
+mul-fill-inbox c = search needs
 
-inbox-for-requires : tie.Need-inbox-for-requires Inv-loop μ-loop
-inbox-for-requires c κs = search needs
+array-copy-out-fill-inbox : tie.Need-array-copy-out-fill-inbox Inv-loop μ-loop
+array-copy-out-fill-inbox c = search needs
+
+fill-inbox-requires : tie.Need-fill-inbox-requires Inv-loop μ-loop
+fill-inbox-requires c κs = search needs
 
 mul-take : tie.Need-mul-take Inv-loop μ-loop
 mul-take c = search needs
@@ -57,8 +60,8 @@ array-share-prefix-inbox c = search needs
 
 slice-aggregate-take : tie.Need-slice-aggregate-take Inv-loop μ-loop
 slice-aggregate-take c =
-    let inbox = c .before .before .inbox-for in
-    sym (length-take-le _ _ (omega (arith, inbox .ensures .size)))
+    let filled = c .before .before .before .fill-inbox in
+    sym (length-take-le _ _ (omega (arith, filled .ensures .size)))
 
 take-requires : tie.Need-take-requires Inv-loop μ-loop
 take-requires c κs = search needs
@@ -85,8 +88,8 @@ loop-again c =
     let a = begun .args in
     elim (c .if1 .came) [
       | inl takes ↦
-          let is = inbox-is (a .setup) (a .moment) _ _ _ (begun .pre) (sent .messages .ensures) (takes .3 .ensures) in
-          rw (takes .8) (honest-takes _ _ _ _ less inv _ _ (takes .0 .taken) is (takes .6 .ensures .node))
+          let is = inbox-is (a .setup) (a .moment) _ _ _ (begun .pre) (sent .messages .ensures) (takes .4 .ensures) in
+          rw (takes .10) (honest-takes _ _ _ _ less inv _ _ (takes .0 .taken) is (takes .8 .ensures .node))
       | inr stays ↦ rw (stays .1) (others-stay _ _ _ _ less inv (stays .0 .left))
     ]
 
@@ -104,10 +107,11 @@ records-after-spec =
     messages-requires
     loop-holds
     array-read-if1
-    slice-aggregate-inbox-for
-    mul-inbox-for
-    array-copy-out-inbox-for
-    inbox-for-requires
+    slice-aggregate-fill-inbox
+    slice-aggregate-fill-inbox-2
+    mul-fill-inbox
+    array-copy-out-fill-inbox
+    fill-inbox-requires
     mul-take
     array-copy-out-take
     array-share-prefix-inbox

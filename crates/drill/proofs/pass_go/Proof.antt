@@ -10,11 +10,11 @@ use Rattle.drill.proofs.pass_go.Tie as tie
 go-requires : tie.Need-go-requires
 go-requires c κs = search needs
 
-results-of-requires : tie.Need-results-of-requires
-results-of-requires c κs = search needs
-
 cast-n : tie.Need-cast-n
 cast-n c = search needs
+
+results-of-requires : tie.Need-results-of-requires
+results-of-requires c κs = search needs
 
 result-line-requires : tie.Need-result-line-requires
 result-line-requires c κs = search needs
@@ -27,8 +27,8 @@ same-length c = search needs
 
 returns : tie.Need-returns
 returns c =
-    let results = c .before .before .before .before .before .before .before in
-    let gone = results .before .before in
+    let results = c .before .before .before .before .before .before in
+    let gone = results .before .before .before in
     let unspent = gone .before in
     let start = unspent .before .before .before .before .before .before in
     let cursor = start .args .cursor in
@@ -52,8 +52,8 @@ pass-go-spec =
     tie.close
     (tie.spec
     go-requires
-    results-of-requires
     cast-n
+    results-of-requires
     result-line-requires
     pass-requires
     same-length
