@@ -69,7 +69,8 @@ module _ (nodes : List Node) (n : ℕ) where
     gathered-all ended =
         let all : List ℕ = table (resultOf nodes n) mostNodes in
         let long : length all ≡ mostNodes = table-long (resultOf nodes n) mostNodes in
-        filled-all (resultOf nodes n) 0 results all mostNodes (gathered .long ∙ sym long) (omega (arith, gathered .long))
+        filled-all (resultOf nodes n) 0 results all mostNodes (gathered .long ∙ sym long)
+        (omega (arith, gathered .long))
         (λ k less.
         gathered .each k
         ∙ same-result nodes i n k (λ h. omega (arith, gathered .asked))

@@ -143,7 +143,10 @@ module _ (slot : ℕ → List ℕ) (before : List ℕ) where
       rest = drop (start (s + 1)) before
 
       old-long : length (slotIn before s) ≡ slotSize
-      old-long = length-take-le slotSize (drop (start s) before) (omega (arith, length-drop (start s) before, inv .size))
+      old-long =
+          let room : slotSize ≤ length (drop (start s) before) =
+          omega (arith, length-drop (start s) before, inv .size) in
+          length-take-le slotSize (drop (start s) before) room
 
       size-is : length (slotIn before s) ≡ size
       size-is = old-long ∙ sym (add-sub-cancel-left (start s) slotSize)

@@ -78,8 +78,9 @@ delivered honest waiting phase round slot =
 -- a receiver's slot for a sender
 unfoldable pub slotFrom : Setup → Moment → ℕ → ℕ → List ℕ
 slotFrom setup m receiver sender =
-    delivered (isIn (setup .honest) sender) (waitingFrom (getD (m .pending) receiver nobody) sender) (m .phase) (m .round)
-    (sentBy (m .nodes) (setup .honest) sender)
+    let waiting = waitingFrom (getD (m .pending) receiver nobody) sender in
+    let sent = sentBy (m .nodes) (setup .honest) sender in
+    delivered (isIn (setup .honest) sender) waiting (m .phase) (m .round) sent
 
 -- 01: "The drill lends each node an inbox of 6,464 bytes"
 abbrev pub inboxSize : ℕ

@@ -198,7 +198,14 @@ fn records_after(setup: Setup, moment: Moment) -> [Node; MOST_NODES]
     while receiver < MOST_NODES {
         if honest[receiver] {
             let mut inbox = [0u8; INBOX];
-            fill_inbox(&mut inbox, &sent, setup, moment.phase, moment.round, pending[receiver]);
+            fill_inbox(
+                &mut inbox,
+                &sent,
+                setup,
+                moment.phase,
+                moment.round,
+                pending[receiver],
+            );
             let taken = rounds::take(nodes[receiver], &inbox[..size]);
             let after = taken.node;
             nodes[receiver] = after;

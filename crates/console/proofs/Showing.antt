@@ -1,6 +1,6 @@
 -- A script while it is shown: what has gone out and what is to come are together what it prints.
-use mathlib.Core.Path.{_≡_, refl, ap, sym, _∙_}
-use mathlib.Core.List.{List, []}
+use mathlib.Core.Path.{_≡_, refl, ap, _∙_}
+use mathlib.Core.List.{List}
 use Prim.Native.Nat.{ℕ, _+_, _*_, _≤_}
 use native.Mathlib.Omega.{arith}
 use lib.ListN.{length, length-append}
@@ -43,7 +43,8 @@ module _ {input : List ℕ} {c : Cursor} {size : ℕ} (shows : Shows input c siz
     near = rw e (go (step-ahead input c));
   }
     where
-      go : Ahead input c (stepOf input c .next) → (stepOf input c .next .line ≡ 0 → ⊥) → Near (stepOf input c .next) (size + s)
+      go : Ahead input c (stepOf input c .next) → (stepOf input c .next .line ≡ 0 → ⊥)
+          → Near (stepOf input c .next) (size + s)
       go (ended over) more = absurd (more over)
       go (further ahead stands) more =
           let here = shows .near on in

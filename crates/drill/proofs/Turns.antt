@@ -1,4 +1,5 @@
--- Steps as they are made: one that prints nothing, one that prints a line, and what a step is by the line that is found.
+-- Steps as they are made: one that prints nothing, one that prints a line, and what a step is by the line that is
+-- found.
 use mathlib.Core.Path.{_≡_, refl, _∙_}
 use mathlib.Core.Bool.{Bool, true, false, cond}
 use mathlib.Core.List.{List, []}

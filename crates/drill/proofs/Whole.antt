@@ -2,10 +2,10 @@
 -- the start the texts of all steps are what the whole script prints.
 use mathlib.Core.Path.{_≡_, refl, ap, sym, _∙_}
 use mathlib.Core.Bool.{Bool, true, false, cond}
-use mathlib.Core.List.{List, [], _∷_, _++_, append-nil, append-assoc}
+use mathlib.Core.List.{List, [], _∷_, _++_, append-nil}
 use Prim.Native.Nat.{ℕ, zero, suc, _+_, _-_, _<_, _≤_}
 use native.Mathlib.Omega.{arith}
-use lib.ListN.{length, drop}
+use lib.ListN.{length}
 use lib.Dec.{ltb, leb, eqb}
 use borrow.Author.Tests.{ne-eqb, eqb-true, eqb-false, le-leb, ltb-false}
 use Rattle.wire.specs.Outcome.{isAccepted}
@@ -18,7 +18,6 @@ use Rattle.crew.proofs.Facts.{accepts}
 use Rattle.script.specs.Fields.{numbersOn}
 use Rattle.script.specs.Commands.{lineOf, crewLineOf, plansOf}
 use Rattle.script.specs.declared.Note.{Note}
-use Rattle.script.specs.declared.Command.{Command}
 use Rattle.script.specs.declared.Command.the-variants.{Note as Noted, Go}
 use Rattle.script.specs.declared.Line.{Line}
 use Rattle.script.specs.declared.Line.the-variants.{Good, Bad}
@@ -55,15 +54,15 @@ use Rattle.drill.specs.Stepping.{
   textsOf,
 }
 use Rattle.drill.specs.Promises.{Standing}
-use Rattle.drill.proofs.Pieces.{Behind, behind-line}
+use Rattle.drill.proofs.Pieces.{behind-line}
 use Rattle.drill.proofs.Places.{is-standing, rest-onward, behind-stands}
 
--- A turn from a cursor is right where `come` is what was still to come: the text comes first, the rest after it, and the
--- drill is over or stands further on.
+-- behind a step the drill is over, or it stands further on
 pub data Ahead (input : List ℕ) (c next : Cursor) : Type 0 where
   ended : next .line ≡ 0 → Ahead input c next
   further : c .at < next .at → Standing input next → Ahead input c next
 
+-- A turn is right where `come` was still to come: its text comes first and the rest after it.
 pub record Right (input : List ℕ) (c : Cursor) (come : List ℕ) (turn : Turn) : Type 0 where
   pub splits : come ≡ turn .text ++ rest input (turn .next)
   pub ahead : Ahead input c (turn .next)
@@ -127,7 +126,7 @@ module _ (input : List ℕ) (c : Cursor) (facts : Standing input c) (late : 3 �
     note-right : LaterRight input ws → (note : Note) (good : Bool)
         → Right input c
         (cond good
-        (follow (c .state .setup) (holding (c .state .moment) (noted (c .state .moment .pending) note)) (c .line + 1) ws)
+        (follow (c .state .setup) (behindNote c w note .state .moment) (c .line + 1) ws)
         (badLine (c .line)))
         (cond good (stepLater (behindNote c w note) ws) (overBad c))
     note-right ih note true =
@@ -296,7 +295,8 @@ module _ (input : List ℕ) (c : Cursor) where
       (over [] c))
   by-place true true e₁ e₂ = over-right input c longLine
   by-place true false e₁ e₂ =
-      by-line (is-standing input c e₁ (ltb-false mostBytes (length input) e₂)) (eqb (c .line) 1) (eqb (c .line) 2) refl refl
+      let facts = is-standing input c e₁ (ltb-false mostBytes (length input) e₂) in
+      by-line facts (eqb (c .line) 1) (eqb (c .line) 2) refl refl
   by-place false long e₁ e₂ = over-right input c []
 
   step-right : Right input c (rest input c) (stepOf input c)

@@ -29,7 +29,7 @@ use Rattle.aisle.specs.Start.{begunOf}
 use Rattle.drill.specs.declared.Cursor.{Cursor}
 use Rattle.drill.specs.declared.Advance.{Advance}
 use Rattle.drill.specs.Lines.{fits, noted, holding, goText}
-use Rattle.drill.specs.Run.{mostBytes, isLast, onGood, follow, second, first, drillOf}
+use Rattle.drill.specs.Run.{mostBytes, isLast, onGood, follow, second, first}
 
 -- the pieces of a script from a place on
 abbrev pub linesFrom : List ℕ → ℕ → List (List ℕ)
@@ -43,8 +43,8 @@ unmanned = replicate mostNodes 0
 unfoldable pub outset : Cursor
 outset = record { at = 0; line = 1; state = begunOf blankCrew unmanned }
 
--- Whether a drill can stand there before a line: each line that it has passed had its byte 10 at least, and each node of
--- its crew has a place.
+-- Whether a drill can stand there before a line: each line that it has passed had its byte 10 at least, and each node
+-- of its crew has a place.
 abbrev pub stands : List ℕ → Cursor → Bool
 stands input c =
     leb 1 (c .line)

@@ -1,7 +1,7 @@
 // The drill, step by step: from a script and a place in it to the text that comes next, over the engine's promises
 // alone. specs/Run.antt says what a whole script prints, specs/Lines.antt what a line asks for and changes,
-// specs/Stepping.antt what a step does; proofs/Whole.antt shows that the texts of all steps, joined, are what the script
-// prints. What a go does among the nodes is crate aisle's. Nothing here is read or written but what is lent.
+// specs/Stepping.antt what a step does; proofs/Whole.antt shows that the texts of all steps, joined, are what the
+// script prints. What a go does among the nodes is crate aisle's. Nothing is read or written here but what is lent.
 use aisle::Setup;
 use aisle::State;
 use crew::MOST_NODES;
@@ -13,8 +13,7 @@ use script::Line;
 use script::Note;
 ghost use mathlib.Core.Path.{_≡_};
 ghost use mathlib.Core.Bool.{false, _&&_};
-ghost use mathlib.Core.List.{[]};
-ghost use Prim.Native.Nat.{_+_, _≤_};
+ghost use Prim.Native.Nat.{_+_};
 ghost use lib.ListN.{getD, length};
 ghost use lib.Dec.{leb};
 ghost use Rattle.crew.specs.Parts.{mostNodes};
@@ -57,6 +56,7 @@ pub const MOST_TEXT: usize = print::MOST_LINE;
 pub const NO_LINE: u32 = 0;
 
 const FIRST_LINE: u32 = 1;
+
 const SECOND_LINE: u32 = 2;
 
 // Where a drill stands in a script.
@@ -404,13 +404,18 @@ fn can_stand(length: usize, at: u32, line: u32, n: u8) -> bool
         & (n as usize <= MOST_NODES)
 }
 
-// The drill goes on by a step: over the cuts and says that come first, and one line more. The text of the step stands at
-// the front of the lent buffer, which has MOST_TEXT bytes: what would lie beyond its end is left out. Of a drill that is
-// over, and from a place where no drill can stand, nothing is to come.
+// The drill goes on by a step: over the cuts and says that come first, and one line more. The step's text stands at the
+// front of the lent buffer; what would lie beyond its end is left out, so a caller lends MOST_TEXT bytes. Of a drill
+// that is over, and from a place where no drill can stand, nothing is to come.
 pub fn step(input: &[u8], cursor: Cursor, text: &mut [u8]) -> Advance
     ensures { λ r. ⌜ Stepped (stepOf (now (input .entry)) cursor) (now (text .entry)) (now (text .exit)) r ⌝ }
 {
-    if can_stand(input.len(), cursor.at, cursor.line, cursor.state.setup.crew.n) {
+    if can_stand(
+        input.len(),
+        cursor.at,
+        cursor.line,
+        cursor.state.setup.crew.n,
+    ) {
         if MOST_BYTES < input.len() {
             return over_long(cursor, text);
         }

@@ -39,7 +39,14 @@ ghost use Rattle.message.specs.Reading.{
 };
 ghost use Rattle.message.specs.Laying.{headed, ExpectedFrom};
 ghost use Rattle.message.specs.Promises.{Widened, Framed, HeldInFull};
-ghost use Rattle.message.specs.Promises.{RowFor, LaidEntry, LaidEntries, LaidSelection, KeptSelection, KeptLaying};
+ghost use Rattle.message.specs.Promises.{
+  RowFor,
+  LaidEntry,
+  LaidEntries,
+  LaidSelection,
+  KeptSelection,
+  KeptLaying,
+};
 
 // Where the fields stand, each where the one before it ends, as in specs/Layout.antt.
 pub const LENGTH_AT: usize = 0;

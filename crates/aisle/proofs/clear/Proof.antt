@@ -1,7 +1,6 @@
 -- `clear` meets its contract. The invariant: the first i bytes of the slot are 0.
 use Prim.Native.Nat.{ℕ, _-_}
 use mathlib.Core.Path.{refl, sym, _∙_}
-use native.Mathlib.Omega.{arith}
 use lib.ListN.{length, length-replicate}
 use Rattle.wire.proofs.Arrays.{Filling, filling-none, filling-more, filled-all, same-everywhere}
 use denote.Ref.{now}

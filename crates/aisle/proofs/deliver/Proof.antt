@@ -11,7 +11,9 @@ same-length : tie.Need-same-length
 same-length c = search needs
 
 returns : tie.Need-returns
-returns c = c .before .before .clear .ensures ∙ rw (c .before .before .before .before .if1 .taken, c .before .before .before .before .before .before .pre)
+returns c =
+    let lost = c .before .before .before .before in
+    c .before .before .clear .ensures ∙ rw (lost .if1 .taken, lost .before .before .pre)
 
 returns-2 : tie.Need-returns-2
 returns-2 c = search needs

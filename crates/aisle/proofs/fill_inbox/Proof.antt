@@ -17,9 +17,13 @@ Inv-loop inbox₀ sent phase round pending honest n sender₀ inbox sender =
 abbrev μ-loop : tie.MeasureT-loop
 μ-loop inbox₀ sent phase round pending honest n sender₀ inbox sender = n - sender
 
+-- where it all began
+abbrev started : tie.At-loop Inv-loop μ-loop → tie.Start Inv-loop μ-loop
+started c = c .before .before .before .before .before .before .before .before .before
+
 -- there is a place for each sender
 room : (c : tie.In-loop Inv-loop μ-loop) → c .before .loop .sender < mostNodes
-room c = omega (arith, c .loop-test .taken, c .before .before .before .before .before .before .before .before .before .before .pre .small)
+room c = omega (arith, c .loop-test .taken, started (c .before) .pre .small)
 
 hand-over-requires : tie.Need-hand-over-requires Inv-loop μ-loop
 hand-over-requires c κs = search needs
@@ -28,7 +32,9 @@ cast-n : tie.Need-cast-n Inv-loop μ-loop
 cast-n c = search needs
 
 loop-holds : tie.Need-loop-holds Inv-loop μ-loop
-loop-holds c = (omega arith, rw (c .before .before .before .before .hand-over .ensures) (laid-none _ _ (c .before .before .before .before .before .before .before .before .pre .all)))
+loop-holds c =
+    let handed = c .before .before .before .before in
+    (omega arith, rw (handed .hand-over .ensures) (laid-none _ _ (handed .before .before .before .before .pre .all)))
 
 mul-at : tie.Need-mul-at Inv-loop μ-loop
 mul-at c = search needs
@@ -65,11 +71,12 @@ loop-again c =
     let gave = c .before .before .deliver in
     let turn = c .before .before .before .before .before in
     let inv = turn .before .loop .inv in
-    let is = rw (lent-old _ _ _ _ (room turn) (inv .1), c .before .before .before .before .from .ensures) at (gave .ensures) in
+    let waiting = c .before .before .before .before .from .ensures in
+    let is = rw (lent-old _ _ _ _ (room turn) (inv .1), waiting) at (gave .ensures) in
     (omega arith, laid-more _ _ _ _ (room turn) (inv .1) _ is (gave .kept .0))
 
 same-length : tie.Need-same-length Inv-loop μ-loop
-same-length c = laid-size _ _ _ _ (c .before .loop .inv .1) ∙ sym (c .before .before .before .before .before .before .before .before .before .before .pre .whole)
+same-length c = laid-size _ _ _ _ (c .before .loop .inv .1) ∙ sym (started (c .before) .pre .whole)
 
 returns : tie.Need-returns Inv-loop μ-loop
 returns c =

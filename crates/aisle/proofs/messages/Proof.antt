@@ -59,7 +59,8 @@ loop-again c =
     let turn = c .before .before .before .before in
     let inv = turn .before .loop .inv in
     let less = turn .loop-test .taken in
-    laid-more _ _ _ _ less inv _ (rw (lent-old _ _ _ _ less inv, empty-there _ less) at (wrote .ensures)) (wrote .kept .0)
+    let is = rw (lent-old _ _ _ _ less inv, empty-there _ less) at (wrote .ensures) in
+    laid-more _ _ _ _ less inv _ is (wrote .kept .0)
 
 returns : tie.Need-returns Inv-loop μ-loop
 returns c =

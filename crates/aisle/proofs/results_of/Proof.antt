@@ -1,8 +1,8 @@
 -- `results_of` meets its contract. The invariant: the results of the first i nodes are gathered.
 use Prim.Native.Nat.{ℕ, _-_, _<_, _≤_}
 use native.Mathlib.Omega.{arith}
-use mathlib.Core.Path.{_≡_, refl}
-use mathlib.Core.Bool.{Bool, true, false, _&&_}
+use mathlib.Core.Path.{_≡_}
+use mathlib.Core.Bool.{false, _&&_}
 use lib.Dec.{ltb}
 use borrow.Author.Tests.{ltb-true, ltb-false, lt-ltb}
 use Rattle.wire.proofs.Tests.{both-true}
@@ -22,7 +22,8 @@ loop-holds : tie.Need-loop-holds Inv-loop μ-loop
 loop-holds c = gathered-none _ _
 
 -- there is a place, and a node, for one result more
-asked : (c : tie.In-loop Inv-loop μ-loop) → (c .before .loop .i < mostNodes) × (c .before .loop .i < c .before .before .args .n)
+asked : (c : tie.In-loop Inv-loop μ-loop)
+    → let i = c .before .loop .i in (i < mostNodes) × (i < c .before .before .args .n)
 asked c =
     let i = c .before .loop .i in
     let n = c .before .before .args .n in
@@ -57,7 +58,9 @@ loop-again c =
     gathered-more _ _ _ _ (c .before .before .loop .inv) (more .0) (more .1)
 
 returns : tie.Need-returns Inv-loop μ-loop
-returns c = gathered-all _ _ _ _ (c .before .loop .inv) (ended (c .before .loop .i) (c .before .before .args .n) (c .loop-test .left))
+returns c =
+    let looped = c .before .loop in
+    gathered-all _ _ _ _ (looped .inv) (ended (looped .i) (c .before .before .args .n) (c .loop-test .left))
 
 pub results-of-spec : {M : Type 1} → statement M
 results-of-spec =

@@ -47,8 +47,12 @@ array-share-prefix-text c = search needs
 slice-aggregate-write-all : tie.Need-slice-aggregate-write-all Inv-loop μ-loop
 slice-aggregate-write-all c =
     let step = c .before .before .before in
-    sym (length-take-le _ _ (omega (arith, step .step .ensures .within, step .step .kept .1 .1 .0,
-    step .before .before .before .before .loop .inv .room)))
+    sym (length-take-le _ _ (omega (
+      arith,
+      step .step .ensures .within,
+      step .step .kept .1 .1 .0,
+      step .before .before .before .before .loop .inv .room,
+    )))
 
 write-all-requires : tie.Need-write-all-requires Inv-loop μ-loop
 write-all-requires c κs = search needs

@@ -31,7 +31,8 @@ abbrev μ-loop : tie.MeasureT-loop
 
 -- the line that a turn has found
 found-line : (c : tie.After-find Inv-loop μ-loop)
-    → Found (now (c .before .before .before .before .before .before .args .input)) (c .before .loop .at) (c .find .result)
+    → let args = c .before .before .before .before .before .before .args in
+    Found (now (args .input)) (c .before .loop .at) (c .find .result)
 found-line c = record { inside = c .before .loop .inv .standing .inside; found = c .find .ensures }
 
 -- a line that is read tells whether it is noted
@@ -63,7 +64,7 @@ turn-notes : (c : tie.After-with-note Inv-loop μ-loop)
     let turn = found .before .loop in
     let start = found .before .before .before .before .before .before in
     Notes (start .args .cursor) (now (start .args .input)) (turn .at) (turn .line) (found .find .result) (turn .pending)
-    (found-line found) (c .before .before .before .before .before .before .before .before .if1 .left) (noted .noting .given .0 .0)
+    (found-line found) (noted .before .before .before .before .if1 .left) (noted .noting .given .0 .0)
     (c .before .before .receiver-of .result) (c .with-note .result)
 turn-notes c =
     let noted = c .before .before .before .before in

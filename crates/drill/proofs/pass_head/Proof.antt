@@ -42,7 +42,9 @@ same-length c = search needs
 returns : tie.Need-returns
 returns c =
     let ended = c .before .before .before .before .before .before .before in
-    rw (eq-eqb _ _ (c .before .before .before .before .before .if2 .taken), first-ended (cursor (ended .before)) _ _ (found-line (ended .before)) (ended .if1 .taken))
+    let found = ended .before in
+    let crew = c .before .before .before .before .before .if2 .taken in
+    rw (eq-eqb _ _ crew, first-ended (cursor found) _ _ (found-line found) (ended .if1 .taken))
     (c .before .before .pass-crew .ensures)
 
 sub-pass-plans : tie.Need-sub-pass-plans
@@ -63,7 +65,9 @@ same-length-2 c = search needs
 returns-2 : tie.Need-returns-2
 returns-2 c =
     let ended = c .before .before .before .before .before .before .before in
-    rw (ne-eqb _ _ (c .before .before .before .before .before .if2 .left), second-ended (cursor (ended .before)) _ _ (found-line (ended .before)) (ended .if1 .taken))
+    let found = ended .before in
+    let plans = c .before .before .before .before .before .if2 .left in
+    rw (ne-eqb _ _ plans, second-ended (cursor found) _ _ (found-line found) (ended .if1 .taken))
     (c .before .before .pass-plans .ensures)
 
 over-bad-requires : tie.Need-over-bad-requires
@@ -75,7 +79,8 @@ same-length-3 c = search needs
 returns-3 : tie.Need-returns-3
 returns-3 c =
     let unended = c .before .before .before .before in
-    rw (head-unended (cursor (unended .before)) _ _ (found-line (unended .before)) (unended .if1 .left)) (c .before .before .over-bad .ensures)
+    let found = unended .before in
+    rw (head-unended (cursor found) _ _ (found-line found) (unended .if1 .left)) (c .before .before .over-bad .ensures)
 
 pub pass-head-spec : {M : Type 1} → statement M
 pass-head-spec =

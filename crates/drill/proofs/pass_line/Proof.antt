@@ -41,7 +41,8 @@ same-length c = search needs
 returns : tie.Need-returns
 returns c =
     let ended = c .before .before .before .before .before in
-    rw (finish-ended (cursor (ended .before)) _ _ (found-line (ended .before)) (ended .if1 .taken)) (c .before .before .pass-command .ensures)
+    let found = ended .before in
+    rw (finish-ended (cursor found) _ _ (found-line found) (ended .if1 .taken)) (c .before .before .pass-command .ensures)
 
 over-end-requires : tie.Need-over-end-requires
 over-end-requires c κs = search needs
@@ -52,7 +53,9 @@ same-length-2 c = search needs
 returns-2 : tie.Need-returns-2
 returns-2 c =
     let unended = c .before .before .before .before .before in
-    rw (finish-end (cursor (unended .before)) _ _ (found-line (unended .before)) (unended .if1 .left) (c .before .before .before .before .if2 .taken))
+    let found = unended .before in
+    let all-read = c .before .before .before .before .if2 .taken in
+    rw (finish-end (cursor found) _ _ (found-line found) (unended .if1 .left) all-read)
     (c .before .before .over-end .ensures)
 
 over-bad-requires : tie.Need-over-bad-requires
@@ -64,7 +67,9 @@ same-length-3 c = search needs
 returns-3 : tie.Need-returns-3
 returns-3 c =
     let unended = c .before .before .before .before .before in
-    rw (finish-unended (cursor (unended .before)) _ _ (found-line (unended .before)) (unended .if1 .left) (c .before .before .before .before .if2 .left))
+    let found = unended .before in
+    let bytes-left = c .before .before .before .before .if2 .left in
+    rw (finish-unended (cursor found) _ _ (found-line found) (unended .if1 .left) bytes-left)
     (c .before .before .over-bad .ensures)
 
 pub pass-line-spec : {M : Type 1} → statement M

@@ -30,8 +30,8 @@ same-length c = search needs
 
 returns-2 : tie.Need-returns-2
 returns-2 c =
-    let read = c .before .before .before .before .before in
-    rw (← read .plans-line .ensures, c .before .before .before .before .if1 .left) (c .before .before .over-bad .ensures)
+    let bad = c .before .before .before .before in
+    rw (← bad .before .plans-line .ensures, bad .if1 .left) (c .before .before .over-bad .ensures)
 
 pub pass-plans-spec : {M : Type 1} → statement M
 pass-plans-spec =

@@ -11,10 +11,14 @@ use Rattle.drill.proofs.step.Statement.{statement}
 use Rattle.drill.proofs.step.Tie as tie
 
 -- the drill can stand there
-tested : (c : tie.Then1) → let args = c .before .before .before .before .args in stands (now (args .input)) (args .cursor) ≡ true
+tested : (c : tie.Then1)
+    → let args = c .before .before .before .before .args in
+    stands (now (args .input)) (args .cursor) ≡ true
 tested c = sym (c .before .can-stand .ensures) ∙ c .if1 .taken
 
-standing-there : (c : tie.Else2) → let args = c .before .before .before .before .before .args in Standing (now (args .input)) (args .cursor)
+standing-there : (c : tie.Else2)
+    → let args = c .before .before .before .before .before .args in
+    Standing (now (args .input)) (args .cursor)
 standing-there c = is-standing _ _ (tested (c .before)) (c .if2 .left)
 
 can-stand-requires : tie.Need-can-stand-requires
@@ -28,8 +32,8 @@ same-length c = search needs
 
 returns : tie.Need-returns
 returns c =
-    let stands-there = c .before .before .before .before .before in
-    rw (step-long _ _ (tested stands-there) (c .before .before .before .before .if2 .taken)) (c .before .before .over-long .ensures)
+    let long = c .before .before .before .before in
+    rw (step-long _ _ (tested (long .before)) (long .if2 .taken)) (c .before .before .over-long .ensures)
 
 pass-head-requires : tie.Need-pass-head-requires
 pass-head-requires c κs =
@@ -41,7 +45,8 @@ same-length-2 c = search needs
 returns-2 : tie.Need-returns-2
 returns-2 c =
     let head = c .before .before .before .before in
-    rw (step-head _ _ (standing-there (head .before .before)) (head .if3 .taken)) (c .before .before .pass-head .ensures)
+    let there = standing-there (head .before .before) in
+    rw (step-head _ _ there (head .if3 .taken)) (c .before .before .pass-head .ensures)
 
 note-all-requires : tie.Need-note-all-requires
 note-all-requires c κs = standing-there (c .before .before)
