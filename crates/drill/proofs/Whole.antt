@@ -29,6 +29,7 @@ use Rattle.aisle.specs.declared.State.{State}
 use Rattle.aisle.specs.Round.{goOf}
 use Rattle.aisle.specs.Start.{begunOf}
 use Rattle.drill.specs.declared.Cursor.{Cursor}
+use Rattle.drill.specs.declared.Advance.{Advance}
 use Rattle.drill.specs.Lines.{fits, allowed, after, text, noted, holding, goText}
 use Rattle.drill.specs.Run.{mostBytes, isLast, onGood, follow, third, second, crewed, first, drillOf}
 use Rattle.drill.specs.Stepping.{
@@ -51,6 +52,8 @@ use Rattle.drill.specs.Stepping.{
   stepSecond,
   stepLater,
   stepOf,
+  Stepped,
+  SteppedFrom,
   textsOf,
 }
 use Rattle.drill.specs.Promises.{Standing}
@@ -306,6 +309,10 @@ module _ (input : List ℕ) (c : Cursor) where
   -- what is still to come is the step's text and what is to come after the step
   pub step-splits : rest input c ≡ stepOf input c .text ++ rest input (stepOf input c .next)
   step-splits = step-right .splits
+
+  pub stepped-from : {buffer buffer′ : List ℕ} {step : Advance} → Stepped (stepOf input c) buffer buffer′ step
+      → SteppedFrom input c buffer buffer′ step
+  stepped-from made = record { made = made; splits = rw (made .next) step-splits }
 
   -- behind a step the drill is over, or stands further on
   pub step-ahead : Ahead input c (stepOf input c .next)

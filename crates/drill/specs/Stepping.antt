@@ -169,6 +169,11 @@ pub record Stepped (turn : Turn) (buffer buffer′ : List ℕ) (step : Advance) 
   pub left : buffer′ ≡ sets buffer 0 (turn .text)
   pub within : step .size ≤ lineMost
 
+-- The step from a cursor is made, and what is still to come splits: it is the step's text, and what is to come after.
+pub record SteppedFrom (input : List ℕ) (c : Cursor) (buffer buffer′ : List ℕ) (step : Advance) : Type 0 where
+  pub made : Stepped (stepOf input c) buffer buffer′ step
+  pub splits : rest input c ≡ stepOf input c .text ++ rest input (step .next)
+
 -- the texts of the first k steps from a cursor, joined
 unfoldable pub textsOf : List ℕ → Cursor → ℕ → List ℕ
 textsOf input c zero = []

@@ -31,8 +31,8 @@ ghost use Rattle.drill.specs.Stepping.{
   overCrew,
   overPlans,
   overGo,
-  stepOf,
   Stepped,
+  SteppedFrom,
 };
 ghost use Rattle.drill.specs.Promises.{
   Standing,
@@ -408,7 +408,7 @@ fn can_stand(length: usize, at: u32, line: u32, n: u8) -> bool
 // front of the lent buffer; what would lie beyond its end is left out, so a caller lends MOST_TEXT bytes. Of a drill
 // that is over, and from a place where no drill can stand, nothing is to come.
 pub fn step(input: &[u8], cursor: Cursor, text: &mut [u8]) -> Advance
-    ensures { λ r. ⌜ Stepped (stepOf (now (input .entry)) cursor) (now (text .entry)) (now (text .exit)) r ⌝ }
+    ensures { λ r. ⌜ SteppedFrom (now (input .entry)) cursor (now (text .entry)) (now (text .exit)) r ⌝ }
 {
     if can_stand(
         input.len(),

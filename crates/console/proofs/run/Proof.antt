@@ -49,7 +49,7 @@ slice-aggregate-write-all c =
     let step = c .before .before .before in
     sym (length-take-le _ _ (omega (
       arith,
-      step .step .ensures .within,
+      step .step .ensures .made .within,
       step .step .kept .1 .1 .0,
       step .before .before .before .before .loop .inv .room,
     )))
@@ -61,17 +61,17 @@ add-size : tie.Need-add-size Inv-loop μ-loop
 add-size c =
     let step = c .before .before .before .before .before .before in
     let near = step .before .before .before .before .loop .inv .shows .near (runs-on (step .before .before)) in
-    search (needs, near .lines, near .low, step .step .ensures .within)
+    search (needs, near .lines, near .low, step .step .ensures .made .within)
 
 loop-less : tie.Need-loop-less Inv-loop μ-loop
 loop-less c =
     let step = c .before .before .before .before .before .before in
-    rw (step .step .ensures .next) (step-goes-on _ _ (runs-on (step .before .before)))
+    rw (step .step .ensures .made .next) (step-goes-on _ _ (runs-on (step .before .before)))
 
 loop-again : tie.Need-loop-again Inv-loop μ-loop
 loop-again c =
     let step = c .before .before .before .before .before .before in
-    let made = step .step .ensures in
+    let made = step .step .ensures .made in
     let so-far = step .before .before .before .before .loop .inv in
     record {
       room = step .step .kept .1 .1 .0 ∙ so-far .room;

@@ -7,6 +7,7 @@ use Rattle.drill.specs.Promises.{Standing}
 use Rattle.drill.proofs.Places.{is-standing}
 use Rattle.drill.proofs.Turns.{silent, step-nowhere, step-long, step-head, step-later}
 use borrow.Author.Needs.{needs}
+use Rattle.drill.proofs.Whole.{stepped-from}
 use Rattle.drill.proofs.step.Statement.{statement}
 use Rattle.drill.proofs.step.Tie as tie
 
@@ -33,7 +34,8 @@ same-length c = search needs
 returns : tie.Need-returns
 returns c =
     let long = c .before .before .before .before in
-    rw (step-long _ _ (tested (long .before)) (long .if2 .taken)) (c .before .before .over-long .ensures)
+    stepped-from _ _
+    (rw (step-long _ _ (tested (long .before)) (long .if2 .taken)) (c .before .before .over-long .ensures))
 
 pass-head-requires : tie.Need-pass-head-requires
 pass-head-requires c κs =
@@ -46,7 +48,7 @@ returns-2 : tie.Need-returns-2
 returns-2 c =
     let head = c .before .before .before .before in
     let there = standing-there (head .before .before) in
-    rw (step-head _ _ there (head .if3 .taken)) (c .before .before .pass-head .ensures)
+    stepped-from _ _ (rw (step-head _ _ there (head .if3 .taken)) (c .before .before .pass-head .ensures))
 
 note-all-requires : tie.Need-note-all-requires
 note-all-requires c κs = standing-there (c .before .before)
@@ -61,8 +63,9 @@ returns-3 : tie.Need-returns-3
 returns-3 c =
     let noted = c .before .before .before .before in
     let late = noted .before in
-    rw (step-later _ _ (standing-there (late .before .before)) (late .if3 .left), noted .note-all .ensures .same)
-    (c .before .before .pass-line .ensures)
+    let there = standing-there (late .before .before) in
+    stepped-from _ _
+    (rw (step-later _ _ there (late .if3 .left), noted .note-all .ensures .same) (c .before .before .pass-line .ensures))
 
 stop-requires : tie.Need-stop-requires
 stop-requires c κs = search needs
@@ -70,7 +73,8 @@ stop-requires c κs = search needs
 returns-4 : tie.Need-returns-4
 returns-4 c =
     let asked = c .before .before in
-    rw (step-nowhere _ _ (sym (asked .can-stand .ensures) ∙ c .before .if1 .left)) (silent (c .stop .ensures))
+    let nowhere = sym (asked .can-stand .ensures) ∙ c .before .if1 .left in
+    stepped-from _ _ (rw (step-nowhere _ _ nowhere) (silent (c .stop .ensures)))
 
 pub step-spec : {M : Type 1} → statement M
 step-spec =
