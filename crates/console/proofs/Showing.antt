@@ -1,4 +1,4 @@
--- A script while it is shown: what has gone out and what is to come are together what it prints.
+-- A script while it is shown: what has been handed out and what is to come are together what it prints.
 use mathlib.Core.Path.{_≡_, refl, ap, _∙_}
 use mathlib.Core.List.{List}
 use Prim.Native.Nat.{ℕ, _+_, _*_, _≤_}
@@ -8,14 +8,14 @@ use Rattle.print.specs.Texts.{lineMost}
 use Rattle.drill.specs.declared.Cursor.{Cursor}
 use Rattle.drill.specs.Run.{mostBytes, drillOf}
 use Rattle.drill.specs.Stepping.{outset, rest, stepOf}
-use Rattle.drill.proofs.Whole.{Ahead, ended, further, rest-all, rest-over, step-splits, step-ahead}
+use Rattle.drill.proofs.Whole.{Ahead, finished, further, rest-all, rest-over, step-splits, step-ahead}
 
--- What has gone out is far from the largest number: a line for each byte at the most.
+-- What has been handed out is far from the largest number: a line for each byte at the most.
 pub record Near (c : Cursor) (size : ℕ) : Type 0 where
   pub lines : size ≤ lineMost * (c .at + 1)
   pub low : c .at ≤ mostBytes
 
--- so many bytes have gone out where the drill stands here
+-- so many bytes have been handed out where the drill stands here
 pub record Shows (input : List ℕ) (c : Cursor) (size : ℕ) : Type 0 where
   pub left : size + length (rest input c) ≡ length (drillOf input)
   pub near : (c .line ≡ 0 → ⊥) → Near c size
@@ -24,7 +24,7 @@ outset-low : outset .at ≡ 0
 unfolding outset
 outset-low = refl
 
--- before line 1 nothing has
+-- before line 1 none
 pub shows-none : (input : List ℕ) (c : Cursor) → c ≡ outset → Shows input c 0
 shows-none input c e = record {
   left = rw e (omega (arith, ap length (rest-all input)));
@@ -32,7 +32,7 @@ shows-none input c e = record {
 }
 
 module _ {input : List ℕ} {c : Cursor} {size : ℕ} (shows : Shows input c size) where
-  -- a step's text goes out
+  -- a step's text is handed out
   pub shows-more : (c .line ≡ 0 → ⊥) → (next : Cursor) (s : ℕ) → next ≡ stepOf input c .next
       → s ≡ length (stepOf input c .text) → s ≤ lineMost → Shows input next (size + s)
   shows-more on next s e es within = record {
@@ -45,16 +45,12 @@ module _ {input : List ℕ} {c : Cursor} {size : ℕ} (shows : Shows input c siz
     where
       go : Ahead input c (stepOf input c .next) → (stepOf input c .next .line ≡ 0 → ⊥)
           → Near (stepOf input c .next) (size + s)
-      go (ended over) more = absurd (more over)
+      go (finished over) more = absurd (more over)
       go (further ahead stands) more =
           let here = shows .near on in
           record { lines = omega (arith, here .lines); low = omega (arith, stands .inside, stands .short) }
 
-  -- no more goes out than there is
-  pub shows-within : size ≤ length (drillOf input)
-  shows-within = omega (arith, shows .left)
-
-  -- a drill that is over has gone out whole
+  -- a drill that is over has been handed out whole
   pub shows-all : c .line ≡ 0 → size ≡ length (drillOf input)
   shows-all over =
       let none : length (rest input c) ≡ 0 = ap length (rest-over input c over) in

@@ -22,10 +22,10 @@ use Rattle.aisle.specs.declared.Setup.{Setup}
 use Rattle.aisle.specs.Round.{nobody, isIn}
 use Rattle.drill.specs.declared.Cursor.{Cursor}
 use Rattle.drill.specs.declared.Noting.{Noting}
-use Rattle.drill.specs.declared.Noting.the-variants.{Note as Fits, Other}
-use Rattle.drill.specs.Lines.{stampFits, fits, receiverOf, waits}
+use Rattle.drill.specs.declared.Noting.the-variants.{Fit, Other}
+use Rattle.drill.specs.Lines.{stampFits, fits, receiverOf, withNote}
 use Rattle.drill.specs.Run.{onGood}
-use Rattle.drill.specs.Stepping.{linesFrom, Turn, overBad, overGo, onNote, fitsAt, behindNote, stepLater}
+use Rattle.drill.specs.Stepping.{linesFrom, Turn, overBad, passGo, onNote, fitsAt, behindNote, stepLater}
 use Rattle.drill.specs.Promises.{Standing, notingOf, settled, passing, finishing}
 use Rattle.drill.proofs.Pieces.{Found, ended, unended, split-some, here, here-end}
 use Rattle.drill.proofs.Places.{behind-stands}
@@ -47,11 +47,11 @@ receiver-small setup phase round (Say sender receiver plan stamp) fit =
     ltb-true _ _ (both-true (ltb sender (setup .crew .n)) (ltb receiver (setup .crew .n)) (some-plan .0) .1)
 
 abbrev isOther : Noting → Bool
-isOther (Fits note) = false
+isOther (Fit note) = false
 isOther Other = true
 
 abbrev noteIn : Note → Noting → Note
-noteIn other (Fits note) = note
+noteIn other (Fit note) = note
 noteIn other Other = other
 
 -- a line that is to be noted: it has a cut or a say, which fits
@@ -61,13 +61,13 @@ pub record Waits (setup : Setup) (phase round : ℕ) (line : Line) (note : Note)
 
 module _ (setup : Setup) (phase round : ℕ) where
   fitting : (note found : Note) (good : Bool) → fits setup phase round found ≡ good
-      → cond good (Fits found) Other ≡ Fits note → Waits setup phase round (Good (Noted found)) note
+      → cond good (Fit found) Other ≡ Fit note → Waits setup phase round (Good (Noted found)) note
   fitting note found true fit e =
       let same : found ≡ note = ap (noteIn note) e in
       record { read = ap (λ n. Good (Noted n)) same; fit = rw (← same) fit }
   fitting note found false fit e = absurd (true≢false (ap isOther e))
 
-  pub noting-note : (line : Line) (note : Note) → notingOf setup phase round line ≡ Fits note
+  pub noting-note : (line : Line) (note : Note) → notingOf setup phase round line ≡ Fit note
       → Waits setup phase round line note
   noting-note (Good (Noted found)) note e = fitting note found (fits setup phase round found) refl e
   noting-note (Good Go) note e = absurd (true≢false (ap isOther e))
@@ -75,7 +75,7 @@ module _ (setup : Setup) (phase round : ℕ) where
 
 -- what is noted is for a node of the crew
 pub for-a-node : (setup : Setup) (phase round : ℕ) (line : Line) (note : Note) (receiver : ℕ)
-    → notingOf setup phase round line ≡ Fits note → receiver ≡ receiverOf note → setup .crew .n ≤ mostNodes
+    → notingOf setup phase round line ≡ Fit note → receiver ≡ receiverOf note → setup .crew .n ≤ mostNodes
     → receiver < mostNodes
 for-a-node setup phase round line note receiver told for small =
     let fit = noting-note setup phase round line note told .fit in
@@ -98,10 +98,10 @@ module _ (c : Cursor) (w : List ℕ) (ws : List (List ℕ)) where
       (λ command.
       onNote command
       (λ note. cond (fitsAt c note) (stepLater (behindNote c w note) ws) (overBad c))
-      (overGo c w))
+      (passGo c w))
       (overBad c)
 
-  unfit : (note : Note) (good : Bool) → fits setup phase round note ≡ good → cond good (Fits note) Other ≡ Other
+  unfit : (note : Note) (good : Bool) → fits setup phase round note ≡ good → cond good (Fit note) Other ≡ Other
       → cond good (stepLater (behindNote c w note) ws) (overBad c) ≡ overBad c
   unfit note true fit e = absurd (true≢false (sym (ap isOther e)))
   unfit note false fit e = refl
@@ -115,7 +115,7 @@ module _ (c : Cursor) (w : List ℕ) (ws : List (List ℕ)) where
   -- one that is noted is not
   note-behind : (line : Line) (note : Note) → Waits setup phase round line note
       → lineStep line ≡ stepLater (behindNote c w note) ws
-  note-behind line note waits = rw (waits .read, waits .fit)
+  note-behind line note is = rw (is .read, is .fit)
 
 -- the step from a cursor, by the line that is found there
 module _ (c : Cursor) (input : List ℕ) (e : ℕ) (line : Found input (c .at) e) where
@@ -139,7 +139,7 @@ module _ (c : Cursor) (input : List ℕ) (e : ℕ) (line : Found input (c .at) e
         rw (ended line before, split-some newline (drop (e + 1) input)) (other-last c word behind (lineOf word) other)
 
     pub note-goes-on : (note : Note)
-        → notingOf (c .state .setup) (c .state .moment .phase) (c .state .moment .round) (lineOf word) ≡ Fits note
+        → notingOf (c .state .setup) (c .state .moment .phase) (c .state .moment .round) (lineOf word) ≡ Fit note
         → stepLater c (linesFrom input (c .at)) ≡ stepLater (behindNote c word note) behind
     unfolding stepLater
     note-goes-on note is =
@@ -157,9 +157,9 @@ module _ (c : Cursor) (input : List ℕ) (at line e : ℕ) (pending : List Pendi
 
   pub record Notes : Type 0 where
     pub told : notingOf (c .state .setup) (c .state .moment .phase) (c .state .moment .round) (lineOf (here input at e))
-        ≡ Fits note
+        ≡ Fit note
     pub for : receiver ≡ receiverOf note
-    pub waiting : more ≡ waits (getD pending receiver nobody) note
+    pub waiting : more ≡ withNote (getD pending receiver nobody) note
 
   module _ (notes : Notes) where
     same-place : behindNote now (here input at e) note ≡ next

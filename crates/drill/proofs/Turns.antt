@@ -20,8 +20,8 @@ use Rattle.drill.specs.Stepping.{
   Stepped,
   over,
   overBad,
-  overCrew,
-  overPlans,
+  passCrew,
+  passPlans,
   stepFirst,
   stepSecond,
   stepLater,
@@ -50,12 +50,12 @@ module _ (c : Cursor) (input : List ℕ) (e : ℕ) (line : Found input (c .at) e
     unfolding finishing
     finish-ended = rw (ended line before, split-some newline (drop (e + 1) input))
 
-    pub first-ended : stepFirst c (linesFrom input (c .at)) ≡ overCrew c word (crewLineOf (numbersOn word))
+    pub first-ended : stepFirst c (linesFrom input (c .at)) ≡ passCrew c word (crewLineOf (numbersOn word))
     unfolding stepFirst
     first-ended = rw (ended line before, split-some newline (drop (e + 1) input))
 
     pub second-ended : stepSecond c (linesFrom input (c .at))
-        ≡ overPlans c word (plansOf (numbersOn word) (c .state .setup .crew .n))
+        ≡ passPlans c word (plansOf (numbersOn word) (c .state .setup .crew .n))
     unfolding stepSecond
     second-ended = rw (ended line before, split-some newline (drop (e + 1) input))
 

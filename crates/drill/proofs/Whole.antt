@@ -6,7 +6,7 @@ use mathlib.Core.List.{List, [], _∷_, _++_, append-nil}
 use Prim.Native.Nat.{ℕ, zero, suc, _+_, _-_, _<_, _≤_}
 use native.Mathlib.Omega.{arith}
 use lib.ListN.{length}
-use lib.Dec.{ltb, leb, eqb}
+use lib.Dec.{ltb, eqb}
 use borrow.Author.Tests.{ne-eqb, eqb-true, eqb-false, le-leb, ltb-false}
 use Rattle.wire.specs.Outcome.{isAccepted}
 use Rattle.wire.specs.Sizes.{spentPhase}
@@ -30,7 +30,7 @@ use Rattle.aisle.specs.Round.{goOf}
 use Rattle.aisle.specs.Start.{begunOf}
 use Rattle.drill.specs.declared.Cursor.{Cursor}
 use Rattle.drill.specs.declared.Advance.{Advance}
-use Rattle.drill.specs.Lines.{fits, allowed, after, text, noted, holding, goText}
+use Rattle.drill.specs.Lines.{allowed, after, text, goText}
 use Rattle.drill.specs.Run.{mostBytes, isLast, onGood, follow, third, second, crewed, first, drillOf}
 use Rattle.drill.specs.Stepping.{
   linesFrom,
@@ -45,8 +45,8 @@ use Rattle.drill.specs.Stepping.{
   behind,
   behindNote,
   fitsAt,
-  overGo,
-  overCrew,
+  passGo,
+  passCrew,
   onNote,
   stepFirst,
   stepSecond,
@@ -55,6 +55,7 @@ use Rattle.drill.specs.Stepping.{
   Stepped,
   SteppedFrom,
   textsOf,
+  way,
 }
 use Rattle.drill.specs.Promises.{Standing}
 use Rattle.drill.proofs.Pieces.{behind-line}
@@ -62,7 +63,7 @@ use Rattle.drill.proofs.Places.{is-standing, rest-onward, behind-stands
 
 -- behind a step the drill is over, or it stands further on
 pub data Ahead (input : List ℕ) (c next : Cursor) : Type 0 where
-  ended : next .line ≡ 0 → Ahead input c next
+  finished : next .line ≡ 0 → Ahead input c next
   further : c .at < next .at → Standing input next → Ahead input c next
 
 -- A turn is right where `come` was still to come: its text comes first and the rest after it.
@@ -82,7 +83,7 @@ module _ (input : List ℕ) where
   -- where the drill is over nothing is to come
   over-right : (c : Cursor) (text : List ℕ) → Right input c text (over text c)
   unfolding rest
-  over-right c text = record { splits = sym (append-nil text); ahead = ended refl }
+  over-right c text = record { splits = sym (append-nil text); ahead = finished refl }
 
   module _ (c : Cursor) (facts : Standing input c) where
     -- a line is passed: the pieces behind it are to come
@@ -109,7 +110,7 @@ right-before : (input : List ℕ) (c d : Cursor) (come : List ℕ) (turn : Turn)
 right-before input c d come turn less right = record { splits = right .splits; ahead = go (right .ahead) }
   where
     go : Ahead input d (turn .next) → Ahead input c (turn .next)
-    go (ended e) = ended e
+    go (finished e) = finished e
     go (further more stands-next) = further (omega arith) stands-next
 
 -- what the lines from line 3 on print, and the step over them
@@ -168,7 +169,7 @@ module _ (input : List ℕ) (c : Cursor) (facts : Standing input c) (late : 3 �
         (λ command.
         onNote command
         (λ note. cond (fitsAt c note) (stepLater (behindNote c w note) ws) (overBad c))
-        (overGo c w))
+        (passGo c w))
         (overBad c))
     line-right ih (Good (Noted note)) = note-right ih note (fitsAt c note)
     line-right ih (Good Go) = go-right (ltb (c .state .moment .phase) spentPhase)
@@ -192,7 +193,7 @@ module _ (input : List ℕ) (c : Cursor) (facts : Standing input c) (late : 3 �
       (λ command.
       onNote command
       (λ note. cond (fitsAt c note) (stepLater (behindNote c w note) ws) (overBad c))
-      (overGo c w))
+      (passGo c w))
       (overBad c)))
   piece-right ih true is = last-right (eqb (length w) 0)
   piece-right ih false is = line-right is ih (lineOf w)
@@ -219,7 +220,7 @@ module _ (input : List ℕ) (c : Cursor) (facts : Standing input c) where
 
   module _ (one : c .line ≡ 1) where
     crew-right : (w : List ℕ) (ws : List (List ℕ)) → linesFrom input (c .at) ≡ w ∷ ws → isLast ws ≡ false
-        → (line : CrewLine) → Right input c (crewed line ws) (overCrew c w line)
+        → (line : CrewLine) → Right input c (crewed line ws) (passCrew c w line)
     crew-right w ws lines more (CrewRead crew) = go (isAccepted (acceptOf crew)) refl
       where
         go : (good : Bool) → isAccepted (acceptOf crew) ≡ good
@@ -234,7 +235,7 @@ module _ (input : List ℕ) (c : Cursor) (facts : Standing input c) where
     first-go : (w : List ℕ) (ws : List (List ℕ)) → linesFrom input (c .at) ≡ w ∷ ws → (last : Bool) → isLast ws ≡ last
         → Right input c
         (cond last (badLine 1) (crewed (crewLineOf (numbersOn w)) ws))
-        (cond last (overBad c) (overCrew c w (crewLineOf (numbersOn w))))
+        (cond last (overBad c) (passCrew c w (crewLineOf (numbersOn w))))
     first-go w ws lines true is = bad-right 1 one
     first-go w ws lines false is = crew-right w ws lines is (crewLineOf (numbersOn w))
 
@@ -318,10 +319,6 @@ module _ (input : List ℕ) (c : Cursor) where
   pub step-ahead : Ahead input c (stepOf input c .next)
   step-ahead = step-right .ahead
 
-  -- how many bytes, and the end, lie before a drill that is not over
-  abbrev pub way : ℕ
-  way = cond (eqb (c .line) 0) 0 (length input - c .at + 1)
-
 -- a drill that is over has nothing to come
 pub rest-over : (input : List ℕ) (c : Cursor) → c .line ≡ 0 → rest input c ≡ []
 unfolding rest
@@ -332,7 +329,7 @@ pub step-goes-on : (input : List ℕ) (c : Cursor) → (c .line ≡ 0 → ⊥) �
 step-goes-on input c on = go (step-ahead input c)
   where
     go : Ahead input c (stepOf input c .next) → way input (stepOf input c .next) < way input c
-    go (ended e) = rw (e, ne-eqb (c .line) 0 on) (omega arith)
+    go (finished e) = rw (e, ne-eqb (c .line) 0 on) (omega arith)
     go (further more next) =
         rw (ne-eqb (c .line) 0 on, ne-eqb (stepOf input c .next .line) 0 (λ e. omega (arith, next .from)))
         (omega (arith, next .inside))

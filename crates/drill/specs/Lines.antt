@@ -38,19 +38,19 @@ abbrev pub allowed : Setup → Moment → Command → Bool
 allowed setup m (Noted note) = fits setup (m .phase) (m .round) note
 allowed setup m Go = ltb (m .phase) spentPhase
 
--- for whom a cut or a say waits
+-- for whom a cut or a say withNote
 abbrev pub receiverOf : Note → ℕ
 receiverOf (Cut sender receiver) = receiver
 receiverOf (Say sender receiver plan stamp) = receiver
 
--- what then waits for that node
-abbrev pub waits : Pending → Note → Pending
-waits pending (Cut sender receiver) = withCut pending sender
-waits pending (Say sender receiver plan stamp) = withSay pending sender plan stamp
+-- what then withNote for that node
+abbrev pub withNote : Pending → Note → Pending
+withNote pending (Cut sender receiver) = withCut pending sender
+withNote pending (Say sender receiver plan stamp) = withSay pending sender plan stamp
 
--- what then waits for everybody
+-- what then withNote for everybody
 abbrev pub noted : List Pending → Note → List Pending
-noted pending note = set pending (receiverOf note) (waits (getD pending (receiverOf note) nobody) note)
+noted pending note = set pending (receiverOf note) (withNote (getD pending (receiverOf note) nobody) note)
 
 -- a moment with other cuts and says
 abbrev pub holding : Moment → List Pending → Moment

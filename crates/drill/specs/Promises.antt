@@ -8,14 +8,13 @@ use lib.ListN.{length}
 use lib.Dec.{eqb}
 use Rattle.crew.specs.Parts.{mostNodes}
 use Rattle.script.specs.Commands.{lineOf}
-use Rattle.script.specs.declared.Note.{Note}
 use Rattle.script.specs.declared.Line.{Line}
 use Rattle.print.specs.Texts.{endLine}
 use Rattle.pending.specs.declared.Pending.{Pending}
 use Rattle.aisle.specs.declared.Setup.{Setup}
 use Rattle.drill.specs.declared.Cursor.{Cursor}
 use Rattle.drill.specs.declared.Noting.{Noting}
-use Rattle.drill.specs.declared.Noting.the-variants.{Note as Fits, Other}
+use Rattle.drill.specs.declared.Noting.the-variants.{Fit, Other}
 use Rattle.drill.specs.Lines.{fits, holding}
 use Rattle.drill.specs.Run.{mostBytes, isLast, onGood}
 use Rattle.drill.specs.Stepping.{
@@ -25,7 +24,7 @@ use Rattle.drill.specs.Stepping.{
   overBad,
   moved,
   onNote,
-  overGo,
+  passGo,
   stepFirst,
   stepSecond,
   stepLater,
@@ -42,7 +41,7 @@ pub record Standing (input : List ℕ) (c : Cursor) : Type 0 where
 -- a line as a cut or a say that can wait for the coming round, or anything else
 abbrev pub notingOf : Setup → ℕ → ℕ → Line → Noting
 notingOf setup phase round line =
-    onGood line (λ command. onNote command (λ note. cond (fits setup phase round note) (Fits note) Other) Other) Other
+    onGood line (λ command. onNote command (λ note. cond (fits setup phase round note) (Fit note) Other) Other) Other
 
 -- a drill at another line, with other cuts and says
 abbrev pub settled : Cursor → ℕ → ℕ → List Pending → Cursor
@@ -51,7 +50,7 @@ settled c at line pending =
 
 -- the command at which a step stops: a go, or one that cannot be done
 abbrev pub passing : Cursor → List ℕ → Line → Turn
-passing c w line = onGood line (λ command. onNote command (λ note. overBad c) (overGo c w)) (overBad c)
+passing c w line = onGood line (λ command. onNote command (λ note. overBad c) (passGo c w)) (overBad c)
 
 -- what a step does once no cut or say that can wait comes first
 unfoldable pub finishing : Cursor → List (List ℕ) → Turn

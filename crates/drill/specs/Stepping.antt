@@ -2,7 +2,7 @@
 -- proofs/Whole.antt: what is to come is a step's text and what is to come after it, and from the start all of it is
 -- `drillOf`.
 use mathlib.Core.Path.{_≡_}
-use Prim.Native.Nat.{ℕ, zero, suc, _+_, _≤_}
+use Prim.Native.Nat.{ℕ, zero, suc, _+_, _-_, _≤_}
 use mathlib.Core.Bool.{Bool, cond, _&&_}
 use mathlib.Core.List.{List, [], _∷_, _++_}
 use lib.ListN.{length, drop, replicate}
@@ -91,20 +91,20 @@ abbrev pub moved : State → Moment → State
 moved state m = record { setup = state .setup; moment = m }
 
 -- a step over line 1
-abbrev pub overCrew : Cursor → List ℕ → CrewLine → Turn
-overCrew c line (CrewRead crew) =
+abbrev pub passCrew : Cursor → List ℕ → CrewLine → Turn
+passCrew c line (CrewRead crew) =
     cond (isAccepted (acceptOf crew))
     (record { text = []; next = behind c line (begunOf crew unmanned) })
     (overBad c)
-overCrew c line NoCrew = overBad c
+passCrew c line NoCrew = overBad c
 
 unfoldable pub stepFirst : Cursor → List (List ℕ) → Turn
 stepFirst c [] = over [] c
-stepFirst c (w ∷ ws) = cond (isLast ws) (overBad c) (overCrew c w (crewLineOf (numbersOn w)))
+stepFirst c (w ∷ ws) = cond (isLast ws) (overBad c) (passCrew c w (crewLineOf (numbersOn w)))
 
 -- a step over line 2
-abbrev pub overPlans : Cursor → List ℕ → Plans → Turn
-overPlans c line read =
+abbrev pub passPlans : Cursor → List ℕ → Plans → Turn
+passPlans c line read =
     cond (read .good)
     (record { text = []; next = behind c line (begunOf (c .state .setup .crew) (read .plans)) })
     (overBad c)
@@ -112,7 +112,7 @@ overPlans c line read =
 unfoldable pub stepSecond : Cursor → List (List ℕ) → Turn
 stepSecond c [] = over [] c
 stepSecond c (w ∷ ws) =
-    cond (isLast ws) (overBad c) (overPlans c w (plansOf (numbersOn w) (c .state .setup .crew .n)))
+    cond (isLast ws) (overBad c) (passPlans c w (plansOf (numbersOn w) (c .state .setup .crew .n)))
 
 -- whether a cut or a say can wait where a drill stands
 abbrev pub fitsAt : Cursor → Note → Bool
@@ -125,8 +125,8 @@ behindNote c line note =
     behind c line (moved (c .state) (holding m (noted (m .pending) note)))
 
 -- a step over a go
-abbrev pub overGo : Cursor → List ℕ → Turn
-overGo c line =
+abbrev pub passGo : Cursor → List ℕ → Turn
+passGo c line =
     let setup = c .state .setup in
     let m = c .state .moment in
     cond (ltb (m .phase) spentPhase)
@@ -148,7 +148,7 @@ stepLater c (w ∷ ws) =
     (λ command.
     onNote command
     (λ note. cond (fitsAt c note) (stepLater (behindNote c w note) ws) (overBad c))
-    (overGo c w))
+    (passGo c w))
     (overBad c))
 
 -- a step
@@ -178,3 +178,7 @@ pub record SteppedFrom (input : List ℕ) (c : Cursor) (buffer buffer′ : List 
 unfoldable pub textsOf : List ℕ → Cursor → ℕ → List ℕ
 textsOf input c zero = []
 textsOf input c (suc k) = stepOf input c .text ++ textsOf input (stepOf input c .next) k
+
+-- How much of a script lies before a drill: the bytes from its place on, and the end; nothing where it is over.
+abbrev pub way : List ℕ → Cursor → ℕ
+way input c = cond (eqb (c .line) 0) 0 (length input - c .at + 1)

@@ -20,7 +20,7 @@ ghost use Rattle.crew.specs.Parts.{mostNodes};
 ghost use Rattle.script.specs.Fields.{numbersOn};
 ghost use Rattle.script.specs.Commands.{crewLineOf, plansOf, lineOf};
 ghost use Rattle.print.specs.Texts.{endLine, longLine};
-ghost use Rattle.drill.specs.Lines.{stampFits, fits, receiverOf, waits};
+ghost use Rattle.drill.specs.Lines.{stampFits, fits, receiverOf, withNote};
 ghost use Rattle.drill.specs.Stepping.{
   linesFrom,
   outset,
@@ -28,9 +28,9 @@ ghost use Rattle.drill.specs.Stepping.{
   over,
   overBad,
   behind,
-  overCrew,
-  overPlans,
-  overGo,
+  passCrew,
+  passPlans,
+  passGo,
   Stepped,
   SteppedFrom,
 };
@@ -76,7 +76,7 @@ pub struct Advance {
 
 // What a line can be while cuts and says are noted: one that can wait for the coming round, or anything else.
 pub enum Noting {
-    Note(Note),
+    Fit(Note),
     Other,
 }
 
@@ -140,9 +140,9 @@ fn receiver_of(note: Note) -> u8
     }
 }
 
-// What waits for the receiver of a cut or a say, with it.
+// What withNote for the receiver of a cut or a say, with it.
 fn with_note(pending: Pending, note: Note) -> Pending
-    ensures { λ r. ⌜ r ≡ waits pending note ⌝ }
+    ensures { λ r. ⌜ r ≡ withNote pending note ⌝ }
 {
     match note {
         Note::Cut { sender, receiver } => pending.with_cut(sender as usize),
@@ -166,7 +166,7 @@ fn noting_of(setup: Setup, phase: u8, round: u8, line: &[u8]) -> Noting
         return Noting::Other;
     };
     if is_fit(setup, phase, round, note) {
-        return Noting::Note(note);
+        return Noting::Fit(note);
     }
     Noting::Other
 }
@@ -206,12 +206,12 @@ fn note_all(input: &[u8], cursor: Cursor) -> Cursor
             return settle(cursor, at as u32, line, pending);
         }
         let noting = noting_of(setup, phase, round, &input[at..end]);
-        let Noting::Note(note) = noting else {
+        let Noting::Fit(note) = noting else {
             return settle(cursor, at as u32, line, pending);
         };
         let receiver = receiver_of(note) as usize;
-        let waiting = pending[receiver];
-        let more = with_note(waiting, note);
+        let held = pending[receiver];
+        let more = with_note(held, note);
         pending[receiver] = more;
         at = end + 1;
         line = line + 1;
@@ -277,7 +277,7 @@ fn pass(cursor: Cursor, line: &[u8], state: State) -> Cursor
 // A go: a whole round, and the line that it prints.
 fn pass_go(cursor: Cursor, line: &[u8], text: &mut [u8]) -> Advance
     requires { ⌜ Passable cursor (now line) ⌝ }
-    ensures { λ r. ⌜ Stepped (overGo cursor (now (line .entry))) (now (text .entry)) (now (text .exit)) r ⌝ }
+    ensures { λ r. ⌜ Stepped (passGo cursor (now (line .entry))) (now (text .entry)) (now (text .exit)) r ⌝ }
 {
     let setup = cursor.state.setup;
     let moment = cursor.state.moment;
@@ -337,7 +337,7 @@ fn pass_line(input: &[u8], cursor: Cursor, text: &mut [u8]) -> Advance
 // Line 1, a crew. Its nodes start with line 2.
 fn pass_crew(cursor: Cursor, line: &[u8], text: &mut [u8]) -> Advance
     requires { ⌜ Passable cursor (now line) ⌝ }
-    ensures { λ r. ⌜ Stepped (overCrew cursor (now (line .entry)) (crewLineOf (numbersOn (now (line .entry)))))
+    ensures { λ r. ⌜ Stepped (passCrew cursor (now (line .entry)) (crewLineOf (numbersOn (now (line .entry)))))
         (now (text .entry)) (now (text .exit)) r ⌝ }
 {
     match script::crew_line(line) {
@@ -360,7 +360,7 @@ fn pass_crew(cursor: Cursor, line: &[u8], text: &mut [u8]) -> Advance
 fn pass_plans(cursor: Cursor, line: &[u8], text: &mut [u8]) -> Advance
     requires { ⌜ Passable cursor (now line) ⌝ }
     ensures { λ r. ⌜ Stepped
-        (overPlans cursor (now (line .entry)) (plansOf (numbersOn (now (line .entry))) (cursor .state .setup .crew .n)))
+        (passPlans cursor (now (line .entry)) (plansOf (numbersOn (now (line .entry))) (cursor .state .setup .crew .n)))
         (now (text .entry)) (now (text .exit)) r ⌝ }
 {
     let crew = cursor.state.setup.crew;

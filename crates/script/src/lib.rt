@@ -54,7 +54,7 @@ pub struct Plans {
     pub plans: [Plan; MOST_NODES],
 }
 
-// A cut or a say: it waits for the next go. No node has a number of two bytes and no phase is a stamp of two.
+// A cut or a say: it waits for the next go. A node's number and a stamp are one byte each: no larger one is allowed.
 pub enum Note {
     Cut {
         sender: u8,
@@ -68,7 +68,7 @@ pub enum Note {
     },
 }
 
-// What a line after these asks for.
+// What a line from the third on asks for.
 pub enum Command {
     Note(Note),
     Go,
@@ -273,7 +273,7 @@ fn to_say(w: Numbers) -> Line
     Line::Bad
 }
 
-// A line after these. Whether its numbers are within the bounds of the coming round is not asked here.
+// A line from the third on. Whether its numbers are within the bounds of the coming round is not asked here.
 pub fn command_line(s: &[u8]) -> Line
     ensures { λ r. ⌜ r ≡ lineOf (now (s .entry)) ⌝ }
 {

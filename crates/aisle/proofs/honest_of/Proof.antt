@@ -2,7 +2,7 @@
 use Rattle.wire.proofs.Arrays.{filling-none, filling-more}
 use Rattle.aisle.proofs.Tables.{Tabled, tabled-all}
 use lib.Dec.{leb}
-use lib.ListN.{take, getD}
+use lib.ListN.{getD}
 use Rattle.crew.specs.Parts.{mostNodes}
 use Prim.Native.Nat.{_-_}
 use mathlib.Core.Path.{refl}

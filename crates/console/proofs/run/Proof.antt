@@ -1,6 +1,5 @@
 -- `run` meets its contract, and ends: every step goes on in the script.
 use mathlib.Core.Path.{_≡_, refl, sym, _∙_}
-use mathlib.Core.Bool.{true≢false}
 use mathlib.Core.List.{List}
 use Prim.Native.Nat.{ℕ}
 use native.Mathlib.Omega.{arith}
@@ -9,18 +8,19 @@ use lib.Seq.{length-take-le}
 use borrow.Author.Needs.{needs}
 use Rattle.print.specs.Texts.{lineMost}
 use Rattle.drill.specs.declared.Cursor.{Cursor}
-use Rattle.drill.proofs.Whole.{way, step-goes-on}
-use Rattle.console.proofs.Showing.{Shows, shows-none, shows-more, shows-within, shows-all}
+use Rattle.drill.specs.Stepping.{way}
+use Rattle.drill.proofs.Whole.{step-goes-on}
+use Rattle.console.proofs.Showing.{Shows, shows-none, shows-more, shows-all}
 use Rattle.console.proofs.run.Statement.{statement}
 use Rattle.console.proofs.run.Tie as tie
 
--- the buffer has room for a line, and so much has gone out
-record Shown (input : List ℕ) (cursor : Cursor) (text : List ℕ) (size : ℕ) : Type 0 where
+-- the buffer has room for a line, and so much has been handed out
+record Handed (input : List ℕ) (cursor : Cursor) (text : List ℕ) (size : ℕ) : Type 0 where
   room : length text ≡ lineMost
   shows : Shows input cursor size
 
 abbrev Inv-loop : tie.InvT-loop
-Inv-loop input text₀ cursor₀ size₀ text cursor size = Shown input cursor text size
+Inv-loop input text₀ cursor₀ size₀ text cursor size = Handed input cursor text size
 
 abbrev μ-loop : tie.MeasureT-loop
 μ-loop input text₀ cursor₀ size₀ text cursor size = way input cursor
@@ -47,30 +47,26 @@ array-share-prefix-text c = search needs
 slice-aggregate-write-all : tie.Need-slice-aggregate-write-all Inv-loop μ-loop
 slice-aggregate-write-all c =
     let step = c .before .before .before in
-    sym (length-take-le _ _ (omega (
-      arith,
-      step .step .ensures .made .within,
-      step .step .kept .1 .1 .0,
-      step .before .before .before .before .loop .inv .room,
-    )))
+    let room = step .step .kept .1 .1 .0 ∙ step .before .before .before .before .loop .inv .room in
+    sym (length-take-le _ _ (omega (arith, step .step .ensures .made .within, room)))
 
 write-all-requires : tie.Need-write-all-requires Inv-loop μ-loop
 write-all-requires c κs = search needs
 
 add-size : tie.Need-add-size Inv-loop μ-loop
 add-size c =
-    let step = c .before .before .before .before .before .before in
+    let step = c .before .before .before .before .before in
     let near = step .before .before .before .before .loop .inv .shows .near (runs-on (step .before .before)) in
     search (needs, near .lines, near .low, step .step .ensures .made .within)
 
 loop-less : tie.Need-loop-less Inv-loop μ-loop
 loop-less c =
-    let step = c .before .before .before .before .before .before in
+    let step = c .before .before .before .before .before in
     rw (step .step .ensures .made .next) (step-goes-on _ _ (runs-on (step .before .before)))
 
 loop-again : tie.Need-loop-again Inv-loop μ-loop
 loop-again c =
-    let step = c .before .before .before .before .before .before in
+    let step = c .before .before .before .before .before in
     let made = step .step .ensures .made in
     let so-far = step .before .before .before .before .loop .inv in
     record {
@@ -79,15 +75,7 @@ loop-again c =
     }
 
 returns : tie.Need-returns Inv-loop μ-loop
-returns c =
-    let so-far = c .before .before .before .before .before .before .before .before .before .loop .inv in
-    record { within = shows-within (so-far .shows); all = λ whole. absurd (true≢false (sym whole)) }
-
-returns-2 : tie.Need-returns-2 Inv-loop μ-loop
-returns-2 c =
-    let so-far = c .before .before .loop .inv .shows in
-    let all = shows-all so-far (omega (arith, c .if1 .left)) in
-    record { within = shows-within so-far; all = λ whole. all }
+returns c = shows-all (c .before .before .loop .inv .shows) (omega (arith, c .if1 .left))
 
 pub run-spec : {M : Type 1} → statement M
 run-spec =
@@ -105,5 +93,4 @@ run-spec =
     add-size
     loop-less
     loop-again
-    returns
-    returns-2)
+    returns)

@@ -10,7 +10,7 @@ use Rattle.script.specs.Commands.{lineOf}
 use Rattle.pending.specs.declared.Pending.{Pending}
 use Rattle.drill.specs.declared.Cursor.{Cursor}
 use Rattle.drill.specs.declared.Noting.{Noting}
-use Rattle.drill.specs.declared.Noting.the-variants.{Note as Fits}
+use Rattle.drill.specs.declared.Noting.the-variants.{Fit}
 use Rattle.drill.specs.Stepping.{linesFrom, stepLater}
 use Rattle.drill.specs.Promises.{Standing, notingOf, settled}
 use Rattle.drill.proofs.Pieces.{Found, here}
@@ -53,7 +53,7 @@ node-noted c =
     let args = found .before .before .before .before .before .before .args in
     let cursor = args .cursor in
     let line = lineOf (here (now (args .input)) (found .before .loop .at) (found .find .result)) in
-    let told = told-line read (Fits (noted .noting .given .0 .0)) (noted .noting .given .1) in
+    let told = told-line read (Fit (noted .noting .given .0 .0)) (noted .noting .given .1) in
     for-a-node (cursor .state .setup) (cursor .state .moment .phase) (cursor .state .moment .round) line _ _ told
     (c .receiver-of .ensures) (found .before .loop .inv .standing .small)
 
@@ -141,11 +141,11 @@ receiver-of-requires c κs = search needs
 cast-receiver : tie.Need-cast-receiver Inv-loop μ-loop
 cast-receiver c = search needs
 
-mul-waiting : tie.Need-mul-waiting Inv-loop μ-loop
-mul-waiting c = search needs
+mul-held : tie.Need-mul-held Inv-loop μ-loop
+mul-held c = search needs
 
-array-copy-out-waiting : tie.Need-array-copy-out-waiting Inv-loop μ-loop
-array-copy-out-waiting c = node-noted c
+array-copy-out-held : tie.Need-array-copy-out-held Inv-loop μ-loop
+array-copy-out-held c = node-noted c
 
 with-note-requires : tie.Need-with-note-requires Inv-loop μ-loop
 with-note-requires c κs = search needs
@@ -199,8 +199,8 @@ note-all-spec =
     returns-2
     receiver-of-requires
     cast-receiver
-    mul-waiting
-    array-copy-out-waiting
+    mul-held
+    array-copy-out-held
     with-note-requires
     mul-pending
     array-set-from-pending

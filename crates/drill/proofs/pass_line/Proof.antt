@@ -42,7 +42,8 @@ returns : tie.Need-returns
 returns c =
     let ended = c .before .before .before .before .before in
     let found = ended .before in
-    rw (finish-ended (cursor found) _ _ (found-line found) (ended .if1 .taken)) (c .before .before .pass-command .ensures)
+    rw (finish-ended (cursor found) _ _ (found-line found) (ended .if1 .taken))
+    (c .before .before .pass-command .ensures)
 
 over-end-requires : tie.Need-over-end-requires
 over-end-requires c κs = search needs

@@ -65,7 +65,8 @@ returns-3 c =
     let late = noted .before in
     let there = standing-there (late .before .before) in
     stepped-from _ _
-    (rw (step-later _ _ there (late .if3 .left), noted .note-all .ensures .same) (c .before .before .pass-line .ensures))
+    (rw (step-later _ _ there (late .if3 .left), noted .note-all .ensures .same)
+    (c .before .before .pass-line .ensures))
 
 stop-requires : tie.Need-stop-requires
 stop-requires c κs = search needs
