@@ -6,19 +6,29 @@ ghost use mathlib.Core.Path.{_≡_};
 ghost use lib.ListN.{length};
 ghost use Rattle.drill.specs.Run.{drillOf};
 
-// Runs a script and answers how many bytes it prints. Where standard output is closed the run goes on to its end all
-// the same, and nothing is said of it.
+// Writes a text out, and answers whether more can be written. Once a write has failed nothing more is written, so that
+// what comes out is always the beginning of the output.
+fn show(writable: bool, text: &[u8]) -> bool {
+    if writable {
+        return io::write_all(STDOUT_FILENO, text);
+    }
+    false
+}
+
+// Runs a script and answers how many bytes it prints. Where a write fails, as on a standard output that is closed, the
+// run goes on to its end all the same, and nothing is said of it.
 pub fn run(input: &[u8]) -> usize
     ensures { λ r. ⌜ r ≡ length (drillOf (now (input .entry))) ⌝ }
 {
     let mut text = [0u8; drill::MOST_TEXT];
     let mut cursor = drill::start();
     let mut size: usize = 0;
+    let mut writable = true;
     while drill::NO_LINE < cursor.line {
         let step = drill::step(input, cursor, &mut text);
         let next = step.next;
         cursor = next;
-        io::write_all(STDOUT_FILENO, &text[..step.size]);
+        writable = show(writable, &text[..step.size]);
         size = size + step.size;
     }
     size

@@ -344,7 +344,7 @@ stays-over : (input : List ℕ) (c : Cursor) → c .line ≡ 0 → stepOf input 
 unfolding stepOf
 stays-over input c e = rw e
 
--- with k steps more to make here, k are enough behind the coming one
+-- where k + 1 steps are enough, k are enough behind the coming one
 fewer : (input : List ℕ) (c : Cursor) (k : ℕ) → way input c ≤ suc k → way input (stepOf input c .next) ≤ k
 fewer input c k short = go (eqb (c .line) 0) refl
   where

@@ -38,17 +38,17 @@ abbrev pub allowed : Setup → Moment → Command → Bool
 allowed setup m (Noted note) = fits setup (m .phase) (m .round) note
 allowed setup m Go = ltb (m .phase) spentPhase
 
--- for whom a cut or a say withNote
+-- for whom a cut or a say waits
 abbrev pub receiverOf : Note → ℕ
 receiverOf (Cut sender receiver) = receiver
 receiverOf (Say sender receiver plan stamp) = receiver
 
--- what then withNote for that node
+-- what waits for that node, with it
 abbrev pub withNote : Pending → Note → Pending
 withNote pending (Cut sender receiver) = withCut pending sender
 withNote pending (Say sender receiver plan stamp) = withSay pending sender plan stamp
 
--- what then withNote for everybody
+-- what then waits for everybody
 abbrev pub noted : List Pending → Note → List Pending
 noted pending note = set pending (receiverOf note) (withNote (getD pending (receiverOf note) nobody) note)
 

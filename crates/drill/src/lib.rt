@@ -1,7 +1,8 @@
 // The drill, step by step: from a script and a place in it to the text that comes next, over the engine's promises
-// alone. specs/Run.antt says what a whole script prints, specs/Lines.antt what a line asks for and changes,
-// specs/Stepping.antt what a step does; proofs/Whole.antt shows that the texts of all steps, joined, are what the
-// script prints. What a go does among the nodes is crate aisle's. Nothing is read or written here but what is lent.
+// alone. specs/Run.antt says what a whole script prints, specs/Lines.antt which lines are good and what each changes
+// and prints, specs/Stepping.antt what a step does; proofs/Whole.antt shows that the texts of all steps, joined, are
+// what the script prints. What a go does among the nodes is crate aisle's. Nothing is read or written here but what is
+// lent.
 use aisle::Setup;
 use aisle::State;
 use crew::MOST_NODES;
@@ -140,7 +141,7 @@ fn receiver_of(note: Note) -> u8
     }
 }
 
-// What withNote for the receiver of a cut or a say, with it.
+// What waits for the receiver of a cut or a say, with it.
 fn with_note(pending: Pending, note: Note) -> Pending
     ensures { λ r. ⌜ r ≡ withNote pending note ⌝ }
 {
@@ -189,7 +190,8 @@ fn settle(cursor: Cursor, at: u32, line: u32, pending: [Pending; MOST_NODES]) ->
     }
 }
 
-// Notes the cuts and says that come first: the drill then stands before the first line that is neither.
+// Notes the cuts and says that come first: the drill then stands before the first line that cannot be noted, or the
+// script's end.
 fn note_all(input: &[u8], cursor: Cursor) -> Cursor
     requires { ⌜ Standing (now input) cursor ⌝ }
     ensures { λ r. ⌜ NotedAll (now (input .entry)) cursor r ⌝ }

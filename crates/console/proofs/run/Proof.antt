@@ -20,10 +20,10 @@ record Handed (input : List ℕ) (cursor : Cursor) (text : List ℕ) (size : ℕ
   shows : Shows input cursor size
 
 abbrev Inv-loop : tie.InvT-loop
-Inv-loop input text₀ cursor₀ size₀ text cursor size = Handed input cursor text size
+Inv-loop input text₀ cursor₀ size₀ writable₀ text cursor size writable = Handed input cursor text size
 
 abbrev μ-loop : tie.MeasureT-loop
-μ-loop input text₀ cursor₀ size₀ text cursor size = way input cursor
+μ-loop input text₀ cursor₀ size₀ writable₀ text cursor size writable = way input cursor
 
 -- a turn is made while the drill is not over
 runs-on : (c : tie.Then1 Inv-loop μ-loop) → c .before .before .loop .cursor .line ≡ 0 → ⊥
@@ -44,14 +44,14 @@ step-requires c κs = search needs
 array-share-prefix-text : tie.Need-array-share-prefix-text Inv-loop μ-loop
 array-share-prefix-text c = search needs
 
-slice-aggregate-write-all : tie.Need-slice-aggregate-write-all Inv-loop μ-loop
-slice-aggregate-write-all c =
+slice-aggregate-show : tie.Need-slice-aggregate-show Inv-loop μ-loop
+slice-aggregate-show c =
     let step = c .before .before .before in
     let room = step .step .kept .1 .1 .0 ∙ step .before .before .before .before .loop .inv .room in
     sym (length-take-le _ _ (omega (arith, step .step .ensures .made .within, room)))
 
-write-all-requires : tie.Need-write-all-requires Inv-loop μ-loop
-write-all-requires c κs = search needs
+show-requires : tie.Need-show-requires Inv-loop μ-loop
+show-requires c κs = search needs
 
 add-size : tie.Need-add-size Inv-loop μ-loop
 add-size c =
@@ -88,8 +88,8 @@ run-spec =
     slice-aggregate-step
     step-requires
     array-share-prefix-text
-    slice-aggregate-write-all
-    write-all-requires
+    slice-aggregate-show
+    show-requires
     add-size
     loop-less
     loop-again
