@@ -31,7 +31,7 @@ use Rattle.drill.proofs.Pieces.{Found, ended, unended, split-some, here
 use Rattle.drill.proofs.Places.{behind-stands}
 
 -- a cut or a say that fits is for a node of the crew
-pub receiver-small : (setup : Setup) (phase round : ℕ) (note : Note) → fits setup phase round note ≡ true
+receiver-small : (setup : Setup) (phase round : ℕ) (note : Note) → fits setup phase round note ≡ true
     → receiverOf note < setup .crew .n
 receiver-small setup phase round (Cut sender receiver) fit =
     ltb-true _ _ (both-true (ltb sender (setup .crew .n)) (ltb receiver (setup .crew .n)) fit .1)
@@ -67,7 +67,7 @@ module _ (setup : Setup) (phase round : ℕ) where
       record { read = ap (λ n. Good (Noted n)) same; fit = rw (← same) fit }
   fitting note found false fit e = absurd (true≢false (ap isOther e))
 
-  pub noting-note : (line : Line) (note : Note) → notingOf setup phase round line ≡ Fit note
+  noting-note : (line : Line) (note : Note) → notingOf setup phase round line ≡ Fit note
       → Waits setup phase round line note
   noting-note (Good (Noted found)) note e = fitting note found (fits setup phase round found) refl e
   noting-note (Good Go) note e = absurd (true≢false (ap isOther e))
@@ -81,19 +81,14 @@ for-a-node setup phase round line note receiver told for small =
     let fit = noting-note setup phase round line note told .fit in
     omega (arith, receiver-small setup phase round note fit)
 
+-- a line where a drill stands, as one that is noted or another
+abbrev notingAt : Cursor → Line → Noting
+notingAt c = notingOf (c .state .setup) (c .state .moment .phase) (c .state .moment .round)
+
 module _ (c : Cursor) (w : List ℕ) (ws : List (List ℕ)) where
-  abbrev setup : Setup
-  setup = c .state .setup
-
-  abbrev phase : ℕ
-  phase = c .state .moment .phase
-
-  abbrev round : ℕ
-  round = c .state .moment .round
-
   -- what a step does from an ended line on
-  abbrev lineStep : Line → Turn
-  lineStep line =
+  abbrev pub stepLine : Line → Turn
+  stepLine line =
       onGood line
       (λ command.
       onNote command
@@ -101,20 +96,21 @@ module _ (c : Cursor) (w : List ℕ) (ws : List (List ℕ)) where
       (passGo c w))
       (overBad c)
 
-  unfit : (note : Note) (good : Bool) → fits setup phase round note ≡ good → cond good (Fit note) Other ≡ Other
+  unfit : (note : Note) (good : Bool) → fitsAt c note ≡ good → cond good (Fit note) Other ≡ Other
       → cond good (stepLater (behindNote c w note) ws) (overBad c) ≡ overBad c
   unfit note true fit e = absurd (true≢false (sym (ap isOther e)))
   unfit note false fit e = refl
 
   -- a line that is not noted is the last of its step
-  other-last : (line : Line) → notingOf setup phase round line ≡ Other → lineStep line ≡ passing c w line
-  other-last (Good (Noted note)) e = unfit note (fits setup phase round note) refl e
+  other-last : (line : Line) → notingAt c line ≡ Other → stepLine line ≡ passing c w line
+  other-last (Good (Noted note)) e = unfit note (fitsAt c note) refl e
   other-last (Good Go) e = refl
   other-last Bad e = refl
 
   -- one that is noted is not
-  note-behind : (line : Line) (note : Note) → Waits setup phase round line note
-      → lineStep line ≡ stepLater (behindNote c w note) ws
+  note-behind : (line : Line) (note : Note)
+      → Waits (c .state .setup) (c .state .moment .phase) (c .state .moment .round) line note
+      → stepLine line ≡ stepLater (behindNote c w note) ws
   note-behind line note is = rw (is .read, is .fit)
 
 -- the step from a cursor, by the line that is found there
@@ -131,15 +127,13 @@ module _ (c : Cursor) (input : List ℕ) (e : ℕ) (line : Found input (c .at) e
     abbrev behind : List (List ℕ)
     behind = linesFrom input (e + 1)
 
-    pub other-finishes :
-        notingOf (c .state .setup) (c .state .moment .phase) (c .state .moment .round) (lineOf word) ≡ Other
+    pub other-finishes : notingAt c (lineOf word) ≡ Other
         → stepLater c (linesFrom input (c .at)) ≡ finishing c (linesFrom input (c .at))
     unfolding stepLater finishing
     other-finishes other =
         rw (ended line before, split-some newline (drop (e + 1) input)) (other-last c word behind (lineOf word) other)
 
-    pub note-goes-on : (note : Note)
-        → notingOf (c .state .setup) (c .state .moment .phase) (c .state .moment .round) (lineOf word) ≡ Fit note
+    pub note-goes-on : (note : Note) → notingAt c (lineOf word) ≡ Fit note
         → stepLater c (linesFrom input (c .at)) ≡ stepLater (behindNote c word note) behind
     unfolding stepLater
     note-goes-on note is =
@@ -156,8 +150,7 @@ module _ (c : Cursor) (input : List ℕ) (at line e : ℕ) (pending : List Pendi
   next = settled c (e + 1) (line + 1) (set pending receiver more)
 
   pub record Notes : Type 0 where
-    pub told : notingOf (c .state .setup) (c .state .moment .phase) (c .state .moment .round) (lineOf (here input at e))
-        ≡ Fit note
+    pub told : notingAt c (lineOf (here input at e)) ≡ Fit note
     pub for : receiver ≡ receiverOf note
     pub waiting : more ≡ withNote (getD pending receiver nobody) note
 

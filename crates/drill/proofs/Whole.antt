@@ -45,9 +45,7 @@ use Rattle.drill.specs.Stepping.{
   behind,
   behindNote,
   fitsAt,
-  passGo,
   passCrew,
-  onNote,
   stepFirst,
   stepSecond,
   stepLater,
@@ -59,6 +57,7 @@ use Rattle.drill.specs.Stepping.{
 }
 use Rattle.drill.specs.Promises.{Standing}
 use Rattle.drill.proofs.Pieces.{behind-line}
+use Rattle.drill.proofs.Noted.{stepLine}
 use Rattle.drill.proofs.Places.{is-standing, rest-onward, behind-stands}
 
 -- behind a step the drill is over, or it stands further on
@@ -113,6 +112,18 @@ right-before input c d come turn less right = record { splits = right .splits; a
     go (finished e) = finished e
     go (further more stands-next) = further (omega arith) stands-next
 
+-- what an ended line from line 3 on prints, and those after it
+abbrev followLine : Cursor → List (List ℕ) → Line → List ℕ
+followLine c ws line =
+    let setup = c .state .setup in
+    let m = c .state .moment in
+    onGood line
+    (λ command.
+    cond (allowed setup m command)
+    (text setup m command ++ follow setup (after setup m command) (c .line + 1) ws)
+    (badLine (c .line)))
+    (badLine (c .line))
+
 -- what the lines from line 3 on print, and the step over them
 abbrev LaterRight : List ℕ → List (List ℕ) → Type 0
 LaterRight input ws =
@@ -155,46 +166,15 @@ module _ (input : List ℕ) (c : Cursor) (facts : Standing input c) (late : 3 �
         (sym (onward-later (behind c w state) ws (omega arith)))
     go-right false = over-right input c (badLine (c .line))
 
-    line-right : LaterRight input ws → (line : Line)
-        → let setup = c .state .setup in
-        let m = c .state .moment in
-        Right input c
-        (onGood line
-        (λ command.
-        cond (allowed setup m command)
-        (text setup m command ++ follow setup (after setup m command) (c .line + 1) ws)
-        (badLine (c .line)))
-        (badLine (c .line)))
-        (onGood line
-        (λ command.
-        onNote command
-        (λ note. cond (fitsAt c note) (stepLater (behindNote c w note) ws) (overBad c))
-        (passGo c w))
-        (overBad c))
+    line-right : LaterRight input ws → (line : Line) → Right input c (followLine c ws line) (stepLine c w ws line)
     line-right ih (Good (Noted note)) = note-right ih note (fitsAt c note)
     line-right ih (Good Go) = go-right (ltb (c .state .moment .phase) spentPhase)
     line-right ih Bad = over-right input c (badLine (c .line))
 
   piece-right : LaterRight input ws → (last : Bool) → isLast ws ≡ last
-      → let setup = c .state .setup in
-      let m = c .state .moment in
-      Right input c
-      (cond last
-      (cond (eqb (length w) 0) endLine (badLine (c .line)))
-      (onGood (lineOf w)
-      (λ command.
-      cond (allowed setup m command)
-      (text setup m command ++ follow setup (after setup m command) (c .line + 1) ws)
-      (badLine (c .line)))
-      (badLine (c .line))))
-      (cond last
-      (cond (eqb (length w) 0) (over endLine c) (overBad c))
-      (onGood (lineOf w)
-      (λ command.
-      onNote command
-      (λ note. cond (fitsAt c note) (stepLater (behindNote c w note) ws) (overBad c))
-      (passGo c w))
-      (overBad c)))
+      → Right input c
+      (cond last (cond (eqb (length w) 0) endLine (badLine (c .line))) (followLine c ws (lineOf w)))
+      (cond last (cond (eqb (length w) 0) (over endLine c) (overBad c)) (stepLine c w ws (lineOf w)))
   piece-right ih true is = last-right (eqb (length w) 0)
   piece-right ih false is = line-right is ih (lineOf w)
 
