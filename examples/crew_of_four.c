@@ -24,6 +24,13 @@ static uint64_t value(uint64_t answer, const char *what)
     return RAIL_VALUE(answer);
 }
 
+/* That the crew is the smallest of class 3 in which one node may lie. */
+static void show_least(void)
+{
+    uint64_t least = value(rail_least(3, 1, 0), "least");
+    printf("class 3 with b 1 and f 0 needs %u nodes, of which %u decide\n", RAIL_LEAST_N(least), RAIL_LEAST_D(least));
+}
+
 /* A message without entries, as a Byzantine node makes one: it need not use the engine. */
 static void lie(uint8_t *slot, uint8_t kind, uint8_t phase, uint16_t plan, uint8_t stamp)
 {
@@ -110,6 +117,7 @@ int main(void)
 {
     static const uint16_t plans[HONEST] = {5, 6, 7};
     uint8_t records[HONEST][RAIL_RECORD];
+    show_least();
     value(rail_accept(CREW), "accept");
     for (int own = 0; own < HONEST; own++)
         value(rail_start(CREW, (uint8_t)own, RUN, plans[own], records[own], RAIL_RECORD), "start");

@@ -38,6 +38,7 @@ extern "C" {
 #define RAIL_LENGTH 12         /* length not that of the kind */
 #define RAIL_BOUND 13          /* a field out of its bounds */
 #define RAIL_INBOX 14          /* inbox not 202 times n bytes long */
+#define RAIL_RANGE 15          /* a lookup outside the table: class not 1 to 3, b above 10 or f above 15 */
 #define RAIL_WRONG_RECORD 25   /* record not RAIL_RECORD bytes long */
 #define RAIL_WRONG_FIELDS 26   /* fields not RAIL_FIELDS bytes long */
 #define RAIL_NO_ENTRY 27       /* the message has no entry i */
@@ -94,8 +95,17 @@ extern "C" {
 #define RAIL_ENTRY_PHASE(value) ((unsigned)((value) >> 32))
 #define RAIL_ENTRY_PLAN(value) ((uint32_t)(value))
 
+/* The value of a least crew is 256 times its n, plus its D. */
+#define RAIL_LEAST_N(value) ((unsigned)((value) >> 8))
+#define RAIL_LEAST_D(value) ((unsigned)((value) & 255))
+
 /* Accepts a crew. The value is 0. Refuses 1 to 4. */
 uint64_t rail_accept(uint8_t class_, uint8_t n, uint8_t b, uint8_t f, uint8_t d);
+
+/* The smallest crew of a class, b and f: the least n that any D lets be accepted, and the least D for that n; both 0
+ * where n would pass 32. RAIL_LEAST_N and RAIL_LEAST_D take the value apart. docs/PLANNING.md has the table. Refuses
+ * 15. */
+uint64_t rail_least(uint8_t class_, uint8_t b, uint8_t f);
 
 /* Starts a node and writes its record. All nodes of a crew have the same crew and run, each its own number from 0 on.
  * The value is 0. Refuses 25, 1 to 6. */

@@ -4,9 +4,8 @@ use mathlib.Core.Path.{_≡_, refl, sym, ap, ap₂, _∙_}
 use mathlib.Core.Bool.{Bool, true, false, cond, _&&_, _||_}
 use mathlib.Core.List.{List, [], _∷_, _++_}
 use mathlib.Core.Logic.{inl, inr}
-use Prim.Native.Nat.{ℕ, zero, suc, _*_, _<_}
+use Prim.Native.Nat.{ℕ, _*_, _<_}
 use native.Mathlib.Omega.{arith}
-use native.Mathlib.Decide.{ℕ-discrete}
 use lib.ListN.{length, take, drop, take-append-drop}
 use lib.Dec.{T, ltb, eqb, ltb→lt, eqb→eq}
 use borrow.Author.Tests.{eqb-true, eqb-false}
@@ -33,20 +32,6 @@ same-bytes (x ∷ xs) [] t = absurd t
 same-bytes (x ∷ xs) (y ∷ ys) t =
     let both = and-T (eqb x y) (sameBytes xs ys) t in
     ap₂ (λ a l. a ∷ l) (eqb→eq x y (both .0)) (same-bytes xs ys (both .1))
-
-unfoldable pub everyBelow : (ℕ → Bool) → ℕ → Bool
-everyBelow f zero = true
-everyBelow f (suc n) = f n && everyBelow f n
-
-pub every-below : (f : ℕ → Bool) (n : ℕ) → T (everyBelow f n) → (q : ℕ) → q < n → T (f q)
-unfolding everyBelow
-every-below f zero t q h = absurd (omega arith)
-every-below f (suc n) t q h =
-    let both = and-T (f n) (everyBelow f n) t in
-    elim (ℕ-discrete n q) [
-      | yes e ↦ rw e at (both .0)
-      | no e ↦ every-below f n (both .1) q (omega arith)
-    ]
 
 -- What was written, at the front of a slot.
 

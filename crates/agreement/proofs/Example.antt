@@ -27,7 +27,7 @@ use Rattle.ballot.specs.Least.{least, leastOf}
 use Rattle.ballot.specs.Selection.{possible, backed, backing, enough, selection, leading, mostVoted, anyPlan, taken}
 use Rattle.ballot.specs.Validation.{valid, validated}
 use Rattle.ballot.specs.Decision.{decides, decision}
-use Rattle.wire.proofs.Tests.{and-T}
+use Rattle.wire.proofs.Tests.{and-T, everyBelow, every-below}
 use Rattle.ballot.proofs.Tests.{holds-T}
 use Rattle.wire.proofs.Numbers.{allBytes, are-bytes}
 use Rattle.node.specs.Record.{begun}
@@ -41,7 +41,7 @@ use Rattle.agreement.specs.Statement.{made, honest, recordOf}
 use Rattle.agreement.specs.Statement.{afterCalls, callsOf, calls, recordAt, takenInbox, inboxAt, Wrote, Whole}
 use Rattle.agreement.specs.Statement.{answerTo, numbered, Every, Premises, standing, heard, Good, Conclusions}
 use Rattle.agreement.proofs.Calls.{taken-inside}
-use Rattle.agreement.proofs.Checking.{sameBytes, same-bytes, everyBelow, every-below, wroteFront, wrote-front}
+use Rattle.agreement.proofs.Checking.{sameBytes, same-bytes, wroteFront, wrote-front}
 use Rattle.agreement.proofs.Checking.{onlyAsks, isWhole, whole-is}
 use Rattle.agreement.proofs.Demand.{demand3}
 

@@ -9,6 +9,9 @@ use lib.Seq.{sets}
 use borrow.Author.Tests.{eq-eqb}
 use Rattle.wire.specs.Outcome.{Outcome, accepted, refused, require, verdict, valueOr, isAccepted}
 use Rattle.wire.proofs.Stores.{sets-whole}
+use Rattle.least_crews.specs.declared.LookupRefusal.{LookupRefusal}
+use Rattle.least_crews.specs.declared.LookupRefusal.the-variants.{Range}
+use Rattle.least_crews.specs.Search.{lookupNumber}
 use Rattle.message.specs.declared.Reading.{Reading}
 use Rattle.message.specs.Reading.{readOf, readAnswer}
 use Rattle.node.specs.declared.Node.{Node}
@@ -23,6 +26,10 @@ use Rattle.boundary.specs.Promises.{Numbered}
 -- the numbers that the code has as constants
 unsound : Numbered 7 7
 unsound = record { same = refl; some = omega arith; byte = omega arith }
+
+-- a lookup is refused for its range and for nothing else
+pub range : (why : LookupRefusal) → Numbered (lookupNumber why) 15
+range Range = record { same = refl; some = omega arith; byte = omega arith }
 
 pub wrong-image : Numbered 25 25
 wrong-image = record { same = refl; some = omega arith; byte = omega arith }

@@ -10,6 +10,7 @@ use Rattle.wire.specs.Outcome.{Outcome, accepted, refused, require, after, verd
 use Rattle.wire.specs.Entry.{Entry}
 use Rattle.wire.specs.Bytes.{bytesOf, bufferAfter}
 use Rattle.crew.specs.declared.Crew.{Crew}
+use Rattle.least_crews.specs.declared.Least.{Least}
 use Rattle.message.specs.Layout.{entrySize}
 use Rattle.message.specs.Fields.{Body, selection, validation, decision, Message}
 use Rattle.message.specs.Reading.{readOf, entriesPartOf, entryAt}
@@ -58,6 +59,10 @@ done a = 0
 -- the value of what is a number already
 abbrev pub itself : ℕ → ℕ
 itself value = value
+
+-- the value of a least crew: its n stands above its D, which has a byte
+abbrev pub leastNumber : Least → ℕ
+leastNumber least = 256 * least .n + least .d
 
 -- the value of a selection: a plan's own number; 0, which no plan has, for 'none'; for 'any' one past what a plan has
 -- room for

@@ -4,6 +4,7 @@
 // says what each function answers and leaves in what it is lent.
 use crew::Acceptance;
 use crew::Crew;
+use least_crews::Finding;
 use message::Body;
 use message::ENTRY_SIZE;
 use message::Message;
@@ -24,6 +25,7 @@ ghost use lib.ListN.{length};
 ghost use Rattle.wire.specs.Outcome.{valueOr};
 ghost use Rattle.crew.specs.Parts.{crewOf};
 ghost use Rattle.crew.specs.Acceptance.{acceptOf, acceptAnswer, acceptNumber};
+ghost use Rattle.least_crews.specs.Search.{lookupOf, lookupAnswer};
 ghost use Rattle.message.specs.Reading.{bodyAs, readNumber};
 ghost use Rattle.node.specs.Starting.{startNumber};
 ghost use Rattle.node.specs.Sending.{sendNumber, sendAnswer};
@@ -33,6 +35,7 @@ ghost use Rattle.boundary.specs.Answers.{
   refusalUnit,
   done,
   itself,
+  leastNumber,
   choiceNumber,
   entryNumber,
   Answered,
@@ -54,7 +57,7 @@ ghost use Rattle.boundary.specs.Answers.{
 };
 ghost use Rattle.boundary.specs.Promises.{Numbered};
 
-// 01's numbers of the refusals. The engine below answers by name, so this is the one place where its code has them.
+// The papers' numbers of the refusals. The engine below answers by name, so this is the one place where its code has them.
 // Accepting a crew.
 pub const CLASS: u64 = 1;
 
@@ -88,6 +91,9 @@ const BOUND: u64 = 13;
 // Taking a round, or asking for the coming selection: unsound and spent as well.
 const INBOX: u64 = 14;
 
+// Looking a least crew up.
+const RANGE: u64 = 15;
+
 // What only this boundary refuses: after the engine's own numbers and those kept for it.
 const WRONG_IMAGE: u64 = 25;
 
@@ -97,6 +103,9 @@ const NO_ENTRY: u64 = 27;
 
 // The number of a refusal is the top byte of an answer: above every value, which has the seven bytes below it.
 const REFUSAL: u64 = 1 << 56;
+
+// A least crew's n stands above its D, which has a byte.
+const LEAST_N: u64 = 1 << 8;
 
 // A plan has room for four bytes in a value, though it takes fewer: with wider plans no answer is laid out anew.
 const PLAN_ROOM: u64 = 1 << 32;
@@ -207,6 +216,24 @@ pub extern "C" fn rail_accept(class: u8, n: u8, b: u8, f: u8, d: u8) -> u64
     ensures { λ r. ⌜ Answered done (acceptOf (crewOf class n b f d)) r ⌝ }
 {
     accepting_answer(crew::accept(crew_of(class, n, b, f, d)))
+}
+
+// What looking a least crew up answers, as a number: 256 times n, plus D.
+fn finding_answer(answer: Finding) -> u64
+    ensures { λ r. ⌜ Answered leastNumber (lookupAnswer answer) r ⌝ }
+{
+    match answer {
+        Finding::Entry(least) => LEAST_N * (least.n as u64) + (least.d as u64),
+        Finding::Refused(_) => refusal(RANGE),
+    }
+}
+
+// Looks up the least n that any D lets be accepted, and the least D for that n.
+#[no_mangle]
+pub extern "C" fn rail_least(class: u8, b: u8, f: u8) -> u64
+    ensures { λ r. ⌜ Answered leastNumber (lookupOf class b f) r ⌝ }
+{
+    finding_answer(least_crews::lookup(class, b, f))
 }
 
 // Starts a node and writes its record's image.

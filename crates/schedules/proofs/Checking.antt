@@ -11,12 +11,12 @@ use Rattle.wire.specs.Outcome.{accepted, isAccepted}
 use Rattle.wire.specs.Bytes.{AreBytes}
 use Rattle.ballot.specs.Count.{holds}
 use Rattle.ballot.specs.Ballot.{Ballot}
-use Rattle.wire.proofs.Tests.{and-T, T-and}
+use Rattle.wire.proofs.Tests.{and-T, T-and, everyBelow, every-below}
 use Rattle.inbox.specs.Inbox.{slotAt, ballotAt}
 use Rattle.rounds.specs.Taking.{takeOf}
 use Rattle.agreement.specs.Statement.{Call, write, ask, take-round, Event, Wrote}
 use Rattle.wire.proofs.Numbers.{allBytes, are-bytes}
-use Rattle.agreement.proofs.Checking.{everyBelow, every-below, wroteFront, wrote-front}
+use Rattle.agreement.proofs.Checking.{wroteFront, wrote-front}
 use Rattle.schedules.specs.Schedule.{Schedule, on, upTo, isHonest, recordAfter, roundsTaken, ownCalls, ownRecord}
 use Rattle.schedules.specs.Schedule.{OwnWrote, TakesAfter}
 use Rattle.schedules.proofs.Events.{nothing-there}

@@ -108,7 +108,7 @@ fn digit(c: u8) -> u32
 }
 
 // A field's number. It stops at the digit that takes it past the largest, so a field of any length is read safely.
-fn decimal(s: &[u8]) -> Number
+pub fn decimal(s: &[u8]) -> Number
     ensures { λ r. ⌜ r ≡ numberOf (now (s .entry)) ⌝ }
 {
     if s.len() == 0 {

@@ -3,7 +3,7 @@
 use mathlib.Core.Path.{_≡_, refl, sym}
 use mathlib.Core.Bool.{Bool, true, false, not, _&&_, _||_, true≢false}
 use mathlib.Core.Logic.{_⊎_, inl, inr, _≢_}
-use Prim.Native.Nat.{ℕ}
+use Prim.Native.Nat.{ℕ, zero, suc, _<_}
 use native.Mathlib.Omega.{arith}
 use lib.Dec.{T, leb, ltb, eqb, leb→le, le→leb, ltb→lt, lt→ltb, nleb→lt, nltb→le, eqb→eq, eqb-refl, not-T, T-not}
 use lib.Arith.{lt→nleb, le→nltb}
@@ -82,3 +82,16 @@ by-equality {A} m n same differ = go (eqb m n) refl
     go : (b : Bool) → eqb m n ≡ b → A
     go true e = same (eqb-true m n e)
     go false e = differ (eqb-false m n e)
+
+-- A test that every number below a bound passes: it computes, and holds at each.
+
+unfoldable pub everyBelow : (ℕ → Bool) → ℕ → Bool
+everyBelow f zero = true
+everyBelow f (suc n) = f n && everyBelow f n
+
+pub every-below : (f : ℕ → Bool) (n : ℕ) → T (everyBelow f n) → (q : ℕ) → q < n → T (f q)
+unfolding everyBelow
+every-below f zero t q h = absurd (omega arith)
+every-below f (suc n) t q h =
+    let both = and-T (f n) (everyBelow f n) t in
+    by-equality n q (λ e. rw e at (both .0)) (λ e. every-below f n (both .1) q (omega arith))

@@ -5,7 +5,7 @@ use crate::image;
 use comparison::Engine;
 use rail::{Refused, FIELDS, RECORD};
 use second_engine::message::{ENTRY, SELECTION_LENGTH};
-use second_engine::{Crew, Message, Node, Plan, Refusal, Selection};
+use second_engine::{Crew, LeastCrew, Message, Node, Plan, Refusal, Selection};
 use std::io::Write;
 use std::path::PathBuf;
 use std::process::{Command, Stdio};
@@ -37,6 +37,13 @@ fn done(answer: rail::Answer) -> Result<(), Refusal> {
 impl Engine for Archive {
     fn accept(&self, crew: Crew) -> Result<(), Refusal> {
         done(rail::accept(numbers(crew)))
+    }
+
+    fn least(&self, class: u8, b: u8, f: u8) -> Result<LeastCrew, Refusal> {
+        let value = rail::least(class, b, f).map_err(refusal)?;
+        let n =
+            u8::try_from(value / rail::LEAST_N).unwrap_or_else(|_| panic!("the archive tells the least crew {value}"));
+        Ok(LeastCrew { n, d: (value % rail::LEAST_N) as u8 })
     }
 
     fn start(&self, crew: Crew, own: u8, run: u32, plan: Plan) -> Result<Node, Refusal> {

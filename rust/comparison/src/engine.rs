@@ -1,11 +1,13 @@
 //! The operations of an engine, as a comparison calls them, and the second engine behind them.
 
-use second_engine::{drill, message, rounds};
-use second_engine::{Crew, Message, Mutation, Node, Plan, Refusal, Selection};
+use second_engine::{drill, least_crews, message, rounds};
+use second_engine::{Crew, LeastCrew, Message, Mutation, Node, Plan, Refusal, Selection};
 
 /// An engine. Records are lent to be written, so that a comparison sees where a call should have left one alone.
 pub trait Engine {
     fn accept(&self, crew: Crew) -> Result<(), Refusal>;
+    /// Looks up an entry of the table of least crews.
+    fn least(&self, class: u8, b: u8, f: u8) -> Result<LeastCrew, Refusal>;
     fn start(&self, crew: Crew, own: u8, run: u32, plan: Plan) -> Result<Node, Refusal>;
     /// Writes the coming message; 0 is silence.
     fn write(&self, node: &mut Node, buffer: &mut [u8]) -> Result<usize, Refusal>;
@@ -25,6 +27,10 @@ pub struct Second {
 impl Engine for Second {
     fn accept(&self, crew: Crew) -> Result<(), Refusal> {
         crew.accept()
+    }
+
+    fn least(&self, class: u8, b: u8, f: u8) -> Result<LeastCrew, Refusal> {
+        least_crews::least_mutated(class, b, f, self.mutation)
     }
 
     fn start(&self, crew: Crew, own: u8, run: u32, plan: Plan) -> Result<Node, Refusal> {

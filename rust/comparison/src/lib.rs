@@ -1,10 +1,11 @@
-//! Comparison of two engines on generated cases, the properties of whole runs (01, 'The list in demand 3'), and the
-//! claims on schedules, where nodes are out of step (C-17).
+//! Comparison of two engines on generated cases and on lookups in the table of least crews (C-11), the properties of
+//! whole runs (01, 'The list in demand 3'), and the claims on schedules, where nodes are out of step (C-17).
 
 pub mod cases;
 pub mod decisions;
 pub mod engine;
 pub mod exchanges;
+pub mod lookups;
 pub mod mutants;
 pub mod pair;
 pub mod regrouping;

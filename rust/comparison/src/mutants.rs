@@ -3,6 +3,7 @@
 
 use crate::cases::{compare, Operation};
 use crate::engine::{Engine, Second};
+use crate::lookups;
 use crate::pair::Pair;
 use crate::regrouping::{self, Regrouping};
 use crate::schedules;
@@ -21,11 +22,16 @@ pub struct Cases {
 /// All decisions of a run are on one plan, so that these are no change there. Only single rounds tell them.
 const IN_AGREEMENT: [Mutation; 2] = [Mutation::ResultReplaced, Mutation::GreatestDecides];
 
-/// Gives the same cases to the engine and to every mutant, and prints how many tell them apart. Rounds have to tell
-/// every mutant, runs and schedules all but those that are no change there.
+/// Gives the same cases to the engine and to every mutant, and prints how many tell them apart.
 pub fn tell_all(engine: &dyn Engine, cases: Cases) -> Result<(), String> {
+    tell_rounds(engine, cases)?;
+    tell_lookups(engine)
+}
+
+/// The mutants of rounds. Rounds have to tell every one, runs and schedules all but those that are no change there.
+fn tell_rounds(engine: &dyn Engine, cases: Cases) -> Result<(), String> {
     println!("mutants are told by how many of {cases:?}:");
-    for mutation in Mutation::MUTANTS {
+    for mutation in Mutation::MUTANTS_OF_ROUNDS {
         let count = |operation, cases| {
             let is_told = |seed: &u64| compare(operation, *seed, engine, &Second { mutation }).is_err();
             (1..=cases).filter(is_told).count()
@@ -36,6 +42,20 @@ pub fn tell_all(engine: &dyn Engine, cases: Cases) -> Result<(), String> {
         let drills = count(Operation::Drill, cases.drills);
         println!("  {mutation:?}: {rounds}, {runs}, {schedules}, {drills}");
         if rounds == 0 || ((runs == 0 || schedules == 0) && !IN_AGREEMENT.contains(&mutation)) {
+            return Err(format!("{mutation:?} is not told from the engine"));
+        }
+    }
+    Ok(())
+}
+
+/// The mutants of lookups. No other case has a lookup in it, so lookups have to tell every one.
+fn tell_lookups(engine: &dyn Engine) -> Result<(), String> {
+    println!("mutants are told by how many of {} lookups:", lookups::near_the_table().count());
+    for mutation in Mutation::MUTANTS_OF_LOOKUPS {
+        let is_told = |&lookup: &_| lookups::compare(lookup, engine, &Second { mutation }).is_err();
+        let told = lookups::near_the_table().filter(is_told).count();
+        println!("  {mutation:?}: {told}");
+        if told == 0 {
             return Err(format!("{mutation:?} is not told from the engine"));
         }
     }

@@ -1,5 +1,6 @@
 //! The comparison has teeth: it tells every mutant from the engine, and finds no difference where there is none.
 
+use comparison::lookups;
 use comparison::mutants::{tell_all, Cases};
 use comparison::pair::Pair;
 use comparison::regrouping::{self, Regrouping};
@@ -8,7 +9,7 @@ use comparison::{compare, Engine, Operation, Second};
 use comparison::{exchanges, runs, schedules};
 use generators::schedules::Schedule;
 use generators::Random;
-use second_engine::{Crew, Message, Mutation, Node, Plan, Refusal, Selection};
+use second_engine::{Crew, LeastCrew, Message, Mutation, Node, Plan, Refusal, Selection};
 use std::cell::Cell;
 
 #[test]
@@ -24,6 +25,9 @@ fn the_engine_is_equal_to_itself() {
             }
         }
     }
+    if let Err(difference) = lookups::compare_all(lookups::near_the_table(), &Second::default(), &Second::default()) {
+        panic!("{difference}");
+    }
 }
 
 #[test]
@@ -34,11 +38,11 @@ fn every_mutant_is_told_from_the_engine() {
     }
 }
 
-/// Prints how many of the cases break a property with each mutant, and gives the mutants that are found so.
+/// Prints how many of the cases break a property with each mutant of rounds, and gives those that are found so.
 fn found(name: &str, cases: u64, is_broken: impl Fn(&mut Random, &Second) -> bool) -> Vec<Mutation> {
     println!("of {cases} {name}");
     let mut mutants = Vec::new();
-    for mutation in Mutation::MUTANTS {
+    for mutation in Mutation::MUTANTS_OF_ROUNDS {
         let found = (1..=cases).filter(|&seed| is_broken(&mut Random::new(seed), &Second { mutation })).count();
         println!("{mutation:?}: {found}");
         if found > 0 {
@@ -82,6 +86,10 @@ struct Wrong<F: Fn(&Node) -> bool> {
 impl<F: Fn(&Node) -> bool> Engine for Wrong<F> {
     fn accept(&self, crew: Crew) -> Result<(), Refusal> {
         Second::default().accept(crew)
+    }
+
+    fn least(&self, class: u8, b: u8, f: u8) -> Result<LeastCrew, Refusal> {
+        Second::default().least(class, b, f)
     }
 
     fn start(&self, crew: Crew, own: u8, run: u32, plan: Plan) -> Result<Node, Refusal> {

@@ -6,6 +6,7 @@
 
 unsafe extern "C" {
     fn rail_accept(class: u8, n: u8, b: u8, f: u8, d: u8) -> u64;
+    fn rail_least(class: u8, b: u8, f: u8) -> u64;
     fn rail_start(
         class: u8,
         n: u8,
@@ -29,6 +30,11 @@ unsafe extern "C" {
 pub fn accept([class, n, b, f, d]: [u8; 5]) -> u64 {
     // SAFETY: it takes numbers only.
     unsafe { rail_accept(class, n, b, f, d) }
+}
+
+pub fn least(class: u8, b: u8, f: u8) -> u64 {
+    // SAFETY: it takes numbers only.
+    unsafe { rail_least(class, b, f) }
 }
 
 pub fn start([class, n, b, f, d]: [u8; 5], own: u8, run: u32, plan: u16, record: &mut [u8]) -> u64 {

@@ -13,8 +13,10 @@ pub const SLOT: usize = 202;
 pub const ANY: u64 = 1 << 32;
 /// The value of an entry is this times its phase, plus its plan.
 pub const ENTRY_PHASE: u64 = 1 << 32;
+/// The value of a least crew is this times its n, plus its D.
+pub const LEAST_N: u64 = 1 << 8;
 
-/// The number of a refusal: 01's 1 to 14, or one of the three below.
+/// The number of a refusal: 01's 1 to 14, 02's 15, or one of the three below.
 #[derive(Clone, Copy, Debug, PartialEq, Eq)]
 pub struct Refused(pub u8);
 
@@ -41,6 +43,12 @@ fn answer(number: u64) -> Answer {
 /// Accepts a crew: class, n, b, f, D.
 pub fn accept(crew: [u8; 5]) -> Answer {
     answer(calls::accept(crew))
+}
+
+/// The smallest crew of a class, b and f, for planners: `LEAST_N` times the least n that any D lets be accepted, plus
+/// the least D for that n; 0 where n would pass 32.
+pub fn least(class: u8, b: u8, f: u8) -> Answer {
+    answer(calls::least(class, b, f))
 }
 
 /// Starts a node and writes its record's image.

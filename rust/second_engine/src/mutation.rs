@@ -55,11 +55,25 @@ pub enum Mutation {
     /// and, against "a slot that reading refuses is simply absent", so do slots that break a bound, with the entries
     /// before it.
     RefusedSlotsList,
+    /// Against 02 (C-11): "the least D accepted for that n". The D is the least that the next class accepts, where
+    /// there is one.
+    DOfTheNextClass,
+    /// Against "both 0 where n would pass 32". The largest crew is told there, as if it were enough.
+    LargestCrewForNone,
+    /// Against "a constant table for class 1 to 3, b 0 to 10 and f 0 to 15". The entry is that of the next f,
+    EntryOfTheNextF,
+    /// or the last f is refused.
+    LastFRefused,
+    /// Against "It refuses with 15 a lookup outside these ranges, tested first." The b after the last is answered,
+    NextBAnswered,
+    /// or a class that no crew has is refused with 1, as in accepting a crew.
+    ClassRefusedWithOne,
 }
 
 impl Mutation {
-    /// Every mutant; the engine of the paper is not among them.
-    pub const MUTANTS: [Mutation; 23] = [
+    /// Every mutant with a wrong rule in the rounds, which shows in runs and drills too. The engine of the paper is not
+    /// among them.
+    pub const MUTANTS_OF_ROUNDS: [Mutation; 23] = [
         Mutation::MajorityOfArrivalsSelects,
         Mutation::MajorityOfArrivalsValidates,
         Mutation::MajorityOfArrivalsDecides,
@@ -83,5 +97,15 @@ impl Mutation {
         Mutation::EntriesOnePhaseLate,
         Mutation::ForeignSlotsList,
         Mutation::RefusedSlotsList,
+    ];
+
+    /// Every mutant with a wrong lookup in the table of least crews, which shows nowhere else.
+    pub const MUTANTS_OF_LOOKUPS: [Mutation; 6] = [
+        Mutation::DOfTheNextClass,
+        Mutation::LargestCrewForNone,
+        Mutation::EntryOfTheNextF,
+        Mutation::LastFRefused,
+        Mutation::NextBAnswered,
+        Mutation::ClassRefusedWithOne,
     ];
 }

@@ -1,4 +1,4 @@
-//! What the operations turn down, with the paper's numbers (01, 'What each operation turns down').
+//! What the operations turn down, with the papers' numbers (01, 'What each operation turns down', and 02).
 
 /// A refused call. Its discriminant is the paper's number.
 #[derive(Clone, Copy, Debug, PartialEq, Eq, PartialOrd, Ord, Hash)]
@@ -32,11 +32,13 @@ pub enum Refusal {
     Bound = 13,
     /// 01: "14 inbox length not 202n"
     InboxLength = 14,
+    /// 02 (C-11): "It refuses with 15 a lookup outside these ranges, tested first."
+    Range = 15,
 }
 
 impl Refusal {
-    /// Every refusal, in the paper's order.
-    pub const ALL: [Refusal; 14] = [
+    /// Every refusal, in the order of the numbers.
+    pub const ALL: [Refusal; 15] = [
         Refusal::Class,
         Refusal::Nodes,
         Refusal::DecisionOutOfReach,
@@ -51,9 +53,10 @@ impl Refusal {
         Refusal::Length,
         Refusal::Bound,
         Refusal::InboxLength,
+        Refusal::Range,
     ];
 
-    /// The paper's number, 1 to 14.
+    /// The paper's number, 1 to 15: 1 to 14 are 01's, 15 is 02's.
     pub const fn number(self) -> u8 {
         self as u8
     }

@@ -1,4 +1,4 @@
-//! Every refusal number, in the paper's order: the first that applies is given.
+//! Every refusal number of 01, in the paper's order: the first that applies is given.
 
 use second_engine::inbox::SLOT;
 use second_engine::node::{DECISION, SELECTION, VALIDATION};
@@ -169,7 +169,7 @@ fn asking_and_taking() {
 
 #[test]
 fn numbers_and_refusals() {
-    assert!((1..=14).eq(Refusal::ALL.into_iter().map(Refusal::number)));
-    assert_eq!(Refusal::from_number(14), Some(Refusal::InboxLength));
-    assert_eq!(Refusal::from_number(15), None);
+    assert!((1..=15).eq(Refusal::ALL.into_iter().map(Refusal::number)));
+    assert_eq!(Refusal::from_number(15), Some(Refusal::Range));
+    assert_eq!(Refusal::from_number(16), None);
 }

@@ -1,12 +1,12 @@
-//! Holds the proved engine's archive and drill against the second engine: all small crews, the longest drill, random
-//! cases of every operation and of the boundary, and every mutant, which has to be told from the archive.
+//! Holds the proved engine's archive and drill against the second engine: all small crews, all lookups, the longest
+//! drill, random cases of every operation and of the boundary, and every mutant, which has to be told from the archive.
 //! Usage: compare DRILL [MINUTES]. Without MINUTES each operation gets its number of cases once; with MINUTES it gets
 //! them again and again, with new seeds, until the time is over. SEED sets the first seed.
 
 use archive::{boundary, Archive, Boundary};
 use comparison::cases::same;
 use comparison::mutants::{tell_all, Cases};
-use comparison::{compare, Engine, Operation, Second};
+use comparison::{compare, lookups, Engine, Operation, Second};
 use generators::{crews, drills};
 use std::panic::{catch_unwind, AssertUnwindSafe};
 use std::process::exit;
@@ -68,6 +68,7 @@ fn first_seed(is_new: bool) -> u64 {
 
 fn compare_once(archive: &Archive, first: u64) -> Result<(), String> {
     compare_small_crews(archive)?;
+    lookups::compare_all(lookups::every(), archive, &Second::default())?;
     compare_longest_drill(archive)?;
     compare_all(archive, first, 1)?;
     tell_all(archive, Cases { rounds: 2_000, runs: 100, schedules: 400, drills: 100 })

@@ -1,5 +1,5 @@
-//! The drill as a program: standard input to standard output. With a word it is a wrong engine's, one of `Mutation`, so
-//! that a class can see on the screen where the error leads: `second_drill NewestStampWins < script`.
+//! The drill as a program: standard input to standard output. With a word it is a wrong engine's, a mutant of rounds,
+//! so that a class can see on the screen where the error leads: `second_drill NewestStampWins < script`.
 
 use second_engine::{drill, Mutation};
 use std::io::{self, Read, Write};
@@ -8,10 +8,10 @@ use std::process::ExitCode;
 fn main() -> io::Result<ExitCode> {
     let mutation = match std::env::args().nth(1) {
         None => Mutation::Unmutated,
-        Some(name) => match Mutation::MUTANTS.into_iter().find(|mutant| format!("{mutant:?}") == name) {
+        Some(name) => match Mutation::MUTANTS_OF_ROUNDS.into_iter().find(|mutant| format!("{mutant:?}") == name) {
             Some(mutant) => mutant,
             None => {
-                eprintln!("no wrong engine is called {name}; there are: {:?}", Mutation::MUTANTS);
+                eprintln!("no wrong engine is called {name}; there are: {:?}", Mutation::MUTANTS_OF_ROUNDS);
                 return Ok(ExitCode::from(2));
             }
         },
