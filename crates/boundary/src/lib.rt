@@ -57,7 +57,7 @@ ghost use Rattle.boundary.specs.Answers.{
 };
 ghost use Rattle.boundary.specs.Promises.{Numbered};
 
-// The papers' numbers of the refusals. The engine below answers by name, so this is the one place where its code has them.
+// The papers' numbers of the refusals. The engine below answers by name: its code has them in this one place.
 // Accepting a crew.
 pub const CLASS: u64 = 1;
 
