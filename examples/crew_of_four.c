@@ -28,7 +28,7 @@ static uint64_t value(uint64_t answer, const char *what)
 static void show_least(void)
 {
     uint64_t least = value(rail_least(3, 1, 0), "least");
-    printf("class 3 with b 1 and f 0 needs %u nodes, of which %u decide\n", RAIL_LEAST_N(least), RAIL_LEAST_D(least));
+    printf("class 3 with b 1 and f 0 needs %u nodes, and %u votes decide\n", RAIL_LEAST_N(least), RAIL_LEAST_D(least));
 }
 
 /* A message without entries, as a Byzantine node makes one: it need not use the engine. */

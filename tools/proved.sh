@@ -1,7 +1,7 @@
 # What the commands share that run a proved program, ./drill and ./least. Such a command sets `here`, the folder of the
-# tree, `name`, its own, and `crate`, that of its program, and takes this file in. `build_if_needed` proves and builds the
-# program, on first use and where a crate has changed since, and `$program` is where it stands then. What is said here
-# goes to standard error.
+# tree, `name`, its own, `crate`, that of its program, and `takes`, how long it takes to prove, and takes this file in.
+# `build_if_needed` proves and builds the program, on first use and where a crate has changed since; `$program` is where
+# it stands then. What is said here goes to standard error.
 program=$here/target/bin/$crate
 built=$here/target/$name.built
 log=$here/target/$name.log
@@ -60,7 +60,7 @@ build() {
         say "the program is not built, and rt, which proves and builds it, is not on the path (README.md, 'Run it')"
         exit 1
     fi
-    say "proving and building the program, once; this may take some minutes"
+    say "proving and building the program, once; this takes $takes"
     mkdir -p "$here/target"
     touch "$built.next"
     (cd "$here" && rt check "$crate" </dev/null 2>&1 && mv "$built.next" "$built") | show_progress

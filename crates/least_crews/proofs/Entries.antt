@@ -8,7 +8,7 @@ use lib.Dec.{T, eqb, eqb→eq}
 use lib.ListN.{length}
 use Rattle.wire.proofs.Tests.{and-T, everyBelow, every-below}
 use Rattle.least_crews.specs.declared.Least.{Least}
-use Rattle.least_crews.specs.Search.{mostB, mostF}
+use Rattle.least_crews.specs.Search.{lastClass, mostB, mostF}
 use Rattle.least_crews.specs.Entries.{IsLeast, numbers, entryIn, Shown}
 use Rattle.least_crews.proofs.Ranges.{Ranges, ranges}
 use Rattle.least_crews.proofs.Forms.{closedForm, form-least}
@@ -23,13 +23,13 @@ right table class b f =
 -- the test of all entries; `class` counts from 0 here
 unfoldable pub allRight : List ℕ → Bool
 allRight table =
-    everyBelow (λ class. everyBelow (λ b. everyBelow (right table (suc class) b) (mostF + 1)) (mostB + 1)) 3
+    everyBelow (λ class. everyBelow (λ b. everyBelow (right table (suc class) b) (mostF + 1)) (mostB + 1)) lastClass
 
 module _ (table : List ℕ) (tested : T (allRight table)) (class b f : ℕ) (r : Ranges class b f) where
   entry-right : T (right table class b f)
   unfolding allRight
   entry-right =
-      let of-class = every-below _ 3 tested (class - 1) (omega (arith, r .class-from, r .class-to)) in
+      let of-class = every-below _ lastClass tested (class - 1) (omega (arith, r .class-from, r .class-to)) in
       let of-b = every-below _ (mostB + 1) of-class b (omega (arith, r .b-to)) in
       let of-f = every-below _ (mostF + 1) of-b f (omega (arith, r .f-to)) in
       let same : suc (class - 1) ≡ class = omega (arith, r .class-from) in

@@ -7,12 +7,12 @@ use lib.Dec.{leb}
 use borrow.Author.Tests.{leb-true, leb-false}
 use Rattle.wire.specs.Outcome.{accepted}
 use Rattle.crew.specs.declared.Crew.{Crew}
-use Rattle.crew.specs.Parts.{crewOf, mostNodes}
+use Rattle.crew.specs.Parts.{mostNodes}
 use Rattle.crew.specs.Acceptance.{acceptOf}
 use Rattle.crew.specs.Thresholds.{Class, one, two, three, classOf}
 use Rattle.crew.proofs.Facts.{High, Accepts, accepts, accepted-from}
 use Rattle.least_crews.specs.declared.Least.{Least}
-use Rattle.least_crews.specs.Search.{leastCrew}
+use Rattle.least_crews.specs.Search.{crewWith, leastCrew}
 use Rattle.least_crews.specs.Entries.{AcceptedWith, IsLeast}
 use Rattle.least_crews.proofs.Found.{found}
 
@@ -24,7 +24,7 @@ nodesOf three b f = 3 * b + 2 * f + 1
 
 -- the class by its number
 abbrev kind : ℕ → Class
-kind class = classOf (crewOf class 0 0 0 0)
+kind class = classOf (crewWith class 0 0 0 0)
 
 abbrev pub nodes : ℕ → ℕ → ℕ → ℕ
 nodes class b f = nodesOf (kind class) b f
@@ -49,7 +49,7 @@ lowest three crew high reach = (omega arith, λ e. omega arith)
 
 -- and the crew that has just these meets the conditions on D
 enough : (class : Class) (number b f : ℕ)
-    → (let n = nodesOf class b f in let crew = crewOf number n b f (n - b - f) in
+    → (let n = nodesOf class b f in let crew = crewWith number b f n (n - b - f) in
     (crew .d + crew .b + crew .f ≤ crew .n) × High class crew × (1 ≤ crew .n))
 enough one number b f = (omega arith, omega arith, omega arith)
 enough two number b f = (omega arith, omega arith, omega arith)
@@ -65,7 +65,7 @@ module _ (class b f : ℕ) where
 
   module _ (from : 1 ≤ class) (to : class ≤ 3) where
     form-accepted : nodes class b f ≤ mostNodes
-        → acceptOf (crewOf class (nodes class b f) b f (votes class b f)) ≡ accepted tt
+        → acceptOf (crewWith class b f (nodes class b f) (votes class b f)) ≡ accepted tt
     form-accepted small =
         let has = enough (kind class) class b f in
         accepted-from _ (record {

@@ -9,11 +9,10 @@ use Rattle.wire.specs.Outcome.{isAccepted}
 use Rattle.wire.proofs.Outcomes.{accepted-is}
 use Rattle.wire.proofs.Tests.{by-equality}
 use Rattle.crew.specs.declared.Crew.{Crew}
-use Rattle.crew.specs.Parts.{crewOf}
 use Rattle.crew.specs.Acceptance.{acceptOf}
 use Rattle.crew.proofs.Facts.{Accepts, accepts}
 use Rattle.least_crews.specs.declared.Least.{Least}
-use Rattle.least_crews.specs.Search.{firstFrom, byteValues, isFound, fits, leastD, leastN, leastCrew}
+use Rattle.least_crews.specs.Search.{firstFrom, byteValues, isFound, crewWith, fits, leastD, leastN, leastCrew}
 use Rattle.least_crews.specs.Entries.{AcceptedWith, IsLeast}
 
 -- the first that passes is found
@@ -38,17 +37,17 @@ fails false h = refl
 
 module _ (class b f : ℕ) where
   -- a crew that fits is an accepted one
-  accepted-with : (n d : ℕ) → fits class b f n d ≡ true → AcceptedWith class b f (crewOf class n b f d)
+  accepted-with : (n d : ℕ) → fits class b f n d ≡ true → AcceptedWith class b f (crewWith class b f n d)
   accepted-with n d fit =
       record {
         its-class = refl;
         its-b = refl;
         its-f = refl;
-        is-accepted = accepted-is (acceptOf (crewOf class n b f d)) fit;
+        is-accepted = accepted-is (acceptOf (crewWith class b f n d)) fit;
       }
 
   -- where no D lets n nodes be accepted, none is found
-  no-d : (n : ℕ) → ((d : ℕ) → AcceptedWith class b f (crewOf class n b f d) → ⊥) → isFound (leastD class b f n) ≡ false
+  no-d : (n : ℕ) → ((d : ℕ) → AcceptedWith class b f (crewWith class b f n d) → ⊥) → isFound (leastD class b f n) ≡ false
   no-d n never =
       ap isFound (first-none (fits class b f n) 0 byteValues
       (λ d. fails (fits class b f n d) (λ t. never d (accepted-with n d t))))
@@ -56,7 +55,7 @@ module _ (class b f : ℕ) where
   module _ (least : Least) (is : IsLeast class b f least) where
     module _ (some-n : least .n ≢ 0) where
       abbrev crew : Crew
-      crew = crewOf class (least .n) b f (least .d)
+      crew = crewWith class b f (least .n) (least .d)
 
       facts : Accepts crew
       facts = accepts crew (is .itself some-n)

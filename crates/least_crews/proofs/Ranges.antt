@@ -10,20 +10,20 @@ use Rattle.wire.proofs.Tests.{both-true}
 use Rattle.crew.specs.declared.Crew.{Crew}
 use Rattle.crew.specs.Acceptance.{acceptOf}
 use Rattle.crew.proofs.Facts.{Accepts, accepts, size-above}
-use Rattle.least_crews.specs.Search.{mostB, mostF, inRange}
+use Rattle.least_crews.specs.Search.{lastClass, mostB, mostF, inRange}
 use Rattle.least_crews.specs.Entries.{numbers, placeOf}
 
 pub record Ranges (class b f : ℕ) : Type 0 where
   pub class-from : 1 ≤ class
-  pub class-to : class ≤ 3
+  pub class-to : class ≤ lastClass
   pub b-to : b ≤ mostB
   pub f-to : f ≤ mostF
 
 pub ranges : (class b f : ℕ) → inRange class b f ≡ true → Ranges class b f
 ranges class b f e =
-    let all = both-true (leb 1 class && leb class 3 && leb b mostB) (leb f mostF) e in
-    let three = both-true (leb 1 class && leb class 3) (leb b mostB) (all .0) in
-    let two = both-true (leb 1 class) (leb class 3) (three .0) in
+    let all = both-true (leb 1 class && leb class lastClass && leb b mostB) (leb f mostF) e in
+    let three = both-true (leb 1 class && leb class lastClass) (leb b mostB) (all .0) in
+    let two = both-true (leb 1 class) (leb class lastClass) (three .0) in
     record {
       class-from = leb-true _ _ (two .0);
       class-to = leb-true _ _ (two .1);

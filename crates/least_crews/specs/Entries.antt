@@ -7,10 +7,9 @@ use mathlib.Core.List.{List}
 use lib.ListN.{length, getD}
 use Rattle.wire.specs.Outcome.{accepted}
 use Rattle.crew.specs.declared.Crew.{Crew}
-use Rattle.crew.specs.Parts.{crewOf}
 use Rattle.crew.specs.Acceptance.{acceptOf}
 use Rattle.least_crews.specs.declared.Least.{Least}
-use Rattle.least_crews.specs.Search.{mostB, mostF, inRange}
+use Rattle.least_crews.specs.Search.{crewWith, lastClass, mostB, mostF, inRange}
 
 -- an accepted crew of this class, b and f, whatever its n and D
 pub record AcceptedWith (class b f : ℕ) (crew : Crew) : Type 0 where
@@ -21,18 +20,18 @@ pub record AcceptedWith (class b f : ℕ) (crew : Crew) : Type 0 where
 
 -- 02: "the entry's crew is accepted, and none with a lower n, or with that n and a lower D; where it is 0, none is"
 pub record IsLeast (class b f : ℕ) (least : Least) : Type 0 where
-  pub itself : least .n ≢ 0 → acceptOf (crewOf class (least .n) b f (least .d)) ≡ accepted tt
+  pub itself : least .n ≢ 0 → acceptOf (crewWith class b f (least .n) (least .d)) ≡ accepted tt
   pub no-lower-n : (crew : Crew) → AcceptedWith class b f crew → least .n ≤ crew .n
   pub no-lower-d : (crew : Crew) → AcceptedWith class b f crew → crew .n ≡ least .n → least .d ≤ crew .d
   pub none : least .n ≡ 0 → (crew : Crew) → AcceptedWith class b f crew → ⊥
-  -- where n is 0, D is
+  -- where n is 0, D is 0 too
   pub both : least .n ≡ 0 → least .d ≡ 0
 
 -- so many numbers the table has: two an entry, n and behind it D
 abbrev pub numbers : ℕ
-numbers = 2 * (3 * (mostB + 1) * (mostF + 1))
+numbers = 2 * (lastClass * (mostB + 1) * (mostF + 1))
 
--- where an entry begins: entries go class by class, in a class by b, then by f
+-- where an entry's n stands: entries go class by class, in a class by b, then by f
 abbrev pub placeOf : ℕ → ℕ → ℕ → ℕ
 placeOf class b f = 2 * ((mostF + 1) * ((mostB + 1) * (class - 1) + b) + f)
 

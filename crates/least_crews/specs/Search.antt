@@ -4,6 +4,7 @@ use mathlib.Core.Bool.{Bool, true, false, cond, _&&_}
 use mathlib.Core.Option.{Option, none, some}
 use lib.Dec.{leb}
 use Rattle.wire.specs.Outcome.{Outcome, accepted, refused, require, isAccepted}
+use Rattle.crew.specs.declared.Crew.{Crew}
 use Rattle.crew.specs.Parts.{crewOf}
 use Rattle.crew.specs.Acceptance.{acceptOf}
 use Rattle.least_crews.specs.declared.Least.{Least}
@@ -33,9 +34,12 @@ abbrev pub orZero : Option ℕ → ℕ
 orZero none = 0
 orZero (some number) = number
 
--- whether the crew with n nodes of which D decide is accepted
+-- the crew of a lookup that has n nodes and in which D votes decide
+abbrev pub crewWith : ℕ → ℕ → ℕ → ℕ → ℕ → Crew
+crewWith class b f n d = crewOf class n b f d
+
 abbrev pub fits : ℕ → ℕ → ℕ → ℕ → ℕ → Bool
-fits class b f n d = isAccepted (acceptOf (crewOf class n b f d))
+fits class b f n d = isAccepted (acceptOf (crewWith class b f n d))
 
 -- 02: "the least D accepted for that n"
 abbrev pub leastD : ℕ → ℕ → ℕ → ℕ → Option ℕ
@@ -54,6 +58,9 @@ unfoldable pub leastCrew : ℕ → ℕ → ℕ → Least
 leastCrew class b f = withD class b f (leastN class b f)
 
 -- 02: "class 1 to 3, b 0 to 10 and f 0 to 15"
+abbrev pub lastClass : ℕ
+lastClass = 3
+
 abbrev pub mostB : ℕ
 mostB = 10
 
@@ -61,7 +68,7 @@ abbrev pub mostF : ℕ
 mostF = 15
 
 abbrev pub inRange : ℕ → ℕ → ℕ → Bool
-inRange class b f = leb 1 class && leb class 3 && leb b mostB && leb f mostF
+inRange class b f = leb 1 class && leb class lastClass && leb b mostB && leb f mostF
 
 -- 02: "It refuses with 15 a lookup outside these ranges, tested first."
 unfoldable pub lookupOf : ℕ → ℕ → ℕ → Outcome Least

@@ -21,12 +21,12 @@ const B_VALUES: usize = MOST_B as usize + 1;
 
 const CLASSES: usize = Crew::CLASS_THREE as usize;
 
-// An entry is two numbers: n, and behind it D.
+// An entry is two numbers: n comes first, and D behind it.
 const ENTRY_SIZE: usize = 2;
 
 const N_AT: usize = 0;
 
-const D_AT: usize = N_AT + 1;
+const D_BEHIND: usize = 1;
 
 const NUMBERS: usize = ENTRY_SIZE * CLASSES * B_VALUES * F_VALUES;
 
@@ -59,13 +59,13 @@ fn shown_table() -> [u8; NUMBERS]
     table::LEAST
 }
 
-// Where an entry begins: entries go class by class, in a class by b, then by f.
+// Where an entry's n stands: entries go class by class, in a class by b, then by f.
 fn place_of(class: u8, b: u8, f: u8) -> usize
     requires { ⌜ inRange class b f ≡ true ⌝ }
     ensures { λ r. ⌜ r ≡ placeOf class b f ⌝ }
 {
     let row = B_VALUES * (class - Crew::CLASS_ONE) as usize + b as usize;
-    ENTRY_SIZE * (F_VALUES * row + f as usize)
+    ENTRY_SIZE * (F_VALUES * row + f as usize) + N_AT
 }
 
 fn entry_of(class: u8, b: u8, f: u8) -> Least
@@ -74,8 +74,8 @@ fn entry_of(class: u8, b: u8, f: u8) -> Least
 {
     let numbers = shown_table();
     let place = place_of(class, b, f);
-    let n = numbers[place + N_AT];
-    let d = numbers[place + D_AT];
+    let n = numbers[place];
+    let d = numbers[place + D_BEHIND];
     Least { n, d }
 }
 

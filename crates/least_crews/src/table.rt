@@ -1,5 +1,5 @@
-// The least crews: class by class, in a class by b, then by f. Of each n, and
-// behind it D; both are 0 where no n is accepted. The program of crate
+// The least crews: class by class, in a class by b, then by f. Of each entry n,
+// and behind it D; both are 0 where no n is accepted. The program of crate
 // least_table finds them by search and prints this file.
 pub const LEAST: [u8; 1056] = [
     1, // n: class 1, b 0, f 0

@@ -1,6 +1,7 @@
 // Prints the table of least crews, which is crates/least_crews/src/table.rt: each entry found by search, among all
 // crews with bytes for n and D, by what `crew::accept` answers. It knows no formula and nothing of crate least_crews.
-// Its output is compared with the file stdout beside this folder, and the gate holds table.rt to that file.
+// Its output is compared with the file stdout beside this folder, and the gate holds table.rt to that file. Where other
+// crews are accepted, make both anew: build it by `rt check least_table`, and put the output into both.
 use crew::Acceptance;
 use crew::Crew;
 use libc::STDOUT_FILENO;
@@ -84,8 +85,8 @@ fn print_class(class: u8) {
 }
 
 fn main() {
-    show(b"// The least crews: class by class, in a class by b, then by f. Of each n, and\n");
-    show(b"// behind it D; both are 0 where no n is accepted. The program of crate\n");
+    show(b"// The least crews: class by class, in a class by b, then by f. Of each entry n,\n");
+    show(b"// and behind it D; both are 0 where no n is accepted. The program of crate\n");
     show(b"// least_table finds them by search and prints this file.\n");
     show(b"pub const LEAST: [u8; 1056] = [\n");
     print_class(Crew::CLASS_ONE);

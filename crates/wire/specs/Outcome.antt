@@ -1,4 +1,4 @@
--- What an operation of document 01 answers: a value, or the number of its refusal.
+-- What an operation of the papers, 01 and 02, answers: a value, or the number of its refusal.
 -- Every definition of an operation, from accepting a crew to taking a round, answers in this form.
 use mathlib.Core.Bool.{Bool, true, false}
 use Prim.Native.Nat.{ℕ}

@@ -1,4 +1,4 @@
-//! Mutants: wrong engines that the comparison has to tell from the right one (01, 'Classroom errors').
+//! Mutants: wrong engines that the comparison has to tell from the right one. 01's classroom errors are among them.
 
 /// One wrong rule, or none.
 #[derive(Clone, Copy, Debug, PartialEq, Eq, Default)]

@@ -25,10 +25,13 @@ add-result c = search needs
 mul-result-2 : tie.Need-mul-result-2
 mul-result-2 c = search needs
 
+add-result-2 : tie.Need-add-result-2
+add-result-2 c = search needs
+
 returns : tie.Need-returns
 returns c = search needs
 
 pub place-of-spec : {M : Type 1} → statement M
 place-of-spec =
     tie.close
-    (tie.spec sub-row cast-row mul-row add-row mul-result add-result mul-result-2 returns)
+    (tie.spec sub-row cast-row mul-row add-row mul-result add-result mul-result-2 add-result-2 returns)
