@@ -38,6 +38,7 @@ orZero (some number) = number
 abbrev pub crewWith : ℕ → ℕ → ℕ → ℕ → ℕ → Crew
 crewWith class b f n d = crewOf class n b f d
 
+-- whether it is accepted
 abbrev pub fits : ℕ → ℕ → ℕ → ℕ → ℕ → Bool
 fits class b f n d = isAccepted (acceptOf (crewWith class b f n d))
 
