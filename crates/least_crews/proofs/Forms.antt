@@ -12,7 +12,7 @@ use Rattle.crew.specs.Acceptance.{acceptOf}
 use Rattle.crew.specs.Thresholds.{Class, one, two, three, classOf}
 use Rattle.crew.proofs.Facts.{High, Accepts, accepts, accepted-from}
 use Rattle.least_crews.specs.declared.Least.{Least}
-use Rattle.least_crews.specs.Search.{crewWith, leastCrew}
+use Rattle.least_crews.specs.Search.{crewWith, noCrew, leastCrew}
 use Rattle.least_crews.specs.Entries.{AcceptedWith, IsLeast}
 use Rattle.least_crews.proofs.Found.{found}
 
@@ -37,7 +37,7 @@ votes class b f = nodes class b f - b - f
 abbrev pub closedForm : ℕ → ℕ → ℕ → Least
 closedForm class b f =
     let n = nodes class b f in
-    cond (leb n mostNodes) (record { n = n; d = votes class b f }) (record { n = 0; d = 0 })
+    cond (leb n mostNodes) (record { n = n; d = votes class b f }) noCrew
 
 -- an accepted crew has so many nodes, and where it has no more, so many votes decide
 lowest : (class : Class) (crew : Crew) → High class crew → crew .d + crew .b + crew .f ≤ crew .n
@@ -82,8 +82,7 @@ module _ (class b f : ℕ) where
     form-least = go (leb (nodes class b f) mostNodes) refl
       where
         go : (small : Bool) → leb (nodes class b f) mostNodes ≡ small
-            → IsLeast class b f
-            (cond small (record { n = nodes class b f; d = votes class b f }) (record { n = 0; d = 0 }))
+            → IsLeast class b f (cond small (record { n = nodes class b f; d = votes class b f }) noCrew)
         go true e =
             record {
               itself = λ some. form-accepted (leb-true _ _ e);

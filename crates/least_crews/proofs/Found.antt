@@ -47,7 +47,8 @@ module _ (class b f : ℕ) where
       }
 
   -- where no D lets n nodes be accepted, none is found
-  no-d : (n : ℕ) → ((d : ℕ) → AcceptedWith class b f (crewWith class b f n d) → ⊥) → isFound (leastD class b f n) ≡ false
+  no-d : (n : ℕ) → ((d : ℕ) → AcceptedWith class b f (crewWith class b f n d) → ⊥)
+      → isFound (leastD class b f n) ≡ false
   no-d n never =
       ap isFound (first-none (fits class b f n) 0 byteValues
       (λ d. fails (fits class b f n d) (λ t. never d (accepted-with n d t))))

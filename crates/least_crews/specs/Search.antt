@@ -30,10 +30,6 @@ abbrev pub isFound : Option ℕ → Bool
 isFound none = false
 isFound (some number) = true
 
-abbrev pub orZero : Option ℕ → ℕ
-orZero none = 0
-orZero (some number) = number
-
 -- the crew of a lookup that has n nodes and in which D votes decide
 abbrev pub crewWith : ℕ → ℕ → ℕ → ℕ → ℕ → Crew
 crewWith class b f n d = crewOf class n b f d
@@ -51,12 +47,20 @@ unfoldable pub leastN : ℕ → ℕ → ℕ → Option ℕ
 leastN class b f = leastByte (λ n. isFound (leastD class b f n))
 
 -- 02: "both 0 where n would pass 32", for then no n is accepted
-abbrev pub withD : ℕ → ℕ → ℕ → Option ℕ → Least
-withD class b f none = record { n = 0; d = 0 }
-withD class b f (some n) = record { n = n; d = orZero (leastD class b f n) }
+abbrev pub noCrew : Least
+noCrew = record { n = 0; d = 0 }
+
+-- an entry of the n that was found, if one was, and of the D that is found for it
+abbrev pub withD : ℕ → Option ℕ → Least
+withD n none = noCrew
+withD n (some d) = record { n = n; d = d }
+
+abbrev pub withN : (ℕ → Option ℕ) → Option ℕ → Least
+withN dOf none = noCrew
+withN dOf (some n) = withD n (dOf n)
 
 unfoldable pub leastCrew : ℕ → ℕ → ℕ → Least
-leastCrew class b f = withD class b f (leastN class b f)
+leastCrew class b f = withN (leastD class b f) (leastN class b f)
 
 -- 02: "class 1 to 3, b 0 to 10 and f 0 to 15"
 abbrev pub lastClass : ℕ

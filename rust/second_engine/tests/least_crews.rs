@@ -20,30 +20,35 @@ fn table() -> impl Iterator<Item = ((u8, u8, u8), LeastCrew)> {
 /// By 01's inequalities: D + b + f ≤ n, and D high enough for the class.
 #[test]
 fn entries_worked_out_by_hand() {
-    // One node that is not honest. Class 1: 2D > n + 3 and D + 1 ≤ n, so n > 5. Class 2: D > 3. Class 3: D > 2.
-    assert_eq!(least(1, 1, 0), told(6, 5));
-    assert_eq!(least(2, 1, 0), told(5, 4));
-    assert_eq!(least(3, 1, 0), told(4, 3));
-    // Nothing to fear: a crew of one.
-    for class in 1..=LAST_CLASS {
-        assert_eq!(least(class, 0, 0), told(1, 1));
+    let entries = [
+        // Nothing to fear: a crew of one.
+        ((1, 0, 0), (1, 1)),
+        ((2, 0, 0), (1, 1)),
+        ((3, 0, 0), (1, 1)),
+        // One node that is not honest. Class 1: 2D > n + 3 and D + 1 ≤ n, so n > 5. Class 2: D > 3. Class 3: D > 2.
+        ((1, 1, 0), (6, 5)),
+        ((2, 1, 0), (5, 4)),
+        ((3, 1, 0), (4, 3)),
+        // The largest crews, and one step beyond them. Class 1: 2(n − b − f) ≥ 2D > n + 3b + f, so n > 5b + 3f.
+        ((1, 0, 10), (31, 21)),
+        ((1, 0, 11), (0, 0)),
+        ((1, 1, 10), (0, 0)),
+        ((1, 2, 7), (32, 23)),
+        ((1, 2, 8), (0, 0)),
+        ((1, 3, 7), (0, 0)),
+        // Class 2: D > 3b + f, so n > 4b + 2f.
+        ((2, 7, 1), (31, 23)),
+        ((2, 7, 2), (0, 0)),
+        ((2, 8, 1), (0, 0)),
+        // Class 3: D > 2b + f, so n > 3b + 2f.
+        ((3, 0, 15), (31, 16)),
+        ((3, 1, 15), (0, 0)),
+        ((3, 10, 0), (31, 21)),
+        ((3, 10, 1), (0, 0)),
+    ];
+    for ((class, b, f), (n, d)) in entries {
+        assert_eq!(least(class, b, f), told(n, d), "class {class}, b {b}, f {f}");
     }
-    // The largest crews, and one step beyond them. Class 1: 2(n − b − f) ≥ 2D > n + 3b + f, so n > 5b + 3f.
-    assert_eq!(least(1, 0, 10), told(31, 21));
-    assert_eq!(least(1, 0, 11), told(0, 0));
-    assert_eq!(least(1, 1, 10), told(0, 0));
-    assert_eq!(least(1, 2, 7), told(32, 23));
-    assert_eq!(least(1, 2, 8), told(0, 0));
-    assert_eq!(least(1, 3, 7), told(0, 0));
-    // Class 2: D > 3b + f, so n > 4b + 2f.
-    assert_eq!(least(2, 7, 1), told(31, 23));
-    assert_eq!(least(2, 7, 2), told(0, 0));
-    assert_eq!(least(2, 8, 1), told(0, 0));
-    // Class 3: D > 2b + f, so n > 3b + 2f.
-    assert_eq!(least(3, 0, 15), told(31, 16));
-    assert_eq!(least(3, 1, 15), told(0, 0));
-    assert_eq!(least(3, 10, 0), told(31, 21));
-    assert_eq!(least(3, 10, 1), told(0, 0));
 }
 
 #[test]
