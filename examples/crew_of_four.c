@@ -77,6 +77,17 @@ static void show_message(const uint8_t *record)
     printf("\n");
 }
 
+/* The same message in a buffer that held a longer one: what that one left behind it is refused. */
+static void show_residue(const uint8_t *record)
+{
+    uint8_t message[RAIL_SLOT] = {0}, fields[RAIL_FIELDS];
+    size_t length = value(rail_write(record, RAIL_RECORD, message, sizeof message), "write");
+    value(rail_read(message, sizeof message, fields, sizeof fields), "read with zeros behind it");
+    message[length] = 5;
+    printf("with a byte of an older message behind it, it is refused with %u\n",
+           RAIL_REFUSED(rail_read(message, sizeof message, fields, sizeof fields)));
+}
+
 /* What asking answers, before the round is taken. */
 static void show_selection(const uint8_t *record, const uint8_t *inbox)
 {
@@ -89,8 +100,9 @@ static void show_selection(const uint8_t *record, const uint8_t *inbox)
         printf(" %u", (unsigned)selected);
 }
 
-/* One whole round: every honest node writes, then every honest node takes its own inbox. It prints what was selected
- * in round 1, vote and stamp after round 2, and the standing results after round 3. */
+/* One whole round: every honest node writes, then every honest node takes its own inbox. Buffers and slots begin as
+ * zeros, so that nothing is left behind a message. It prints what was selected in round 1, vote and stamp after round
+ * 2, and the standing results after round 3. */
 static void whole_round(uint8_t records[HONEST][RAIL_RECORD])
 {
     uint8_t written[HONEST][RAIL_SLOT] = {{0}}, inbox[NODES * RAIL_SLOT];
@@ -126,6 +138,8 @@ int main(void)
     for (int round = 0; round < 6; round++) {
         if (round % 3 == 0)
             show_message(records[0]);
+        if (round == 0)
+            show_residue(records[0]);
         whole_round(records);
     }
     return 0;

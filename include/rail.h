@@ -39,6 +39,7 @@ extern "C" {
 #define RAIL_BOUND 13          /* a field out of its bounds */
 #define RAIL_INBOX 14          /* inbox not 202 times n bytes long */
 #define RAIL_RANGE 15          /* a lookup outside the table: class not 1 to 3, b above 10 or f above 15 */
+#define RAIL_RESIDUE 16        /* a byte that is not 0 after the message */
 #define RAIL_WRONG_RECORD 25   /* record not RAIL_RECORD bytes long */
 #define RAIL_WRONG_FIELDS 26   /* fields not RAIL_FIELDS bytes long */
 #define RAIL_NO_ENTRY 27       /* the message has no entry i */
@@ -75,7 +76,7 @@ extern "C" {
  *   2 validation   plan (2)                                                           11 bytes
  *   3 decision     vote (2), stamp (1)                                                12 bytes
  * Bounds: phase 1 to 63; plans not 0; stamp below the phase in kind 1, at most the phase in kind 3; entries whose
- * phases rise strictly and are below the message's phase. Bytes after the length are ignored.
+ * phases rise strictly and are below the message's phase. All bytes of the slice after the message must be 0.
  */
 
 /* The fields of a read message: their length, and where they stand. rail_entry tells the entries. */
@@ -112,7 +113,9 @@ uint64_t rail_least(uint8_t class_, uint8_t b, uint8_t f);
 uint64_t rail_start(uint8_t class_, uint8_t n, uint8_t b, uint8_t f, uint8_t d, uint8_t own, uint32_t run,
                     uint16_t plan, uint8_t *record, size_t record_length);
 
-/* Writes the coming message to the buffer's front. The value is its length, 0 for silence. Refuses 25, 7 to 9. */
+/* Writes the coming message to the buffer's front. The value is its length, 0 for silence. Bytes after the message keep
+ * their values: clear a buffer that is used again, or send no more than the message. With the tail of an older message
+ * behind it a slot is absent. Refuses 25, 7 to 9. */
 uint64_t rail_write(const uint8_t *record, size_t record_length, uint8_t *buffer, size_t buffer_length);
 
 /* Takes the coming round: the record becomes the next one. The value is 0. Refuses 25, 7, 8, 14. */
@@ -124,11 +127,12 @@ uint64_t rail_ask(const uint8_t *record, size_t record_length, const uint8_t *in
 /* The record's standing result. The value is the plan, 0 before there is one. Refuses 25, 7. */
 uint64_t rail_result(const uint8_t *record, size_t record_length);
 
-/* Reads the message at the front of the bytes and writes its fields. The value is 0. Refuses 26, 10 to 13. */
+/* Reads the message at the front of the bytes, behind which all are 0, and writes its fields. The value is 0. Refuses
+ * 26, 10 to 13, 16. */
 uint64_t rail_read(const uint8_t *bytes, size_t bytes_length, uint8_t *fields, size_t fields_length);
 
-/* Entry i, from 0 on, of the message at the front of the bytes. RAIL_ENTRY_PHASE and RAIL_ENTRY_PLAN take the value
- * apart. Refuses 10 to 13, 27. */
+/* Entry i, from 0 on, of the message that rail_read reads there. RAIL_ENTRY_PHASE and RAIL_ENTRY_PLAN take the value
+ * apart. Refuses 10 to 13, 16, 27. */
 uint64_t rail_entry(const uint8_t *bytes, size_t bytes_length, size_t i);
 
 #ifdef __cplusplus

@@ -19,7 +19,7 @@ use Rattle.crew.specs.Acceptance.{acceptOf}
 use Rattle.message.specs.Layout.{slotSize}
 use Rattle.message.specs.Bounds.{entriesOk}
 use Rattle.message.specs.Encoding.{entryBytes, encode}
-use Rattle.message.specs.Reading.{entriesIn, bodyAt, tested, readOf}
+use Rattle.message.specs.Reading.{entriesIn, bodyAt, tested, frontOf, allZero, readOf}
 use Rattle.wire.specs.Entry.{entriesFrom}
 use Rattle.ballot.specs.Count.{tally, countIf, holds, gather}
 use Rattle.ballot.specs.Ballot.{Ballot, lists, sameBallot}
@@ -136,7 +136,7 @@ resultsOk p = earlyOk p && eqb (standing drill p) 5
 all-ok : T (everyBelow (λ p. everyBelow (roundOk p) 3 && resultsOk p) 3)
 unfolding
     acceptOf startOf begun made recordOf callsOf recordAt afterCalls takenInbox
-    takeOf sound emptyFrom afterRound readOf tested bodyAt entriesIn entriesOk countIf gather
+    takeOf sound emptyFrom afterRound readOf frontOf allZero tested bodyAt entriesIn entriesOk countIf gather
     lists least leastOf possible backed backing enough selection leading mostVoted anyPlan taken
     valid validated decides decision comingOf writeComingOf encode entryBytes entriesFrom
     sameBytes everyBelow wroteFront onlyAsks isWhole roundOk resultsOk
@@ -266,7 +266,7 @@ ballot = record { vote = 5; stamp = 0; entries = record { phase = 0; plan = 5 } 
 same-heard : (p : ℕ) → p < 3 → heard drill p 0 ≡ ballot ∷ ballot ∷ ballot ∷ []
 unfolding
     acceptOf startOf begun made recordOf callsOf recordAt takenInbox
-    takeOf sound emptyFrom readOf tested bodyAt entriesIn entriesOk countIf gather
+    takeOf sound emptyFrom readOf frontOf allZero tested bodyAt entriesIn entriesOk countIf gather
 same-heard = three (λ p. heard drill p 0 ≡ ballot ∷ ballot ∷ ballot ∷ []) refl refl refl
 
 -- they are honest

@@ -11,12 +11,12 @@ use lib.ListN.{length}
 use lib.Dec.{leb}
 use borrow.Author.Tests.{leb-true, leb-false, eq-eqb, ne-eqb}
 use Rattle.wire.specs.Outcome.{accepted}
-use Rattle.wire.proofs.Outcomes.{same-value}
+use Rattle.wire.proofs.Outcomes.{passed, same-value}
 use Rattle.crew.specs.declared.Crew.{Crew}
 use Rattle.crew.specs.Thresholds.{classOf}
 use Rattle.crew.proofs.Facts.{Accepts}
 use Rattle.message.specs.Fields.{Message}
-use Rattle.message.specs.Reading.{readOf}
+use Rattle.message.specs.Reading.{allZero, readOf}
 use Rattle.writer.specs.Writing.{validationOf}
 use Rattle.ballot.specs.Ballot.{Ballot}
 use Rattle.model.proofs.Voter.{Voter, Round, selecting, validating, deciding, say}
@@ -56,7 +56,7 @@ slot-heard d reader inbox buffer written rest q m typed puts slot counts = go (c
         let back = read-back d typed (made .0) (made .1) k coming in
         let read = ap readOf (slot ∙ ap (λ part. part ++ rest) (sym bytes)) ∙ back .2 rest in
         let c = counted-message (reader .run) (reader .phase) (reader .round) (slotAt inbox q) m counts in
-        let same : c .message ≡ k = same-value (sym (c .read) ∙ read) in
+        let same : c .message ≡ k = sym (same-value (passed (allZero rest) 16 (accepted k) (sym read ∙ c .read) .1)) in
         record {
           message = k;
           coming = coming;

@@ -94,6 +94,9 @@ const INBOX: u64 = 14;
 // Looking a least crew up.
 const RANGE: u64 = 15;
 
+// Reading, after its other numbers.
+const RESIDUE: u64 = 16;
+
 // What only this boundary refuses: after the engine's own numbers and those kept for it.
 const WRONG_IMAGE: u64 = 25;
 
@@ -181,6 +184,7 @@ fn read_number(why: message::ReadRefusal) -> u64
         message::ReadRefusal::Kind => KIND,
         message::ReadRefusal::Length => LENGTH,
         message::ReadRefusal::Bound => BOUND,
+        message::ReadRefusal::Residue => RESIDUE,
     }
 }
 
@@ -392,7 +396,7 @@ fn put_message(fields: &mut [u8], message: Message)
     }
 }
 
-// Reads the message at the front of a slice and lays its fields out.
+// Reads the message that a slice holds, with nothing but zeros behind it, and lays its fields out.
 #[no_mangle]
 pub extern "C" fn rail_read(bytes: &[u8], fields: &mut [u8]) -> u64
     ensures { λ r. ⌜ Leaves done (readInto (now (bytes .entry)) (now (fields .entry)))
@@ -424,7 +428,7 @@ fn entry_in(part: &[u8], i: usize) -> u64
     refusal(NO_ENTRY)
 }
 
-// Entry i of the message at the front of a slice: its phase times 2^32, and its plan.
+// Entry i of the message that a slice holds, read in the same way: its phase times 2^32, and its plan.
 #[no_mangle]
 pub extern "C" fn rail_entry(bytes: &[u8], i: usize) -> u64
     ensures { λ r. ⌜ Answered entryNumber (entryFrom (now (bytes .entry)) i) r ⌝ }

@@ -1,3 +1,4 @@
 pub mod Written
 pub mod Read
+pub mod Padded
 pub mod Unique

@@ -1,4 +1,5 @@
--- What is read is, byte for byte, what its fields are written as, and keeps the bounds: law 2 of the codec.
+-- What is read at the front of a slice is, byte for byte, what its fields are written as, and keeps the bounds. Law 2 of
+-- the codec, in Padded.antt, is made of it.
 use mathlib.Core.Path.{_≡_, refl, sym, ap, _∙_, subst}
 use mathlib.Core.Bool.{true, _&&_}
 use mathlib.Core.List.{List, _∷_, _++_}
@@ -28,10 +29,10 @@ use Rattle.message.specs.Reading.{
   bodyAt,
   framed,
   kindKnown,
-  readOf,
+  frontOf,
 }
 use Rattle.message.proofs.EntryLaws.{entries-count}
-use Rattle.message.proofs.ReadLaws.{read-passes, framed-long}
+use Rattle.message.proofs.ReadLaws.{front-passes, framed-long}
 use Rattle.message.specs.Layout.{lengthPlace, kindPlace, runPlace, phasePlace, headerSize}
 use Rattle.message.specs.Layout.{planPlace, stampPlace, countPlace, entriesPlace, entrySize}
 
@@ -151,12 +152,12 @@ module _ (s : List ℕ) (bytes : AreBytes s) (long : headerSize ≤ length s) (w
       (ap (λ rest. header (sizeOf body) (kindOf body) (numberAt runSize s runPlace) (getD s phasePlace 0) ++ rest)
       (stands .body-is))
 
--- For every slice that is read to a message: the slice begins with that message's encoding, and the message keeps the
--- bounds. That the slice holds bytes is the only premise.
-pub encode-of-read : (s : List ℕ) (m : Message) → AreBytes s → readOf s ≡ accepted m
+-- For every slice whose front is read to a message: the slice begins with that message's encoding, and the message keeps
+-- the bounds. That the slice holds bytes is the only premise.
+pub encode-of-front : (s : List ℕ) (m : Message) → AreBytes s → frontOf s ≡ accepted m
     → (s ≡ encode m ++ drop (sizeOf (m .body)) s) × (within m ≡ true) × Fits m
-encode-of-read s m bytes e =
-    let p = read-passes s m e in
+encode-of-front s m bytes e =
+    let p = front-passes s m e in
     let long = framed-long s (p .is-framed) in
     let size = p .long ∙ ap (λ (k : Message). sizeOf (k .body)) (sym (p .fields)) in
     let stands = body-stands s bytes (long .0) (long .1) (p .of-a-kind) size in

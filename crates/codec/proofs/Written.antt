@@ -1,4 +1,5 @@
--- What is written is read to the fields that it was written from, whatever bytes follow: law 1 of the codec.
+-- What is written is read, at the front of a slice and whatever bytes follow, to the fields that it was written from.
+-- Law 1 of the codec, in Padded.antt, is made of it.
 use mathlib.Core.Path.{_≡_, refl, ap}
 use mathlib.Core.Bool.{true, _&&_}
 use mathlib.Core.List.{List, [], _∷_, _++_}
@@ -16,8 +17,8 @@ use Rattle.message.specs.Fields.{Body, selection, validation, decision, Message
 use Rattle.message.specs.Bounds.{bodyOk, entriesOk, within, PlansFit, BodyFits, Fits}
 use Rattle.wire.specs.Plan.{phaseOk, planOk}
 use Rattle.message.specs.Encoding.{sizeOf, entryBytes, encode}
-use Rattle.message.specs.Reading.{lengthAt, entriesIn, bodyAt, framed, readOf}
-use Rattle.message.proofs.ReadLaws.{Passes, passes-read}
+use Rattle.message.specs.Reading.{lengthAt, entriesIn, bodyAt, framed, frontOf}
+use Rattle.message.proofs.ReadLaws.{Passes, passes-front}
 use Rattle.message.proofs.EncodeLaws.{encode-length}
 use Rattle.message.specs.Layout.{headerSize, mostEntries}
 
@@ -92,6 +93,7 @@ module _ (run phase : ℕ) (tail : List ℕ) (run-fits : run < runLimit) where
       }
 
 -- for every message within the bounds, not only those that a node can write
-pub read-of-encode : (m : Message) (tail : List ℕ) → within m ≡ true → Fits m → readOf (encode m ++ tail) ≡ accepted m
-read-of-encode m tail ok fits =
-    passes-read (encode m ++ tail) m (passes (m .run) (m .phase) tail (fits .0) (m .body) (fits .1) ok)
+pub front-of-encode : (m : Message) (tail : List ℕ) → within m ≡ true → Fits m
+    → frontOf (encode m ++ tail) ≡ accepted m
+front-of-encode m tail ok fits =
+    passes-front (encode m ++ tail) m (passes (m .run) (m .phase) tail (fits .0) (m .body) (fits .1) ok)

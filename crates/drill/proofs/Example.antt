@@ -8,7 +8,7 @@ use Prim.Native.String.{String, [] as noText, _∷_ as _then_}
 use Rattle.crew.specs.Acceptance.{acceptOf}
 use Rattle.writer.specs.Writing.{writeMessageOf}
 use Rattle.wire.specs.Entry.{entriesFrom}
-use Rattle.message.specs.Reading.{entriesIn, bodyAt, tested, readOf}
+use Rattle.message.specs.Reading.{entriesIn, bodyAt, tested, frontOf, allZero, readOf}
 use Rattle.message.specs.Encoding.{entryBytes, encode}
 use Rattle.message.specs.Bounds.{entriesOk}
 use Rattle.ballot.specs.Decision.{decides, decision}
@@ -60,7 +60,7 @@ examples =
 -- every script of the table prints what stands beside it
 pub examples-hold : map (λ e. drillOf (bytes (e .script))) examples ≡ map (λ e. bytes (e .output)) examples
 unfolding
-    acceptOf writeMessageOf entriesFrom entriesIn bodyAt tested readOf entryBytes encode entriesOk decides decision
+    acceptOf writeMessageOf entriesFrom entriesIn bodyAt tested frontOf allZero readOf entryBytes encode entriesOk decides decision
     tally countIf gather valid validated lists possible backed backing enough selection leading mostVoted anyPlan taken
     least leastOf emptyFrom sound begun blank startOf comingOf writeComingOf afterRound takeOf lineOf until onto
     split valueFrom numberOf numbersFrom starts decimalOf fieldOf fieldsFrom resultLine badLine nothing withCut

@@ -20,7 +20,7 @@ use Rattle.message.specs.Bounds.{entriesOk, bodyOk, BodyFits}
 use Rattle.wire.specs.Plan.{phaseOk, planOk}
 use Rattle.message.proofs.ReadLaws.{read-passes}
 use Rattle.message.specs.Layout.{slotSize}
-use Rattle.codec.proofs.Read.{encode-of-read}
+use Rattle.codec.proofs.Padded.{padded-of-read}
 use Rattle.ballot.specs.Count.{countIf}
 use Rattle.ballot.specs.Ballot.{Ballot, votes}
 use Rattle.ballot.proofs.Counting.{count-le}
@@ -67,7 +67,7 @@ slot-fits : (d : Node) (inbox : List ℕ) → AreBytes inbox → (q : ℕ) (m : 
 slot-fits d inbox bytes q m e =
     let c = counted-message (d .run) (d .phase) (d .round) (slotAt inbox q) m e in
     let slot-bytes = part-bytes inbox (slotSize * q) slotSize bytes in
-    let fits = encode-of-read (slotAt inbox q) (c .message) slot-bytes (c .read) .2 in
+    let fits = padded-of-read (slotAt inbox q) (c .message) slot-bytes (c .read) .2 in
     subst (λ (x : Ballot). x .vote < planLimit) (c .says) (body-fits (c .message .body) (fits .1))
 
 -- the ballots whose vote does not fit two bytes

@@ -2,7 +2,7 @@
 use mathlib.Core.Path.{_≡_, refl, sym, ap, _∙_}
 use mathlib.Core.Bool.{Bool, true, false, cond, _&&_, true≢false}
 use mathlib.Core.List.{List}
-use mathlib.Core.Option.{none, some}
+use mathlib.Core.Option.{Option, none, some, Option·none-ne-some}
 use Prim.Native.Nat.{ℕ}
 use native.Mathlib.Omega.{arith}
 use lib.Dec.{leb, eqb}
@@ -13,13 +13,14 @@ use Rattle.wire.specs.Bytes.{numberAt}
 use Rattle.wire.specs.Sizes.{runSize}
 use Rattle.wire.proofs.Tests.{both-true, by-equality}
 use Rattle.message.specs.Layout.{runPlace, phasePlace}
-use Rattle.message.specs.Fields.{Message}
+use Rattle.message.specs.Fields.{Body, Message}
 use Rattle.message.specs.Encoding.{kindOf}
-use Rattle.message.specs.Reading.{kindAt, messageWith, bodyAt, framed, isKind, kindKnown, readOf}
+use Rattle.message.specs.Reading.{kindAt, messageWith, bodyAt, framed, isKind, kindKnown}
+use Rattle.message.specs.Reading.{frontOf, restOf, allZero, cleared, readOf}
 use Rattle.message.specs.Laying.{bears, headed, expectedIn}
 use Rattle.message.specs.declared.Header.{Header}
 use Rattle.message.specs.Promises.{OfKind}
-use Rattle.message.proofs.ReadLaws.{kind-one, kind-two, kind-other, Passes, read-passes}
+use Rattle.message.proofs.ReadLaws.{kind-one, kind-two, kind-other, Passes, front-passes}
 
 -- a body that is read is of the slice's kind
 kind-read : (s : List ℕ) → kindKnown s ≡ true → kindOf (bodyAt s) ≡ kindAt s
@@ -72,13 +73,44 @@ borne-headed header {s} {m} p e =
 
 -- so nothing else is expected
 pub unexpected : (header : Header) (s : List ℕ) → (isKind (header .kind) && headed header s) ≡ false
-    → none ≡ expectedIn header (readOf s)
-unexpected header s other = go (readOf s) refl
+    → none ≡ expectedIn header (frontOf s)
+unexpected header s other = go (frontOf s) refl
   where
-    go : (o : Outcome Message) → readOf s ≡ o → none ≡ expectedIn header o
+    go : (o : Outcome Message) → frontOf s ≡ o → none ≡ expectedIn header o
     go (refused number) e = refl
     go (accepted m) e = apart (bears header m) refl
       where
         apart : (b : Bool) → bears header m ≡ b → none ≡ cond b (some (m .body)) none
-        apart true is = absurd (true≢false (sym (borne-headed header (read-passes s m e) is) ∙ other))
+        apart true is = absurd (true≢false (sym (borne-headed header (front-passes s m e) is) ∙ other))
         apart false is = refl
+
+-- a slice with an expected message at its front is framed
+pub expected-framed : (header : Header) (s : List ℕ) (body : Body) → some body ≡ expectedIn header (frontOf s)
+    → framed s ≡ true
+expected-framed header s body e = go (frontOf s) refl e
+  where
+    go : (o : Outcome Message) → frontOf s ≡ o → some body ≡ expectedIn header o → framed s ≡ true
+    go (accepted m) front e = front-passes s m front .is-framed
+    go (refused number) front e = absurd (Option·none-ne-some body (sym e))
+
+-- what is expected of the front is expected of the slice where the rest is 0, else nothing
+pub expected-clear : (header : Header) (s : List ℕ)
+    → expectedIn header (readOf s) ≡ cond (allZero (restOf s)) (expectedIn header (frontOf s)) none
+unfolding readOf
+expected-clear header s = go (frontOf s) (allZero (restOf s)) refl
+  where
+    go : (o : Outcome Message) (clear : Bool) → allZero (restOf s) ≡ clear
+        → expectedIn header (cleared s o) ≡ cond (allZero (restOf s)) (expectedIn header o) none
+    go (accepted m) true e = simp e
+    go (accepted m) false e = simp e
+    go (refused number) true e = simp e
+    go (refused number) false e = simp e
+
+-- so nothing is expected of the slice where nothing is of the front
+pub nothing-expected : (header : Header) (s : List ℕ) → none ≡ expectedIn header (frontOf s)
+    → none ≡ expectedIn header (readOf s)
+nothing-expected header s e = simp (expected-clear, sym e) (go (allZero (restOf s)))
+  where
+    go : (clear : Bool) → _≡_ {A = Option Body} none (cond clear none none)
+    go true = refl
+    go false = refl

@@ -4,3 +4,4 @@ pub mod EntryLaws
 pub mod ReadLaws
 pub mod LayLaws
 pub mod ExpectedLaws
+pub mod Zeros

@@ -8,7 +8,7 @@ use native.Mathlib.Omega.{arith}
 use lib.Dec.{leb, eqb}
 use lib.ListN.{length, getD, take, drop}
 use borrow.Author.Tests.{leb-true, eqb-true, eq-eqb, ne-eqb, le-leb}
-use Rattle.wire.specs.Outcome.{accepted}
+use Rattle.wire.specs.Outcome.{Outcome, accepted, refused, require}
 use Rattle.wire.specs.Sizes.{planSize}
 use Rattle.wire.proofs.Tests.{both-true}
 use Rattle.wire.proofs.Outcomes.{passed, same-value}
@@ -26,6 +26,10 @@ use Rattle.message.specs.Reading.{
   framed,
   kindKnown,
   tested,
+  frontOf,
+  restOf,
+  allZero,
+  cleared,
   readOf,
   entriesCounted,
   entriesPartOf,
@@ -72,7 +76,7 @@ pub size-held : (s : List ℕ) → framed s ≡ true → eqb (lengthAt s) (sizeO
     → sizeOf (bodyAt s) ≤ length s
 size-held s frame size = omega (arith, framed-long s frame .1, eqb-true (lengthAt s) (sizeOf (bodyAt s)) size)
 
--- the tests that a slice passes which is read to a message
+-- the tests that a slice passes whose front is read to a message
 pub record Passes (s : List ℕ) (m : Message) : Type 0 where
   pub is-framed : framed s ≡ true
   pub of-a-kind : kindKnown s ≡ true
@@ -80,9 +84,9 @@ pub record Passes (s : List ℕ) (m : Message) : Type 0 where
   pub in-bounds : within m ≡ true
   pub fields : messageWith s (bodyAt s) ≡ m
 
-pub read-passes : (s : List ℕ) (m : Message) → readOf s ≡ accepted m → Passes s m
-unfolding readOf tested
-read-passes s m e =
+pub front-passes : (s : List ℕ) (m : Message) → frontOf s ≡ accepted m → Passes s m
+unfolding frontOf tested
+front-passes s m e =
     let frame = passed (framed s) 10 _ e in
     let kind = passed (kindKnown s) 11 _ (frame .1) in
     let size = passed (eqb (lengthAt s) (sizeOf (bodyAt s))) 12 _ (kind .1) in
@@ -96,12 +100,39 @@ read-passes s m e =
       fields = fields;
     }
 
-pub passes-read : (s : List ℕ) (m : Message) → Passes s m → readOf s ≡ accepted m
-unfolding readOf tested
-passes-read s m p =
+pub passes-front : (s : List ℕ) (m : Message) → Passes s m → frontOf s ≡ accepted m
+unfolding frontOf tested
+passes-front s m p =
     let size = eq-eqb _ _ (p .long ∙ ap (λ (n : Message). sizeOf (n .body)) (sym (p .fields))) in
     let bounds = ap within (p .fields) ∙ p .in-bounds in
     simp (p .is-framed, p .of-a-kind, size, bounds) (ap accepted (p .fields))
+
+-- where the front of a slice is read, only the rest is left to answer
+pub rest-left : (s : List ℕ) (m : Message) → frontOf s ≡ accepted m
+    → readOf s ≡ require (allZero (restOf s)) 16 (accepted m)
+unfolding readOf
+rest-left s m e = ap (cleared s) e
+
+-- what is refused at the front is refused so
+pub front-refused : (s : List ℕ) (number : ℕ) → frontOf s ≡ refused number → readOf s ≡ refused number
+unfolding readOf
+front-refused s number e = ap (cleared s) e
+
+-- a slice that is read is read at its front, and what follows is 0
+pub read-front : (s : List ℕ) (m : Message) → readOf s ≡ accepted m
+    → (frontOf s ≡ accepted m) × (allZero (restOf s) ≡ true)
+unfolding readOf
+read-front s m e = go (frontOf s) refl e
+  where
+    go : (o : Outcome Message) → frontOf s ≡ o → cleared s o ≡ accepted m
+        → (frontOf s ≡ accepted m) × (allZero (restOf s) ≡ true)
+    go (accepted k) front e =
+        let rest = passed (allZero (restOf s)) 16 (accepted k) e in
+        (front ∙ rest .1, rest .0)
+    go (refused number) front e = absurd (let z : _≡_ {A = ℕ} 0 1 = cc in omega arith)
+
+pub read-passes : (s : List ℕ) (m : Message) → readOf s ≡ accepted m → Passes s m
+read-passes s m e = front-passes s m (read-front s m e .0)
 
 -- a message that is read lies within the slice
 pub read-fits : (s : List ℕ) (m : Message) → readOf s ≡ accepted m → sizeOf (m .body) ≤ length s

@@ -1,23 +1,29 @@
 -- What the private functions ask of a slice and a row, and what they tell of a number and of the row.
 -- Promises of private functions: no public contract cites this file.
-use Prim.Native.Nat.{ℕ, _+_, _*_, _<_, _≤_}
+use Prim.Native.Nat.{ℕ, _+_, _-_, _*_, _<_, _≤_}
 use mathlib.Core.Bool.{Bool, cond, _&&_}
 use mathlib.Core.Path.{_≡_}
 use mathlib.Core.List.{List}
 use lib.Dec.{leb, ltb, eqb}
-use lib.ListN.{length, getD, set}
+use lib.ListN.{length, getD, set, take, drop}
 use Rattle.wire.specs.Entry.{Entry}
 use Rattle.wire.specs.Plan.{planOk}
 use Rattle.message.specs.Layout.{phasePlace, headerSize, entriesPlace, entrySize}
 use Rattle.message.specs.Bounds.{entriesOk, within}
 use Rattle.message.specs.Encoding.{sizeOf}
-use Rattle.message.specs.Reading.{lengthAt, kindAt, messageWith, selectionAt, bodyAt}
-use Rattle.message.specs.Laying.{rowWith, keptOf, entriesAt}
+use Rattle.message.specs.Reading.{lengthAt, kindAt, messageWith, selectionAt, bodyAt, frontOf}
+use Rattle.message.specs.Laying.{rowWith, keptOf, entriesAt, rowAfter, expectedAs, expectedIn}
+use Rattle.message.specs.declared.Header.{Header}
+use Rattle.message.specs.declared.Expected.{Expected}
 
 -- a byte, taken wide, is the same number
 pub record Widened (byte wide : ℕ) : Type 0 where
   pub same : wide ≡ byte
   pub small : wide < 256
+
+-- the bytes from one place up to another
+abbrev pub bytesBetween : ℕ → ℕ → List ℕ → List ℕ
+bytesBetween from to bytes = take (to - from) (drop from bytes)
 
 -- the number that stands in the slice where its kind does
 pub record OfKind (s : List ℕ) (kind : ℕ) : Type 0 where
@@ -76,3 +82,8 @@ pub record KeptLaying (s : List ℕ) (kind : ℕ) (row : List ℕ) (r : Bool) (a
       ≡ cond (eqb kind 1 && leb (getD s phasePlace 0) (length row))
       (rowWith row (keptOf (getD s phasePlace 0) (entriesAt s)))
       row
+
+-- what reading the front of a slice gives where a message is expected, whatever follows it, and the row after it
+pub record ExpectedAtFront (header : Header) (s row : List ℕ) (r : Expected) (after : List ℕ) : Type 0 where
+  pub answer : expectedAs r s ≡ expectedIn header (frontOf s)
+  pub lays : after ≡ rowAfter header s row

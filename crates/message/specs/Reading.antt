@@ -1,6 +1,6 @@
--- What reading a slice answers: document 01, 'Messages', and refusals 10 to 13.
+-- What reading a slice answers: document 01, 'Messages', and refusals 10 to 13; document 02, C-12, and refusal 16.
 use Prim.Native.Nat.{ℕ, zero, suc, _+_, _*_, _/_}
-use mathlib.Core.Bool.{Bool, cond, _&&_}
+use mathlib.Core.Bool.{Bool, true, cond, _&&_}
 use mathlib.Core.List.{List, [], _∷_}
 use lib.ListN.{length, getD, take, drop}
 use lib.Dec.{leb, ltb, eqb}
@@ -15,7 +15,7 @@ use Rattle.message.specs.Bounds.{within}
 use Rattle.message.specs.Encoding.{sizeOf}
 use Rattle.message.specs.declared.Entry.{Entry as ShownEntry}
 use Rattle.message.specs.declared.ReadRefusal.{ReadRefusal}
-use Rattle.message.specs.declared.ReadRefusal.the-variants.{Cut, Kind, Length, Bound}
+use Rattle.message.specs.declared.ReadRefusal.the-variants.{Cut, Kind, Length, Bound, Residue}
 use Rattle.message.specs.declared.Body.{Body as ReadBody}
 use Rattle.message.specs.declared.Body.the-variants.{Selection, Validation, Decision}
 use Rattle.message.specs.declared.Reading.{Reading}
@@ -77,12 +77,29 @@ tested s body =
     (require (within (messageWith s body)) 13
     (accepted (messageWith s body)))
 
--- 01: "Reading: 10 ..; 11 ..; 12 ..; 13 .."
-unfoldable pub readOf : List ℕ → Outcome Message
-readOf s =
+-- 01: "Reading: 10 ..; 11 ..; 12 ..; 13 ..", of the front of a slice, whatever follows the message
+unfoldable pub frontOf : List ℕ → Outcome Message
+frontOf s =
     require (framed s) 10
     (require (kindKnown s) 11
     (tested s (bodyAt s)))
+
+-- the bytes of a slice after the length of its message
+abbrev pub restOf : List ℕ → List ℕ
+restOf s = drop (lengthAt s) s
+
+-- 02: "Bytes of the slice after a message must now be zero."
+unfoldable pub allZero : List ℕ → Bool
+allZero [] = true
+allZero (byte ∷ bytes) = eqb byte 0 && allZero bytes
+
+-- 02: "It refuses with 16 a read with a non-zero byte after the length, tested after 13."
+abbrev pub cleared : List ℕ → Outcome Message → Outcome Message
+cleared s (accepted m) = require (allZero (restOf s)) 16 (accepted m)
+cleared s (refused number) = refused number
+
+unfoldable pub readOf : List ℕ → Outcome Message
+readOf s = cleared s (frontOf s)
 
 -- the bytes of so many entries, where the slice holds them
 abbrev pub entriesCounted : List ℕ → ℕ → List ℕ
@@ -109,12 +126,13 @@ entryAt part i =
 abbrev pub entryAs : ShownEntry → Entry
 entryAs e = record { phase = e .phase; plan = e .plan }
 
--- 01's number of each refusal
+-- the papers' number of each refusal
 abbrev pub readNumber : ReadRefusal → ℕ
 readNumber Cut = 10
 readNumber Kind = 11
 readNumber Length = 12
 readNumber Bound = 13
+readNumber Residue = 16
 
 -- how many entries a declared body counts
 abbrev pub countIn : ReadBody → ℕ

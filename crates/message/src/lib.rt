@@ -7,6 +7,7 @@ use wire::PLAN_SIZE;
 use wire::Plan;
 use wire::RUN_SIZE;
 ghost use mathlib.Core.Path.{_≡_};
+ghost use mathlib.Core.Bool.{true};
 ghost use Prim.Native.Nat.{_+_, _*_, _≤_};
 ghost use lib.ListN.{length, getD, drop};
 ghost use lib.Dec.{eqb};
@@ -28,6 +29,9 @@ ghost use Rattle.message.specs.Reading.{
   bodyAt,
   framed,
   isKind,
+  frontOf,
+  restOf,
+  allZero,
   readOf,
   entriesCounted,
   entriesPartOf,
@@ -38,7 +42,7 @@ ghost use Rattle.message.specs.Reading.{
   readAnswer,
 };
 ghost use Rattle.message.specs.Laying.{headed, ExpectedFrom};
-ghost use Rattle.message.specs.Promises.{Widened, Framed, HeldInFull};
+ghost use Rattle.message.specs.Promises.{Widened, Framed, HeldInFull, ExpectedAtFront, bytesBetween};
 ghost use Rattle.message.specs.Promises.{
   RowFor,
   LaidEntry,
@@ -90,13 +94,18 @@ pub const SELECTION_LENGTH: u16 = ENTRIES_AT as u16;
 // No phase: a byte does not hold it.
 const BROKEN: u16 = 256;
 
-// Why reading refuses; `readNumber` in specs/Reading.antt has 01's numbers.
+// So many bytes are joined at once.
+const BLOCK: usize = 32;
+
+// Why reading refuses; `readNumber` in specs/Reading.antt has the papers' numbers.
 pub enum ReadRefusal {
     // The slice ends before the message does, or before its header does.
     Cut,
     Kind,
     Length,
     Bound,
+    // A byte that is not 0 stands behind the message.
+    Residue,
 }
 
 // What a message says, by its kind. Of a history only how many entries there are: they stay where they stand.
@@ -410,10 +419,10 @@ fn body_in(s: &[u8], kind: u16) -> Body
     Body::Decision { vote, stamp }
 }
 
-// Reads the message at the front of a slice; bytes after its length are ignored. These are 01's tests in 01's order,
-// with one place for each refusal: 10 not framed, 11 the kind, 12 the length, 13 a bound.
-pub fn read(s: &[u8]) -> Reading
-    ensures { λ r. ⌜ readAnswer r (now (s .entry)) ≡ readOf (now (s .entry)) ⌝ }
+// Reads the message at the front of a slice, whatever follows it. These are 01's tests in 01's order, with one place
+// for each refusal: 10 not framed, 11 the kind, 12 the length, 13 a bound.
+fn read_front(s: &[u8]) -> Reading
+    ensures { λ r. ⌜ readAnswer r (now (s .entry)) ≡ frontOf (now (s .entry)) ⌝ }
 {
     if is_framed(s) {
         let kind = u16_at(s, KIND_AT);
@@ -433,6 +442,61 @@ pub fn read(s: &[u8]) -> Reading
         return Reading::Refused(ReadRefusal::Kind);
     }
     Reading::Refused(ReadRefusal::Cut)
+}
+
+// The bytes from one place up to another, joined bit by bit: 0 where all of them are. It looks at every one, also behind
+// one that is not, so that the compiler takes several at once.
+fn joined(bytes: &[u8], from: usize, to: usize) -> u8
+    requires { ⌜ to ≤ length (now bytes) ⌝ }
+    ensures { λ r. ⌜ eqb r 0 ≡ allZero (bytesBetween from to (now (bytes .entry))) ⌝ }
+{
+    let mut seen: u8 = 0;
+    let mut i = from;
+    while i < to {
+        seen = seen | bytes[i];
+        i = i + 1;
+    }
+    seen
+}
+
+// Whether all these bytes are 0: whole blocks from the front, then the last bytes, as a block that overlaps those. So
+// none are left over, to be taken one at a time.
+fn are_zeros(bytes: &[u8]) -> bool
+    ensures { λ r. ⌜ r ≡ allZero (now (bytes .entry)) ⌝ }
+{
+    let n = bytes.len();
+    if n < BLOCK {
+        return joined(bytes, 0, n) == 0;
+    }
+    let front = joined(bytes, 0, n - n % BLOCK);
+    let back = joined(bytes, n - BLOCK, n);
+    (front | back) == 0
+}
+
+// Whether nothing but zeros stands behind the message at the front of a slice: 02's 16.
+fn is_clear(s: &[u8]) -> bool
+    requires { ⌜ framed (now s) ≡ true ⌝ }
+    ensures { λ r. ⌜ r ≡ allZero (restOf (now (s .entry))) ⌝ }
+{
+    let size = u16_at(s, LENGTH_AT) as usize;
+    are_zeros(&s[size..])
+}
+
+// Reads the message that a slice holds. Behind it every byte must be 0: what else stands there is left from an older,
+// longer message, and is refused after all else.
+pub fn read(s: &[u8]) -> Reading
+    ensures { λ r. ⌜ readAnswer r (now (s .entry)) ≡ readOf (now (s .entry)) ⌝ }
+{
+    let front = read_front(s);
+    match front {
+        Reading::Message(message) => {
+            if is_clear(s) {
+                return Reading::Message(message);
+            }
+            Reading::Refused(ReadRefusal::Residue)
+        }
+        Reading::Refused(why) => Reading::Refused(why),
+    }
 }
 
 // Whether a framed header like this stands at the front of the slice, whatever follows it.
@@ -463,8 +527,8 @@ fn keeps_bounds_laying(s: &[u8], kind: u16, row: &mut [Plan]) -> bool
 
 // Reads the message at the front of a slice where one with this header is expected, and lays the entries of a selection
 // into the row. The header is held against the expected one before anything else is looked at.
-pub fn read_expected(s: &[u8], header: Header, row: &mut [Plan]) -> Expected
-    ensures { λ r. ⌜ ExpectedFrom header (now (s .entry)) (now (row .entry)) r (now (row .exit)) ⌝ }
+fn read_expected_front(s: &[u8], header: Header, row: &mut [Plan]) -> Expected
+    ensures { λ r. ⌜ ExpectedAtFront header (now (s .entry)) (now (row .entry)) r (now (row .exit)) ⌝ }
 {
     let kind = header.kind;
     if is_kind(kind) {
@@ -477,6 +541,23 @@ pub fn read_expected(s: &[u8], header: Header, row: &mut [Plan]) -> Expected
         }
     }
     Expected::Other
+}
+
+// Reads the message that a slice holds where one with this header is expected, and lays the entries of a selection into
+// the row: behind the message every byte must be 0, as in `read`.
+pub fn read_expected(s: &[u8], header: Header, row: &mut [Plan]) -> Expected
+    ensures { λ r. ⌜ ExpectedFrom header (now (s .entry)) (now (row .entry)) r (now (row .exit)) ⌝ }
+{
+    let front = read_expected_front(s, header, row);
+    match front {
+        Expected::Body(body) => {
+            if is_clear(s) {
+                return Expected::Body(body);
+            }
+            Expected::Other
+        }
+        Expected::Other => Expected::Other,
+    }
 }
 
 // The bytes of a selection's entries where reading it has told how many there are, as a part of the slice. Empty where

@@ -8,7 +8,7 @@ use native.Mathlib.Omega.{arith}
 use lib.Dec.{eqb}
 use lib.ListN.{length, getD, replicate, length-replicate}
 use borrow.Author.Tests.{eqb-true, eqb-false, eq-eqb}
-use Rattle.wire.specs.Sizes.{spentPhase}
+use Rattle.wire.specs.Sizes.{lastPhase, spentPhase}
 use Rattle.crew.specs.declared.Crew.{Crew}
 use Rattle.crew.specs.Thresholds.{Class, one, two, three, classOf}
 use Rattle.crew.proofs.Facts.{accepts}
@@ -41,7 +41,7 @@ three-is crew from to is = go (eqb (crew .class) 1) refl (eqb (crew .class) 2) r
 
 -- a sound record that is not spent, with an inbox of its own
 pub sound-heard : (d : Node) (asked : Bool) (bytes : List ℕ) (fill : ℕ) → sound d ≡ true → d .phase < spentPhase
-    → length bytes ≡ slotSize * d .crew .n → fill ≡ getD (d .history) (d .phase) 0
+    → length bytes ≡ slotSize * d .crew .n → fill ≡ getD (d .history) lastPhase 0
     → Heard (comingRound d asked) bytes fill
 sound-heard d asked bytes fill ok early whole is =
     let facts = sound-facts d ok in
@@ -52,8 +52,8 @@ sound-heard d asked bytes fill ok early whole is =
       class-to = crew .class-to;
       early = early;
       empty = λ first.
-          let from : firstUnselected d ≤ d .phase = rw (eq-eqb _ _ first) (omega arith) in
-          is ∙ facts .empty (d .phase) from early;
+          let from : firstUnselected d ≤ lastPhase = rw (eq-eqb _ _ first) (omega arith) in
+          is ∙ facts .empty lastPhase from (omega arith);
     }
 
 -- the plan that an answer stands for

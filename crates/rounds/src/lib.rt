@@ -8,6 +8,7 @@ use message::Header;
 use message::SLOT;
 use node::Node;
 use tally::Choice;
+use wire::LAST_PHASE;
 use wire::PHASES;
 use wire::Plan;
 ghost use mathlib.Core.Path.{_≡_};
@@ -15,7 +16,7 @@ ghost use mathlib.Core.List.{List};
 ghost use Prim.Native.Nat.{ℕ, _<_};
 ghost use lib.ListN.{getD};
 ghost use Rattle.wire.specs.Entry.{Entry};
-ghost use Rattle.wire.specs.Sizes.{spentPhase};
+ghost use Rattle.wire.specs.Sizes.{lastPhase, spentPhase};
 ghost use Rattle.wire.specs.Outcome.{accepted};
 ghost use Rattle.node.specs.Place.{roundAfter};
 ghost use Rattle.inbox.specs.Columns.{columns, polled};
@@ -236,7 +237,7 @@ fn outcome_in_all_places(round: Round, inbox: &[u8], empty: Plan) -> Choice
 }
 
 // What the round comes to, with as many places for histories as it takes. `empty` is what an empty place holds, where
-// there are any: see `coming_entry`.
+// there are any: see `last_entry`.
 fn outcome(round: Round, inbox: &[u8], empty: Plan) -> Choice
     requires { ⌜ Heard round (now inbox) empty ⌝ }
     ensures { λ r. ⌜ choiceAs r ≡ outcomeOf round (now (inbox .entry)) ⌝ }
@@ -270,15 +271,13 @@ fn coming(node: Node, asked: bool) -> Round
     }
 }
 
-// What the history has at the record's phase: before its selection, nothing. It fills the places of the histories: the
+// What the history has at the last phase: before a selection, nothing. It fills the places of the histories: the
 // compiler, which cannot know that it is 0, fills them by itself then, and the archive needs no function of the C
-// library for it.
-fn coming_entry(node: Node) -> Plan
-    requires { ⌜ node .phase < spentPhase ⌝ }
-    ensures { λ r. ⌜ r ≡ getD (node .history) (node .phase) 0 ⌝ }
+// library for it. To find the place by the record's phase, the compiler would copy the history first.
+fn last_entry(node: Node) -> Plan
+    ensures { λ r. ⌜ r ≡ getD (node .history) lastPhase 0 ⌝ }
 {
-    let phase = node.phase as usize;
-    node.history[phase]
+    node.history[LAST_PHASE as usize]
 }
 
 // The plan of an answer, 0 where it has none.
@@ -323,7 +322,7 @@ pub fn take(node: Node, inbox: &[u8]) -> Taken
         if node.phase < Node::SPENT {
             let n = node.crew.n as usize;
             if inbox.len() == SLOT * n {
-                let choice = outcome(coming(node, false), inbox, coming_entry(node));
+                let choice = outcome(coming(node, false), inbox, last_entry(node));
                 return Taken {
                     answer: Taking::Accepted,
                     node: after_plan(node, plan_in(choice)),
@@ -364,7 +363,7 @@ pub fn ask(node: Node, inbox: &[u8]) -> Asked
         if node.phase < Node::SPENT {
             let n = node.crew.n as usize;
             if inbox.len() == SLOT * n {
-                let choice = outcome(coming(node, true), inbox, coming_entry(node));
+                let choice = outcome(coming(node, true), inbox, last_entry(node));
                 return Asked {
                     answer: to_asking(choice),
                     node: node,

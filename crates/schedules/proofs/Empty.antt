@@ -14,7 +14,7 @@ use Rattle.wire.specs.Bytes.{AreBytes}
 use Rattle.wire.proofs.Arrays.{same-everywhere}
 use Rattle.wire.proofs.Tests.{both-true}
 use Rattle.message.specs.Layout.{headerSize, slotSize}
-use Rattle.message.specs.Reading.{lengthAt, framed, readOf}
+use Rattle.message.specs.Reading.{lengthAt, framed, frontOf, readOf}
 use Rattle.node.specs.declared.Node.{Node}
 use Rattle.inbox.specs.Inbox.{slotAt, counted, ballotAt}
 use Rattle.schedules.specs.Schedule.{emptyInbox}
@@ -36,7 +36,7 @@ slot-at n q i h =
 
 -- reading refuses a slice whose length stands as 0
 no-length : (s : List ℕ) → _≡_ {A = ℕ} (lengthAt s) 0 → readOf s ≡ refused 10
-unfolding readOf
+unfolding readOf frontOf
 no-length s e = go (framed s) refl
   where
     go : (b : Bool) → framed s ≡ b → readOf s ≡ refused 10

@@ -11,7 +11,7 @@ use lib.Dec.{T, leb, eqb, leb→le, eqb→eq}
 use Rattle.crew.specs.Acceptance.{acceptOf}
 use Rattle.message.specs.Bounds.{entriesOk}
 use Rattle.message.specs.Encoding.{entryBytes, encode}
-use Rattle.message.specs.Reading.{entriesIn, bodyAt, tested, readOf}
+use Rattle.message.specs.Reading.{entriesIn, bodyAt, tested, frontOf, allZero, readOf}
 use Rattle.wire.specs.Entry.{entriesFrom}
 use Rattle.ballot.specs.Count.{countIf, gather}
 use Rattle.ballot.specs.Ballot.{lists}
@@ -80,7 +80,7 @@ notFaster p = leb (roundsTaken outOfStep p) 3
 all-ok : T (takesOk && placesOk && everyBelow notFaster 4)
 unfolding
     acceptOf startOf begun made recordOf callsOf afterCalls roundsIn callsIn callsBefore
-    takeOf sound emptyFrom afterRound readOf tested bodyAt entriesIn entriesOk countIf gather
+    takeOf sound emptyFrom afterRound readOf frontOf allZero tested bodyAt entriesIn entriesOk countIf gather
     lists least leastOf possible backed backing enough selection leading mostVoted anyPlan taken
     valid validated decides decision comingOf writeComingOf encode entryBytes entriesFrom
     allBytes sameBytes everyBelow wroteFront slotOk takeOk eventsOk

@@ -79,7 +79,7 @@ fn offsets_are_those_of_the_layout() {
     assert_eq!(numbers.len(), places.len() + lengths.len() + asked.len() + refusals().len());
 }
 
-fn refusals() -> [(&'static str, u8); 18] {
+fn refusals() -> [(&'static str, u8); 19] {
     [
         ("RAIL_CLASS", Refusal::Class.number()),
         ("RAIL_SIZE", Refusal::Nodes.number()),
@@ -96,6 +96,7 @@ fn refusals() -> [(&'static str, u8); 18] {
         ("RAIL_BOUND", Refusal::Bound.number()),
         ("RAIL_INBOX", Refusal::InboxLength.number()),
         ("RAIL_RANGE", Refusal::Range.number()),
+        ("RAIL_RESIDUE", Refusal::Residue.number()),
         ("RAIL_WRONG_RECORD", Refused::WRONG_RECORD.0),
         ("RAIL_WRONG_FIELDS", Refused::WRONG_FIELDS.0),
         ("RAIL_NO_ENTRY", Refused::NO_ENTRY.0),

@@ -42,11 +42,11 @@ impl Engine for Second {
     }
 
     fn read(&self, slice: &[u8]) -> Result<Message, Refusal> {
-        message::read(slice)
+        message::read_mutated(slice, self.mutation)
     }
 
     fn entries<'a>(&self, slice: &'a [u8]) -> &'a [u8] {
-        message::entries(slice)
+        message::entries_mutated(slice, self.mutation)
     }
 
     fn ask(&self, node: &mut Node, inbox: &[u8]) -> Result<Selection, Refusal> {

@@ -13,6 +13,7 @@ use second_engine::Mutation;
 /// How many cases of each operation that has a wrong rule somewhere.
 #[derive(Clone, Copy, Debug, PartialEq, Eq)]
 pub struct Cases {
+    pub reads: u64,
     pub rounds: u64,
     pub runs: u64,
     pub schedules: u64,
@@ -25,23 +26,48 @@ const IN_AGREEMENT: [Mutation; 2] = [Mutation::ResultReplaced, Mutation::Greates
 /// Gives the same cases to the engine and to every mutant, and prints how many tell them apart.
 pub fn tell_all(engine: &dyn Engine, cases: Cases) -> Result<(), String> {
     tell_rounds(engine, cases)?;
+    tell_reading(engine, cases)?;
     tell_lookups(engine)
+}
+
+/// How many of the cases tell the mutant.
+fn count(engine: &dyn Engine, mutation: Mutation, operation: Operation, cases: u64) -> usize {
+    let is_told = |seed: &u64| compare(operation, *seed, engine, &Second { mutation }).is_err();
+    (1..=cases).filter(is_told).count()
 }
 
 /// The mutants of rounds. Rounds have to tell every one, runs and schedules all but those that are no change there.
 fn tell_rounds(engine: &dyn Engine, cases: Cases) -> Result<(), String> {
-    println!("mutants are told by how many of {cases:?}:");
+    let Cases { rounds, runs, schedules, drills, .. } = cases;
+    println!("mutants are told by how many of {rounds} rounds, {runs} runs, {schedules} schedules, {drills} drills:");
     for mutation in Mutation::MUTANTS_OF_ROUNDS {
-        let count = |operation, cases| {
-            let is_told = |seed: &u64| compare(operation, *seed, engine, &Second { mutation }).is_err();
-            (1..=cases).filter(is_told).count()
-        };
+        let count = |operation, cases| count(engine, mutation, operation, cases);
         let rounds = count(Operation::Round, cases.rounds);
         let runs = count(Operation::Run, cases.runs);
         let schedules = count(Operation::Schedule, cases.schedules);
         let drills = count(Operation::Drill, cases.drills);
         println!("  {mutation:?}: {rounds}, {runs}, {schedules}, {drills}");
         if rounds == 0 || ((runs == 0 || schedules == 0) && !IN_AGREEMENT.contains(&mutation)) {
+            return Err(format!("{mutation:?} is not told from the engine"));
+        }
+    }
+    Ok(())
+}
+
+/// The mutants of reading. Reads have to tell every one; rounds, runs and schedules all but the one that only refuses
+/// with another number.
+fn tell_reading(engine: &dyn Engine, cases: Cases) -> Result<(), String> {
+    let Cases { reads, rounds, runs, schedules, .. } = cases;
+    println!("mutants are told by how many of {reads} reads, {rounds} rounds, {runs} runs, {schedules} schedules:");
+    for mutation in Mutation::MUTANTS_OF_READING {
+        let count = |operation, cases| count(engine, mutation, operation, cases);
+        let reads = count(Operation::Read, cases.reads);
+        let rounds = count(Operation::Round, cases.rounds);
+        let runs = count(Operation::Run, cases.runs);
+        let schedules = count(Operation::Schedule, cases.schedules);
+        println!("  {mutation:?}: {reads}, {rounds}, {runs}, {schedules}");
+        let is_in_rounds = rounds > 0 && runs > 0 && schedules > 0;
+        if reads == 0 || (!is_in_rounds && mutation != Mutation::ResidueFirst) {
             return Err(format!("{mutation:?} is not told from the engine"));
         }
     }

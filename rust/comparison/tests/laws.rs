@@ -28,15 +28,16 @@ fn accepted_crews_have_their_bounds() {
     assert!(count > 1000);
 }
 
+/// 02 (C-12): "reading and writing match over slices padded with zeros", here from the fields on.
 #[test]
 fn fields_within_bounds_round_trip() {
     for seed in seeds("fields_within_bounds_round_trip", 20_000) {
         let random = &mut Random::new(seed);
         let fields = messages::any_within(random);
         let layout = fields.layout();
-        let tail = random.below(5);
+        let (few, many) = (random.below(5), random.below(2 * SLOT));
         let mut slice = layout.clone();
-        slice.extend(random.bytes(tail));
+        slice.resize(layout.len() + random.pick(&[0, few, many]), 0);
         let read = message::read(&slice).unwrap_or_else(|refusal| panic!("seed {seed}: {refusal:?}"));
         assert_eq!(
             (u16::from(read.kind()), read.run, read.phase),
@@ -72,6 +73,8 @@ fn what_is_listed_at_a_phase_is_found() {
     }
 }
 
+/// And from the slice on: it is the encoding of its message, and zeros. So its length and the message are the whole of
+/// it.
 #[test]
 fn what_is_read_is_written_back() {
     let mut numbers = BTreeSet::new();
@@ -79,7 +82,7 @@ fn what_is_read_is_written_back() {
         let slice = messages::any(&mut Random::new(seed));
         match message::read(&slice) {
             Ok(read) => {
-                let mut buffer = slice.clone();
+                let mut buffer = vec![0; slice.len()];
                 assert_eq!(
                     message::encode(&read, message::entries(&slice), &mut buffer),
                     Ok(read.length()),
@@ -93,17 +96,17 @@ fn what_is_read_is_written_back() {
             }
         }
     }
-    assert!(numbers.into_iter().eq(10..=13));
+    assert!(numbers.into_iter().eq((10..=13).chain([16])));
 }
 
 #[test]
 fn what_a_record_writes_is_read_to_its_fields() {
-    let mut numbers = BTreeSet::new();
+    let (mut numbers, mut rests) = (BTreeSet::new(), BTreeSet::new());
     for seed in seeds("what_a_record_writes_is_read_to_its_fields", 20_000) {
         let random = &mut Random::new(seed);
         let node = records::any(random);
         let length = random.below(SLOT + 28);
-        let before = random.bytes(length);
+        let before = if random.chance(1, 2) { vec![0; length] } else { random.bytes(length) };
         let mut after = before.clone();
         match node.write(&mut after) {
             Ok(length) => {
@@ -111,7 +114,8 @@ fn what_a_record_writes_is_read_to_its_fields() {
                 assert_eq!(after[length..], before[length..], "seed {seed}");
                 assert_eq!(length == 0, node.round == 2 && node.select == 0, "seed {seed}");
                 if length > 0 {
-                    let read = message::read(&after).unwrap_or_else(|refusal| panic!("seed {seed}: {refusal:?}"));
+                    let (bytes, rest) = after.split_at(length);
+                    let read = message::read(bytes).unwrap_or_else(|refusal| panic!("seed {seed}: {refusal:?}"));
                     assert_eq!((read.length(), read.kind()), (length, node.round), "seed {seed}");
                     assert_eq!((read.run, read.phase), (node.run, node.phase), "seed {seed}");
                     let plan = if node.round == 2 { node.select } else { node.vote };
@@ -122,7 +126,12 @@ fn what_a_record_writes_is_read_to_its_fields() {
                         .filter(|&(_, plan)| plan != 0 && node.crew.class == 3 && node.round == 1)
                         .flat_map(|(phase, plan)| once(phase).chain(plan.to_le_bytes()))
                         .collect();
-                    assert_eq!(message::entries(&after), listed, "seed {seed}");
+                    assert_eq!(message::entries(bytes), listed, "seed {seed}");
+                    // What stood in the buffer before is residue now, unless it is zero.
+                    let is_clear = rest.iter().all(|&byte| byte == 0);
+                    let whole = if is_clear { (Ok(read), &listed[..]) } else { (Err(Refusal::Residue), &[][..]) };
+                    assert_eq!((message::read(&after), message::entries(&after)), whole, "seed {seed}");
+                    rests.insert((read.kind(), is_clear));
                 }
             }
             Err(refusal) => {
@@ -132,6 +141,7 @@ fn what_a_record_writes_is_read_to_its_fields() {
         }
     }
     assert!(numbers.into_iter().eq(7..=9));
+    assert_eq!(rests.len(), 6);
 }
 
 /// Also: every refusal, and every answer of the selection in every class, comes up in these cases.
@@ -213,7 +223,7 @@ fn the_order_of_slots_and_absent_slots_play_no_part() {
             let bytes = &inbox[SLOT * from..SLOT * (from + 1)];
             match message::read(bytes) {
                 Ok(read) if (read.run, read.kind(), read.phase) == (node.run, node.round, node.phase) => {
-                    inboxes::fill(random, slot, &bytes[..read.length()]);
+                    inboxes::fill(slot, &bytes[..read.length()]);
                 }
                 _ => slot.fill(0),
             }

@@ -32,7 +32,7 @@ fn the_engine_is_equal_to_itself() {
 
 #[test]
 fn every_mutant_is_told_from_the_engine() {
-    let cases = Cases { rounds: 2_000, runs: 100, schedules: 600, drills: 200 };
+    let cases = Cases { reads: 2_000, rounds: 2_000, runs: 100, schedules: 600, drills: 200 };
     if let Err(failure) = tell_all(&Second::default(), cases) {
         panic!("{failure}");
     }

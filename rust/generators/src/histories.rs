@@ -26,7 +26,7 @@ pub fn inbox(random: &mut Random, node: &Node, pool: &[Plan]) -> Vec<u8> {
             Some(&rank) => scene.counting(random, place, supporters, rank < listers),
             None => scene.stray(random),
         };
-        inboxes::fill(random, &mut inbox[SLOT * q..SLOT * (q + 1)], &bytes);
+        inboxes::fill(&mut inbox[SLOT * q..SLOT * (q + 1)], &bytes);
     }
     inbox
 }

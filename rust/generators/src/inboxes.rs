@@ -1,4 +1,5 @@
-//! Inboxes for a record: every mixture of counting, foreign, malformed and hostile slots, with counts at the bounds.
+//! Inboxes for a record: every mixture of counting, foreign, malformed and hostile slots, some with residue, with
+//! counts at the bounds.
 
 use crate::messages::{self, Fields};
 use crate::random::Random;
@@ -20,13 +21,17 @@ pub fn whole(random: &mut Random, node: &Node, pool: &[Plan]) -> Vec<u8> {
     let leaders = if random.chance(1, 2) { near_bound(random, node.crew) } else { random.between(0, count) };
     let scene = Scene::new(random, node, pool);
     for (place, q) in random.order(n).into_iter().enumerate() {
-        let slot = &mut inbox[SLOT * q..SLOT * (q + 1)];
-        if place < count {
-            let bytes = scene.counting(random, node, place < leaders);
-            fill(random, slot, &bytes);
+        let bytes = if place < count {
+            scene.counting(random, node, place < leaders)
+        } else if random.chance(1, 4) {
+            // One more of them, but for what stands behind it.
+            let is_leading = random.chance(1, 2);
+            let bytes = scene.counting(random, node, is_leading);
+            messages::with_residue_in_slot(random, bytes)
         } else {
-            absent(random, slot, node, pool);
-        }
+            absent(random, node, pool)
+        };
+        fill(&mut inbox[SLOT * q..SLOT * (q + 1)], &bytes);
     }
     if random.chance(1, 6) {
         repeat_slots(random, &mut inbox);
@@ -114,24 +119,22 @@ impl Scene {
     }
 }
 
-/// Puts the bytes at the slot's front, sometimes with rubbish behind them.
-pub fn fill(random: &mut Random, slot: &mut [u8], bytes: &[u8]) {
+/// Puts the bytes at the slot's front, with zeros behind them.
+pub fn fill(slot: &mut [u8], bytes: &[u8]) {
     slot.fill(0);
     let length = bytes.len().min(slot.len());
     slot[..length].copy_from_slice(&bytes[..length]);
-    if random.chance(1, 4) {
-        slot[length..].fill_with(|| random.byte());
-    }
 }
 
-/// A slot that hardly ever counts: cleared, of another run, kind or phase, malformed, or random.
-pub fn absent(random: &mut Random, slot: &mut [u8], node: &Node, pool: &[Plan]) {
+/// What a slot holds that hardly ever counts: nothing, a message of another run, kind or phase, a malformed one, one
+/// with residue, or random bytes.
+fn absent(random: &mut Random, node: &Node, pool: &[Plan]) -> Vec<u8> {
     // A record that is not sound can stand at a phase that no message has.
     let phase = node.phase.clamp(1, LAST_PHASE);
     let kind = u16::from(node.round.clamp(1, 3));
     let mut fields = messages::within(random, kind, node.run, phase, pool);
     let other_phase = random.between(1, usize::from(LAST_PHASE)) as u8;
-    let bytes = match random.below(9) {
+    let bytes = match random.below(10) {
         0..=2 => Vec::new(),
         3 => {
             fields.run ^= 1 << random.below(32);
@@ -141,14 +144,24 @@ pub fn absent(random: &mut Random, slot: &mut [u8], node: &Node, pool: &[Plan]) 
         5 => messages::within(random, kind, node.run, other_phase, pool).layout(),
         6 => messages::damaged(random),
         7 => almost_counting(random, fields),
+        8 => return messages::with_residue_in_slot(random, fields.layout()),
         _ => random.bytes(SLOT),
     };
-    fill(random, slot, &bytes);
+    sometimes_with_residue(random, bytes)
+}
+
+/// What does not count anyway may have residue behind it as well.
+pub fn sometimes_with_residue(random: &mut Random, bytes: Vec<u8>) -> Vec<u8> {
+    if random.chance(1, 4) {
+        messages::with_residue_in_slot(random, bytes)
+    } else {
+        bytes
+    }
 }
 
 /// The message made such that it hardly ever counts: of another run or phase, or refused.
 pub fn not_counting(random: &mut Random, mut fields: Fields) -> Vec<u8> {
-    match random.below(4) {
+    match random.below(5) {
         0 => fields.run ^= 1 << random.below(32),
         1 => {
             // The stamp, and an entry of its phase, stay within the bounds.
@@ -157,6 +170,7 @@ pub fn not_counting(random: &mut Random, mut fields: Fields) -> Vec<u8> {
             fields.entries.retain(|&(phase, _)| phase < fields.phase);
             fields.k = fields.entries.len() as u8;
         }
+        2 => return messages::with_residue_in_slot(random, fields.layout()),
         _ => return almost_counting(random, fields),
     }
     fields.layout()

@@ -1,9 +1,9 @@
-//! Messages as bytes: within the bounds, damaged, truncated.
+//! Messages as bytes: within the bounds, damaged, truncated, with zeros or residue behind them.
 
 use crate::plans;
 use crate::random::Random;
 use second_engine::inbox::SLOT;
-use second_engine::message::{DECISION_LENGTH, HEADER, LAST_PHASE, MOST_ENTRIES, SELECTION_LENGTH};
+use second_engine::message::{DECISION_LENGTH, ENTRY, HEADER, LAST_PHASE, MOST_ENTRIES, SELECTION_LENGTH};
 use second_engine::Plan;
 
 /// The fields of a message. Nothing keeps them within the bounds; k stands on its own, to be wrong where asked.
@@ -86,14 +86,81 @@ pub fn any_within(random: &mut Random) -> Fields {
     within(random, kind, run, phase, &pool)
 }
 
-/// A message within the bounds, sometimes with bytes after it.
+/// A message within the bounds, often with zeros after it.
 pub fn valid(random: &mut Random) -> Vec<u8> {
     let mut bytes = any_within(random).layout();
-    if random.chance(1, 3) {
-        let tail = random.between(1, 40);
-        bytes.extend(random.bytes(tail));
+    if random.chance(1, 2) {
+        let room = room(random, bytes.len());
+        bytes.resize(bytes.len() + room, 0);
     }
     bytes
+}
+
+/// How many bytes there are behind a message of this length: few, as many as fill a slot, or more.
+fn room(random: &mut Random, length: usize) -> usize {
+    let few = random.between(1, 40);
+    let rest = SLOT.saturating_sub(length).max(1);
+    random.pick(&[1, few, rest, rest + few])
+}
+
+/// The bytes of a message with residue behind them.
+pub fn with_residue(random: &mut Random, mut bytes: Vec<u8>) -> Vec<u8> {
+    let length = bytes.len();
+    let room = room(random, length);
+    bytes.resize(length + room, 0);
+    put_residue(random, &mut bytes, length);
+    bytes
+}
+
+/// The bytes of a message with residue behind them, as they lie in a slot. Where they leave no room for any, or there
+/// are none, the slot is one whose header was cleared.
+pub fn with_residue_in_slot(random: &mut Random, mut bytes: Vec<u8>) -> Vec<u8> {
+    if bytes.len() >= SLOT {
+        bytes.clear();
+    }
+    let length = bytes.len().max(HEADER);
+    bytes.resize(SLOT, 0);
+    put_residue(random, &mut bytes, length);
+    bytes
+}
+
+/// Puts residue behind a message of this length, where the slice has zeros and at least one: a byte at the front, in
+/// the middle or at the end, several, random ones, or what a port driver leaves.
+fn put_residue(random: &mut Random, slice: &mut [u8], length: usize) {
+    let rest = &mut slice[length..];
+    let (any_place, last) = (random.below(rest.len()), rest.len() - 1);
+    match random.below(8) {
+        0 => rest[0] = not_zero(random),
+        1 => rest[any_place] = not_zero(random),
+        2 => rest[last] = not_zero(random),
+        3 => (0..random.between(2, 8)).for_each(|_| rest[random.below(last + 1)] = random.byte()),
+        4 => rest.fill_with(|| random.byte()),
+        _ => {
+            let older = longer_than(random, length);
+            rest.iter_mut().zip(older.into_iter().skip(length)).for_each(|(byte, old)| *byte = old);
+        }
+    }
+    // What was drawn or left there may be zero throughout.
+    if rest.iter().all(|&byte| byte == 0) {
+        rest[any_place] = not_zero(random);
+    }
+}
+
+fn not_zero(random: &mut Random) -> u8 {
+    let any_byte = random.between(1, 255) as u8;
+    random.pick(&[1, 128, 255, any_byte])
+}
+
+/// An older message of more bytes than these, if a message can have more: a selection that lists every phase before its
+/// own. A short message is laid over its front.
+fn longer_than(random: &mut Random, length: usize) -> Vec<u8> {
+    let entries = length.saturating_sub(SELECTION_LENGTH) / ENTRY + 1;
+    let phase = random.between(entries.min(usize::from(MOST_ENTRIES)), usize::from(LAST_PHASE)) as u8;
+    let (pool, run) = (plans::pool(random), random.number() as u32);
+    let mut fields = within(random, 1, run, phase, &pool);
+    fields.entries = (0..phase).map(|earlier| (earlier, random.pick(&pool))).collect();
+    fields.k = phase;
+    fields.layout()
 }
 
 /// A message with one field, length or byte changed.
@@ -187,12 +254,20 @@ pub fn truncated(random: &mut Random) -> Vec<u8> {
     bytes
 }
 
-/// Any slice: valid, damaged, truncated, or random bytes.
+/// Any slice: valid, with residue, damaged, damaged and with residue, truncated, or random bytes.
 pub fn any(random: &mut Random) -> Vec<u8> {
-    match random.below(8) {
+    match random.below(12) {
         0..=2 => valid(random),
-        3..=5 => damaged(random),
-        6 => truncated(random),
+        3 | 4 => {
+            let bytes = any_within(random).layout();
+            with_residue(random, bytes)
+        }
+        5..=7 => damaged(random),
+        8 | 9 => {
+            let bytes = damaged(random);
+            with_residue(random, bytes)
+        }
+        10 => truncated(random),
         _ => {
             let count = random.below(SLOT + 18);
             random.bytes(count)

@@ -256,7 +256,7 @@ impl Scene<'_> {
         (0..usize::from(self.setup.crew.n)).map(|from| self.choose(random, from, 0, true)).collect()
     }
 
-    /// What comes from one number to another. Circle nodes are always heard where asked.
+    /// What comes from one number to another. Circle nodes are always heard where asked. Residue is one way to be lost.
     fn choose(&self, random: &mut Random, from: usize, to: usize, in_circle: bool) -> Option<Vec<u8>> {
         if !self.setup.is_honest[from] {
             return self.lie(random, to);
@@ -264,7 +264,7 @@ impl Scene<'_> {
         let bytes = self.written[from].as_ref()?;
         let is_heard = in_circle && self.weather.circle.contains(&from);
         if !is_heard && (self.weather.is_lost(random, self.round, from, to) || self.is_censored(bytes, to)) {
-            return None;
+            return random.chance(1, 4).then(|| messages::with_residue_in_slot(random, bytes.clone()));
         }
         Some(bytes.clone())
     }
@@ -313,29 +313,26 @@ impl Scene<'_> {
     /// Fills a slot; without a message it holds something that does not count.
     fn put_or_absent(&self, random: &mut Random, slot: &mut [u8], bytes: Option<&[u8]>) {
         match bytes {
-            Some(bytes) => inboxes::fill(random, slot, bytes),
+            Some(bytes) => inboxes::fill(slot, bytes),
             None => self.absent(random, slot),
         }
     }
 
     fn absent(&self, random: &mut Random, slot: &mut [u8]) {
-        match random.below(5) {
-            0 | 1 => slot.fill(0),
+        let bytes = match random.below(5) {
+            0 | 1 => Vec::new(),
             2 if !self.old.is_empty() => {
                 let place = random.below(self.old.len());
-                inboxes::fill(random, slot, &self.old[place]);
+                inboxes::sometimes_with_residue(random, self.old[place].clone())
             }
             // One more that says what Byzantine nodes say, but does not count.
             3 => {
                 let fields = self.push(random, self.weather.favourite[0]);
-                let bytes = inboxes::not_counting(random, fields);
-                inboxes::fill(random, slot, &bytes);
+                inboxes::not_counting(random, fields)
             }
-            _ => {
-                let bytes = messages::any(random);
-                inboxes::fill(random, slot, &bytes);
-            }
-        }
+            _ => messages::any(random),
+        };
+        inboxes::fill(slot, &bytes);
         if self.is_counting(slot) {
             slot.fill(0);
         }

@@ -16,7 +16,7 @@ pub const ENTRY_PHASE: u64 = 1 << 32;
 /// The value of a least crew is this times its n, plus its D.
 pub const LEAST_N: u64 = 1 << 8;
 
-/// The number of a refusal: 01's 1 to 14, 02's 15, or one of the three below.
+/// The number of a refusal: 01's 1 to 14, 02's 15 and 16, or one of the three below.
 #[derive(Clone, Copy, Debug, PartialEq, Eq)]
 pub struct Refused(pub u8);
 
@@ -56,7 +56,8 @@ pub fn start(crew: [u8; 5], own: u8, run: u32, plan: u16, record: &mut [u8]) -> 
     answer(calls::start(crew, own, run, plan, record))
 }
 
-/// Writes the coming message to the buffer's front; the value is its length, 0 for silence.
+/// Writes the coming message to the buffer's front; the value is its length, 0 for silence. Bytes behind the message
+/// keep their values, and where they are not 0 reading them along with it is refused.
 pub fn write(record: &[u8], buffer: &mut [u8]) -> Answer {
     answer(calls::write(record, buffer))
 }
@@ -76,12 +77,14 @@ pub fn result(record: &[u8]) -> Answer {
     answer(calls::result(record))
 }
 
-/// Reads the message at the front of a slice and lays its fields out.
+/// Reads the message at the front of a slice and lays its fields out. The bytes behind it have to be 0: a message that
+/// is in order but for them is refused with 16.
 pub fn read(bytes: &[u8], fields: &mut [u8]) -> Answer {
     answer(calls::read(bytes, fields))
 }
 
-/// Entry i of the message at the front of a slice: `ENTRY_PHASE` times its phase, plus its plan.
+/// Entry i of the message at the front of a slice: `ENTRY_PHASE` times its phase, plus its plan. Where `read` refuses
+/// the message, this refuses with the same number.
 pub fn entry(bytes: &[u8], i: usize) -> Answer {
     answer(calls::entry(bytes, i))
 }

@@ -76,7 +76,7 @@ pub fn counting<'a>(node: &Node, inbox: &'a [u8], mutation: Mutation) -> Countin
     let mut counting = Counting { ballots: [Ballot::default(); Crew::MOST_NODES], count: 0, strays: 0 };
     // 01: "slot q is the part that starts at byte 202 times q"
     for slot in inbox.chunks_exact(SLOT) {
-        match message::read_with_entries(slot) {
+        match message::read_with_entries_mutated(slot, mutation) {
             Ok((message, entries)) => {
                 if is_of_coming_round(node, &message) {
                     counting.push(Ballot { vote: message.plan(), stamp: message.stamp(), entries });
@@ -137,10 +137,10 @@ fn add_strays<'a>(counting: &mut Counting<'a>, node: &Node, inbox: &'a [u8], mut
         let Ok((message, entries)) = message::parse(slot) else {
             continue;
         };
-        let (is_coming, is_read) = (is_of_coming_round(node, &message), message.is_within_bounds(entries));
+        let is_coming = is_of_coming_round(node, &message);
         let is_stray = match mutation {
-            Mutation::ForeignSlotsList => is_read && !is_coming,
-            _ => is_coming && !is_read,
+            Mutation::ForeignSlotsList => !is_coming && message::read(slot).is_ok(),
+            _ => is_coming && !message.is_within_bounds(entries),
         };
         if is_stray {
             counting.push_stray(message::entries_before_a_broken_one(message.phase, entries));

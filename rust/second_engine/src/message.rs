@@ -1,5 +1,6 @@
 //! Messages: reading, their entries, and their one encoding (01, 'Messages'). Messages know nothing of crews.
 
+use crate::mutation::Mutation;
 use crate::plan::{self, Plan};
 use crate::refusal::Refusal;
 
@@ -118,15 +119,25 @@ pub(crate) fn entries_before_a_broken_one(phase: u8, entries: &[u8]) -> &[u8] {
     &entries[..end]
 }
 
-/// Reads the message at the slice's front.
+/// Reads the message at the slice's front, behind which there are zeros only.
 pub fn read(slice: &[u8]) -> Result<Message, Refusal> {
     read_with_entries(slice).map(|(message, _)| message)
+}
+
+/// As `read`, with a wrong rule.
+pub fn read_mutated(slice: &[u8], mutation: Mutation) -> Result<Message, Refusal> {
+    read_with_entries_mutated(slice, mutation).map(|(message, _)| message)
 }
 
 /// 01: "A second answer to a read, got on its own, shows the entries as a part of the caller's slice: an empty part for
 /// kinds 2 and 3 and where reading refuses."
 pub fn entries(slice: &[u8]) -> &[u8] {
     read_with_entries(slice).map_or(&[], |(_, entries)| entries)
+}
+
+/// As `entries`, with a wrong rule.
+pub fn entries_mutated(slice: &[u8], mutation: Mutation) -> &[u8] {
+    read_with_entries_mutated(slice, mutation).map_or(&[], |(_, entries)| entries)
 }
 
 /// Both answers to a read at once.
@@ -136,11 +147,44 @@ pub fn read_with_entries(slice: &[u8]) -> Result<(Message, &[u8]), Refusal> {
     if !message.is_within_bounds(entries) {
         return Err(Refusal::Bound);
     }
+    // 02 (C-12): "It refuses with 16 a read with a non-zero byte after the length, tested after 13."
+    if !is_clear(&slice[message.length()..]) {
+        return Err(Refusal::Residue);
+    }
     Ok((message, entries))
 }
 
-/// What the layout gives, not yet held to the bounds.
-pub(crate) fn parse(slice: &[u8]) -> Result<(Message, &[u8]), Refusal> {
+/// 02 (C-12): "Bytes of the slice after a message must now be zero." All are looked at, whatever the first ones are, so
+/// that the compiler tests several at once.
+fn is_clear(rest: &[u8]) -> bool {
+    rest.iter().fold(0, |found, byte| found | byte) == 0
+}
+
+/// As `read_with_entries`, with a wrong rule. What the engine reads every mutant reads too, so that only a refusal is
+/// looked at again.
+pub(crate) fn read_with_entries_mutated(slice: &[u8], mutation: Mutation) -> Result<(Message, &[u8]), Refusal> {
+    read_with_entries(slice).or_else(|refusal| match mutation {
+        Mutation::Unmutated => Err(refusal),
+        _ => read_refused(slice, refusal, mutation),
+    })
+}
+
+/// The rules of the mutants of reading, for a slice that the engine refuses. To let residue pass is to read the slice
+/// without it. Cold, so that the engine's own reads are compiled as if there were no mutants.
+#[cold]
+fn read_refused(slice: &[u8], refusal: Refusal, mutation: Mutation) -> Result<(Message, &[u8]), Refusal> {
+    let (bytes, rest) = slice.split_at(framed_length(slice)?);
+    match mutation {
+        Mutation::ResidueIgnored => read_with_entries(bytes),
+        Mutation::FirstByteOfResidue if rest.first() == Some(&0) => read_with_entries(bytes),
+        Mutation::ResidueOfDecisions if kind_of(bytes) == 3 => read_with_entries(bytes),
+        Mutation::ResidueFirst if !is_clear(rest) => Err(Refusal::Residue),
+        _ => Err(refusal),
+    }
+}
+
+/// The length that stands in the header, where the slice has that many bytes.
+fn framed_length(slice: &[u8]) -> Result<usize, Refusal> {
     // 01: "10 slice under 9 bytes, length under 9, or length beyond the slice"
     if slice.len() < HEADER {
         return Err(Refusal::Slice);
@@ -149,13 +193,17 @@ pub(crate) fn parse(slice: &[u8]) -> Result<(Message, &[u8]), Refusal> {
     if length < HEADER || length > slice.len() {
         return Err(Refusal::Slice);
     }
-    // 01: "Bytes after the length are ignored."
-    let bytes = &slice[..length];
-    let kind = two_bytes(bytes, 2);
+    Ok(length)
+}
+
+/// What the layout gives, held neither to the bounds nor to what follows.
+pub(crate) fn parse(slice: &[u8]) -> Result<(Message, &[u8]), Refusal> {
+    let bytes = &slice[..framed_length(slice)?];
+    let length = bytes.len();
     let run = u32::from_le_bytes([bytes[4], bytes[5], bytes[6], bytes[7]]);
     let phase = bytes[8];
     // 01: "11 kind not 1 to 3"; then "12 length not that of the kind"
-    let (body, entries) = match kind {
+    let (body, entries) = match kind_of(bytes) {
         1 => {
             // 01: "kind 1: under 13, or not 13 + 3k for the k that stands there, k above 63 included"
             if length < SELECTION_LENGTH || length != SELECTION_LENGTH + ENTRY * usize::from(bytes[COUNT]) {
@@ -179,6 +227,10 @@ pub(crate) fn parse(slice: &[u8]) -> Result<(Message, &[u8]), Refusal> {
         _ => return Err(Refusal::Kind),
     };
     Ok((Message { run, phase, body }, entries))
+}
+
+fn kind_of(bytes: &[u8]) -> u16 {
+    two_bytes(bytes, 2)
 }
 
 /// 01: "byte order is little-endian"

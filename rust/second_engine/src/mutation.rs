@@ -68,6 +68,15 @@ pub enum Mutation {
     NextBAnswered,
     /// or a class that no crew has is refused with 1, as in accepting a crew.
     ClassRefusedWithOne,
+    /// Against 02 (C-12): "Bytes of the slice after a message must now be zero." They are ignored, as they were before,
+    ResidueIgnored,
+    /// or only the first of them must be zero,
+    FirstByteOfResidue,
+    /// or those after a decision may be anything.
+    ResidueOfDecisions,
+    /// Against "It refuses with 16 a read with a non-zero byte after the length, tested after 13." It is tested as soon
+    /// as the length is known, before 11, 12 and 13.
+    ResidueFirst,
 }
 
 impl Mutation {
@@ -107,5 +116,15 @@ impl Mutation {
         Mutation::LastFRefused,
         Mutation::NextBAnswered,
         Mutation::ClassRefusedWithOne,
+    ];
+
+    /// Every mutant with a wrong rule in reading, which shows in rounds and runs too, and not in drills, where every
+    /// slot is made anew.
+    pub const MUTANTS_OF_READING: [Mutation; 4] = [
+        Mutation::ResidueIgnored,
+        Mutation::FirstByteOfResidue,
+        Mutation::ResidueOfDecisions,
+        // This one shows in reading alone: under either number the slot is absent.
+        Mutation::ResidueFirst,
     ];
 }

@@ -34,11 +34,13 @@ pub enum Refusal {
     InboxLength = 14,
     /// 02 (C-11): "It refuses with 15 a lookup outside these ranges, tested first."
     Range = 15,
+    /// 02 (C-12): "It refuses with 16 a read with a non-zero byte after the length, tested after 13."
+    Residue = 16,
 }
 
 impl Refusal {
     /// Every refusal, in the order of the numbers.
-    pub const ALL: [Refusal; 15] = [
+    pub const ALL: [Refusal; 16] = [
         Refusal::Class,
         Refusal::Nodes,
         Refusal::DecisionOutOfReach,
@@ -54,9 +56,10 @@ impl Refusal {
         Refusal::Bound,
         Refusal::InboxLength,
         Refusal::Range,
+        Refusal::Residue,
     ];
 
-    /// The paper's number, 1 to 15: 1 to 14 are 01's, 15 is 02's.
+    /// The paper's number, 1 to 16: 1 to 14 are 01's, 15 and 16 are 02's.
     pub const fn number(self) -> u8 {
         self as u8
     }

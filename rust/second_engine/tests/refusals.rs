@@ -1,4 +1,4 @@
-//! Every refusal number of 01, in the paper's order: the first that applies is given.
+//! Every refusal number of 01, and 02's 16, in the papers' order: the first that applies is given.
 
 use second_engine::inbox::SLOT;
 use second_engine::node::{DECISION, SELECTION, VALIDATION};
@@ -136,13 +136,58 @@ fn reading() {
     assert_eq!(read(&bytes), 12);
 }
 
+/// The bytes of a slice after the message.
+#[test]
+fn residue() {
+    let read = |bytes: &[u8], rest: &[u8]| number(message::read(&[bytes, rest].concat()));
+    let selection = [16, 0, 1, 0, 1, 0, 0, 0, 5, 5, 0, 4, 1, 3, 7, 1];
+    let validation = [11, 0, 2, 0, 1, 0, 0, 0, 5, 5, 0];
+    let decision = [12, 0, 3, 0, 1, 0, 0, 0, 5, 5, 0, 5];
+    for message in [&selection[..], &validation, &decision] {
+        assert_eq!(read(message, &[]), 0);
+        assert_eq!(read(message, &[0]), 0);
+        assert_eq!(read(message, &[0; SLOT + 1]), 0);
+        assert_eq!(read(message, &[1]), 16);
+        assert_eq!(read(message, &[1, 0, 0, 0]), 16);
+        assert_eq!(read(message, &[0, 0, 128, 0]), 16);
+        assert_eq!(read(message, &[0, 0, 0, 255]), 16);
+        // Two bytes whose sum is 0 in a byte.
+        assert_eq!(read(message, &[1, 255]), 16);
+        for place in 0..SLOT {
+            let mut rest = [0; SLOT];
+            rest[place] = 1;
+            assert_eq!(read(message, &rest), 16);
+        }
+    }
+    // The longest message fills its slot, so residue is beyond it.
+    let mut longest = vec![0; SLOT];
+    longest[..13].copy_from_slice(&[202, 0, 1, 0, 1, 0, 0, 0, 63, 5, 0, 0, 63]);
+    for (phase, entry) in (0..).zip(longest[13..].chunks_exact_mut(3)) {
+        entry.copy_from_slice(&[phase, 7, 1]);
+    }
+    assert_eq!(read(&longest, &[]), 0);
+    assert_eq!(read(&longest, &[0]), 0);
+    assert_eq!(read(&longest, &[1]), 16);
+    // The validation over the front of the older selection: what is left is stamp, k and entry.
+    assert_eq!(read(&validation, &selection[11..]), 16);
+    // What is refused with 10 to 13 keeps its number.
+    assert_eq!(read(&[8, 0, 2, 0, 1, 0, 0, 0, 5, 5, 0], &[1]), 10);
+    assert_eq!(read(&[13, 0, 2, 0, 1, 0, 0, 0, 5, 5, 0], &[1]), 10);
+    assert_eq!(read(&[11, 0, 4, 0, 1, 0, 0, 0, 5, 5, 0], &[1]), 11);
+    assert_eq!(read(&[10, 0, 2, 0, 1, 0, 0, 0, 5, 5, 0], &[1]), 12);
+    assert_eq!(read(&[11, 0, 2, 0, 1, 0, 0, 0, 5, 0, 0], &[1]), 13);
+    assert_eq!(read(&[12, 0, 3, 0, 1, 0, 0, 0, 5, 5, 0, 6], &[1]), 13);
+    assert_eq!(read(&[16, 0, 1, 0, 1, 0, 0, 0, 5, 5, 0, 4, 1, 5, 7, 1], &[1]), 13);
+}
+
 #[test]
 fn entries_are_a_part_of_the_slice() {
-    let slice = [16, 0, 1, 0, 1, 0, 0, 0, 5, 5, 0, 4, 1, 3, 7, 1, 99, 99];
+    let slice = [16, 0, 1, 0, 1, 0, 0, 0, 5, 5, 0, 4, 1, 3, 7, 1, 0, 0];
     let part = message::entries(&slice);
     assert_eq!(part, [3, 7, 1]);
     assert_eq!(part.as_ptr(), slice[13..].as_ptr());
     assert!(message::entries(&slice[..15]).is_empty());
+    assert!(message::entries(&[16, 0, 1, 0, 1, 0, 0, 0, 5, 5, 0, 4, 1, 3, 7, 1, 0, 9]).is_empty());
     assert!(message::entries(&[12, 0, 3, 0, 1, 0, 0, 0, 5, 5, 0, 5]).is_empty());
     assert!(message::entries(&[11, 0, 2, 0, 1, 0, 0, 0, 5, 5, 0]).is_empty());
 }
@@ -169,7 +214,8 @@ fn asking_and_taking() {
 
 #[test]
 fn numbers_and_refusals() {
-    assert!((1..=15).eq(Refusal::ALL.into_iter().map(Refusal::number)));
+    assert!((1..=16).eq(Refusal::ALL.into_iter().map(Refusal::number)));
     assert_eq!(Refusal::from_number(15), Some(Refusal::Range));
-    assert_eq!(Refusal::from_number(16), None);
+    assert_eq!(Refusal::from_number(16), Some(Refusal::Residue));
+    assert_eq!(Refusal::from_number(17), None);
 }

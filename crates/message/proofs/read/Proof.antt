@@ -1,142 +1,68 @@
 -- `read` meets its contract.
-use mathlib.Core.Path.{_≡_, sym, _∙_}
-use mathlib.Core.Bool.{true}
+use mathlib.Core.Path.{_≡_, sym, ap, _∙_}
 use mathlib.Core.List.{List}
-use Prim.Native.Nat.{ℕ, _≤_}
-use native.Mathlib.Omega.{arith}
-use lib.Dec.{eqb}
-use lib.ListN.{length}
+use Prim.Native.Nat.{ℕ}
 use borrow.Author.Needs.{needs}
 use denote.Ref.{now}
-use Rattle.wire.specs.Outcome.{accepted, require}
-use Rattle.message.specs.Layout.{headerSize}
-use Rattle.message.specs.Bounds.{within}
-use Rattle.message.specs.Encoding.{sizeOf}
-use Rattle.message.specs.Reading.{lengthAt, messageWith, bodyAt, framed, kindKnown, tested, readOf}
-use Rattle.message.specs.Promises.{HeldInFull}
-use Rattle.message.proofs.ReadLaws.{framed-long, size-held}
+use Rattle.wire.specs.Outcome.{Outcome}
+use Rattle.message.specs.Fields.{Message}
+use Rattle.message.specs.Reading.{frontOf, readAnswer}
+use Rattle.message.specs.declared.Reading.the-variants.{Message as Read}
+use Rattle.message.proofs.ReadLaws.{front-passes, rest-left, front-refused}
 use Rattle.message.proofs.read.Statement.{statement}
 use Rattle.message.proofs.read.Tie as tie
 
-is-framed-requires : tie.Need-is-framed-requires
-is-framed-requires c κs = search needs
+read-front-requires : tie.Need-read-front-requires
+read-front-requires c κs = search needs
 
--- behind the first test: the slice is framed, so it holds a header and as many bytes as its length says
-module _ (c : tie.Then1) where
+enum-known-front : tie.Need-enum-known-front
+enum-known-front c = search needs
+
+-- where the front is a message
+module _ (c : tie.After-known-told) where
+  abbrev called : tie.After-read-front
+  called = c .before .before .before
+
   abbrev slice : List ℕ
-  slice = now (c .before .before .before .args .s)
+  slice = now (called .before .before .args .s)
 
-  frame : framed slice ≡ true
-  frame = sym (c .before .is-framed .ensures) ∙ c .if1 .taken
+  abbrev found : Outcome Message
+  found = readAnswer (Read (c .before .front .given .0 .0)) slice
 
-  header-held : headerSize ≤ length slice
-  header-held = framed-long slice frame .0
+  front : frontOf slice ≡ found
+  front = sym (called .read-front .ensures) ∙ ap (λ r. readAnswer r slice) (c .before .front .given .1)
 
-  length-held : lengthAt slice ≤ length slice
-  length-held = framed-long slice frame .1
-
--- behind the second: the kind that was read is known
-module _ (c : tie.Then2) where
-  abbrev kind-read : tie.After-u16-at
-  kind-read = c .before .before
-
-  known : kindKnown (slice (kind-read .before)) ≡ true
-  known = rw (kind-read .u16-at .ensures) at (sym (c .before .is-kind .ensures) ∙ c .if2 .taken)
-
-u16-at-requires : tie.Need-u16-at-requires
-u16-at-requires c κs = omega (arith, header-held c)
-
-is-kind-requires : tie.Need-is-kind-requires
-is-kind-requires c κs = search needs
-
-has-length-requires : tie.Need-has-length-requires
-has-length-requires c κs =
-    let kind = c .before .before in
-    record {
-      header = header-held (kind .before);
-      whole = length-held (kind .before);
-      of-kind = record { same = kind .u16-at .ensures };
-    }
-
--- behind the third, the length: the slice holds its message in full, and only the bounds are left to answer
-module _ (c : tie.Then3) where
-  abbrev framed-at : tie.Then1
-  framed-at = kind-read (c .before .before) .before
-
-  abbrev s : List ℕ
-  s = slice framed-at
-
-  sized : eqb (lengthAt s) (sizeOf (bodyAt s)) ≡ true
-  sized = sym (c .before .has-length .ensures) ∙ c .if3 .taken
-
-  held : HeldInFull s (kind-read (c .before .before) .u16-at .result)
-  held = record {
-    whole = size-held s (frame framed-at) sized;
-    of-kind = record { same = kind-read (c .before .before) .u16-at .ensures };
-  }
-
-  bounds-left : readOf s
-      ≡ require (within (messageWith s (bodyAt s))) 13 (accepted (messageWith s (bodyAt s)))
-  unfolding readOf tested
-  bounds-left = simp (frame framed-at, known (c .before .before), sized)
-
-keeps-bounds-requires : tie.Need-keeps-bounds-requires
-keeps-bounds-requires c κs = held c
-
-run-of-requires : tie.Need-run-of-requires
-run-of-requires c κs = header-held (framed-at (c .before .before))
-
-shared-slice-read-t9 : tie.Need-shared-slice-read-t9
-shared-slice-read-t9 c = omega (arith, header-held (framed-at (c .before .before .before .before)))
-
-body-in-requires : tie.Need-body-in-requires
-body-in-requires c κs = held (c .before .before .before .before)
+is-clear-requires : tie.Need-is-clear-requires
+is-clear-requires c κs = front-passes (slice c) _ (front c) .is-framed
 
 returns : tie.Need-returns
 returns c =
-    let kept = c .before .before .before in
-    simp (
-      bounds-left (kept .before .before),
-      sym (kept .before .keeps-bounds .ensures) ∙ kept .if4 .taken,
-      c .before .before .run-of .ensures,
-      c .body-in .ensures,
-    )
+    let told = c .before .before in
+    simp (rest-left (slice told) _ (front told), sym (c .before .is-clear .ensures) ∙ c .if1 .taken)
+
+enum-known-front-2 : tie.Need-enum-known-front-2
+enum-known-front-2 c = search needs
 
 returns-2 : tie.Need-returns-2
-returns-2 c = simp (bounds-left (c .before .before), sym (c .before .keeps-bounds .ensures) ∙ c .if4 .left)
+returns-2 c =
+    let told = c .before .before in
+    simp (rest-left (slice told) _ (front told), sym (c .before .is-clear .ensures) ∙ c .if1 .left)
 
 returns-3 : tie.Need-returns-3
-unfolding readOf tested
 returns-3 c =
-    let of-kind = c .before .before in
-    let other-size = sym (c .before .has-length .ensures) ∙ c .if3 .left in
-    simp (frame (kind-read of-kind .before), known of-kind, other-size)
-
-returns-4 : tie.Need-returns-4
-unfolding readOf
-returns-4 c =
-    let kind = c .before .before in
-    let unknown = rw (kind .u16-at .ensures) at (sym (c .before .is-kind .ensures) ∙ c .if2 .left) in
-    simp (frame (kind .before), unknown)
-
-returns-5 : tie.Need-returns-5
-unfolding readOf
-returns-5 c = simp (sym (c .before .is-framed .ensures) ∙ c .if1 .left)
+    let called = c .before .before .before in
+    let s = now (called .before .before .args .s) in
+    let refused = sym (called .read-front .ensures) ∙ ap (λ r. readAnswer r s) (c .before .front2 .given .1) in
+    sym (front-refused s _ refused)
 
 pub read-spec : {M : Type 1} → statement M
 read-spec =
     tie.close
     (tie.spec
-    is-framed-requires
-    u16-at-requires
-    is-kind-requires
-    has-length-requires
-    keeps-bounds-requires
-    run-of-requires
-    shared-slice-read-t9
-    body-in-requires
+    read-front-requires
+    enum-known-front
+    is-clear-requires
     returns
+    enum-known-front-2
     returns-2
-    returns-3
-    returns-4
-    returns-5)
+    returns-3)

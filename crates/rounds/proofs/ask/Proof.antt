@@ -25,8 +25,8 @@ mul-if3 c = search needs
 coming-requires : tie.Need-coming-requires
 coming-requires c κs = search needs
 
-coming-entry-requires : tie.Need-coming-entry-requires
-coming-entry-requires c κs = search needs
+last-entry-requires : tie.Need-last-entry-requires
+last-entry-requires c κs = search needs
 
 outcome-requires : tie.Need-outcome-requires
 outcome-requires c κs =
@@ -39,7 +39,7 @@ outcome-requires c κs =
     let both = both-true (sound (a .node)) (eqb (a .node .round) 1) own in
     rw (c .before .coming .ensures)
     (sound-heard (a .node) true (now (a .inbox)) _ (both .0) (unspent .if2 .taken) (sized .if3 .taken)
-    (c .coming-entry .ensures))
+    (c .last-entry .ensures))
 
 to-asking-requires : tie.Need-to-asking-requires
 to-asking-requires c κs = search needs
@@ -100,7 +100,7 @@ ask-spec =
     cast-n
     mul-if3
     coming-requires
-    coming-entry-requires
+    last-entry-requires
     outcome-requires
     to-asking-requires
     returns

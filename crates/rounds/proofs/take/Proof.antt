@@ -24,8 +24,8 @@ mul-if3 c = search needs
 coming-requires : tie.Need-coming-requires
 coming-requires c κs = search needs
 
-coming-entry-requires : tie.Need-coming-entry-requires
-coming-entry-requires c κs = search needs
+last-entry-requires : tie.Need-last-entry-requires
+last-entry-requires c κs = search needs
 
 outcome-requires : tie.Need-outcome-requires
 outcome-requires c κs =
@@ -36,7 +36,7 @@ outcome-requires c κs =
     let ok = sym (asked .before .is-sound .ensures) ∙ asked .if1 .taken in
     rw (c .before .coming .ensures)
     (sound-heard (a .node) false (now (a .inbox)) _ ok (unspent .if2 .taken) (sized .if3 .taken)
-    (c .coming-entry .ensures))
+    (c .last-entry .ensures))
 
 plan-in-requires : tie.Need-plan-in-requires
 plan-in-requires c κs = search needs
@@ -100,7 +100,7 @@ take-spec =
     cast-n
     mul-if3
     coming-requires
-    coming-entry-requires
+    last-entry-requires
     outcome-requires
     plan-in-requires
     after-plan-requires

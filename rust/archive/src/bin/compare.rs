@@ -71,7 +71,7 @@ fn compare_once(archive: &Archive, first: u64) -> Result<(), String> {
     lookups::compare_all(lookups::every(), archive, &Second::default())?;
     compare_longest_drill(archive)?;
     compare_all(archive, first, 1)?;
-    tell_all(archive, Cases { rounds: 2_000, runs: 100, schedules: 400, drills: 100 })
+    tell_all(archive, Cases { reads: 2_000, rounds: 2_000, runs: 100, schedules: 400, drills: 100 })
 }
 
 fn compare_for(archive: &Archive, first: u64, time: Duration) -> Result<(), String> {
