@@ -38,8 +38,8 @@ pub read-of-padded : (m : Message) (k : ℕ) → within m ≡ true → Fits m
     → readOf (encode m ++ replicate k 0) ≡ accepted m
 read-of-padded m k ok fits = simp (read-of-written m (replicate k 0) ok fits, zeros-clear k)
 
--- Law 2: for every slice that is read to a message, the slice is that message's encoding and zeros, and the message keeps
--- the bounds. That the slice holds bytes is the only premise.
+-- Law 2: for every slice that is read to a message, the slice is that message's encoding and zeros, and the message
+-- keeps the bounds. That the slice holds bytes is the only premise.
 pub padded-of-read : (s : List ℕ) (m : Message) → AreBytes s → readOf s ≡ accepted m
     → (s ≡ encode m ++ replicate (length s - sizeOf (m .body)) 0) × (within m ≡ true) × Fits m
 padded-of-read s m bytes e =

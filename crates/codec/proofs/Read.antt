@@ -1,5 +1,5 @@
--- What is read at the front of a slice is, byte for byte, what its fields are written as, and keeps the bounds. Law 2 of
--- the codec, in Padded.antt, is made of it.
+-- What is read at the front of a slice is, byte for byte, what its fields are written as, and keeps the bounds. Law 2
+-- of the codec, in Padded.antt, is made of it.
 use mathlib.Core.Path.{_≡_, refl, sym, ap, _∙_, subst}
 use mathlib.Core.Bool.{true, _&&_}
 use mathlib.Core.List.{List, _∷_, _++_}
@@ -152,8 +152,8 @@ module _ (s : List ℕ) (bytes : AreBytes s) (long : headerSize ≤ length s) (w
       (ap (λ rest. header (sizeOf body) (kindOf body) (numberAt runSize s runPlace) (getD s phasePlace 0) ++ rest)
       (stands .body-is))
 
--- For every slice whose front is read to a message: the slice begins with that message's encoding, and the message keeps
--- the bounds. That the slice holds bytes is the only premise.
+-- For every slice whose front is read to a message: the slice begins with that message's encoding, and the message
+-- keeps the bounds. That the slice holds bytes is the only premise.
 pub encode-of-front : (s : List ℕ) (m : Message) → AreBytes s → frontOf s ≡ accepted m
     → (s ≡ encode m ++ drop (sizeOf (m .body)) s) × (within m ≡ true) × Fits m
 encode-of-front s m bytes e =

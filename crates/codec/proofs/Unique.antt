@@ -1,5 +1,5 @@
--- The encoding is unique: two messages never share one, all slices that are read to a message begin with the same bytes,
--- and those of one length are the same bytes.
+-- The encoding is unique: two messages never share one, all slices that are read to a message begin with the same
+-- bytes, and those of one length are the same bytes.
 -- 01: "Fields within the bounds have one encoding, this layout; demand 2's written form of a read message is it."
 use mathlib.Core.Path.{_≡_, sym, ap, _∙_}
 use mathlib.Core.Bool.{true}

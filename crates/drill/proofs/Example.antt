@@ -60,10 +60,10 @@ examples =
 -- every script of the table prints what stands beside it
 pub examples-hold : map (λ e. drillOf (bytes (e .script))) examples ≡ map (λ e. bytes (e .output)) examples
 unfolding
-    acceptOf writeMessageOf entriesFrom entriesIn bodyAt tested frontOf allZero readOf entryBytes encode entriesOk decides decision
-    tally countIf gather valid validated lists possible backed backing enough selection leading mostVoted anyPlan taken
-    least leastOf emptyFrom sound begun blank startOf comingOf writeComingOf afterRound takeOf lineOf until onto
-    split valueFrom numberOf numbersFrom starts decimalOf fieldOf fieldsFrom resultLine badLine nothing withCut
-    withSay waitingFrom follow second first drillOf begunOf table sayBuffer slotsOf slotFrom nodeAfter resultsOf
-    goOf
+    acceptOf writeMessageOf entriesFrom entriesIn bodyAt tested frontOf allZero readOf entryBytes encode entriesOk
+    decides decision tally countIf gather valid validated lists possible backed backing enough selection leading
+    mostVoted anyPlan taken least leastOf emptyFrom sound begun blank startOf comingOf writeComingOf afterRound takeOf
+    lineOf until onto split valueFrom numberOf numbersFrom starts decimalOf fieldOf fieldsFrom resultLine badLine
+    nothing withCut withSay waitingFrom follow second first drillOf begunOf table sayBuffer slotsOf slotFrom nodeAfter
+    resultsOf goOf
 examples-hold = refl

@@ -98,6 +98,7 @@ abbrev pub cleared : List ℕ → Outcome Message → Outcome Message
 cleared s (accepted m) = require (allZero (restOf s)) 16 (accepted m)
 cleared s (refused number) = refused number
 
+-- reading: the front first, then what follows it
 unfoldable pub readOf : List ℕ → Outcome Message
 readOf s = cleared s (frontOf s)
 

@@ -444,8 +444,8 @@ fn read_front(s: &[u8]) -> Reading
     Reading::Refused(ReadRefusal::Cut)
 }
 
-// The bytes from one place up to another, joined bit by bit: 0 where all of them are. It looks at every one, also behind
-// one that is not, so that the compiler takes several at once.
+// The bytes from one place up to another, joined bit by bit: 0 where all of them are. It looks at every one, also
+// behind one that is not, so that the compiler takes several at once.
 fn joined(bytes: &[u8], from: usize, to: usize) -> u8
     requires { ⌜ to ≤ length (now bytes) ⌝ }
     ensures { λ r. ⌜ eqb r 0 ≡ allZero (bytesBetween from to (now (bytes .entry))) ⌝ }

@@ -20,9 +20,9 @@ use Rattle.node.proofs.Facts.{Typed, sound-facts}
 use Rattle.node.proofs.SendLaws.{write-accepted}
 use Rattle.node.proofs.Coming.{Says, coming-says, says-within, says-fits}
 
--- What a sound, unspent record writes is within a message's bounds. Where nothing but zeros follows it in a slice, reading
--- gives the message that `Says` spells out in the record's own fields: run and phase; in round 1 vote, stamp and entries,
--- in round 2 select, in round 3 vote and stamp. Where anything else follows, reading refuses with 16.
+-- What a sound, unspent record writes is within a message's bounds. Where nothing but zeros follows it in a slice,
+-- reading gives the message that `Says` spells out in the record's own fields: run and phase; in round 1 vote, stamp
+-- and entries, in round 2 select, in round 3 vote and stamp. Where anything else follows, reading refuses with 16.
 pub read-back : (d : Node) → Typed d → sound d ≡ true → d .phase < spentPhase → (m : Message) → comingOf d ≡ some m
     → Says d m
     × (within m ≡ true)
@@ -33,8 +33,8 @@ read-back d typed ok left m e =
     let bytes = ap encoded e in
     (says, bounds, λ tail. rw bytes (read-of-written m tail bounds (says-fits typed says)))
 
--- So the buffer after an accepted write is read to the message of the coming round where the bytes behind it are 0; else
--- it is refused with 16.
+-- So the buffer after an accepted write is read to the message of the coming round where the bytes behind it are 0;
+-- else it is refused with 16.
 pub written-read : (d : Node) → Typed d → (buffer : List ℕ) (size : ℕ) → writeComingOf d buffer ≡ accepted size
     → (m : Message) → comingOf d ≡ some m
     → readOf (comingBufferOf d buffer) ≡ require (allZero (drop size buffer)) 16 (accepted m)

@@ -1,5 +1,5 @@
 -- `are_zeros` meets its contract.
-use mathlib.Core.Path.{_≡_, ap₂, _∙_}
+use mathlib.Core.Path.{ap₂, _∙_}
 use mathlib.Core.Bool.{_&&_}
 use Prim.Native.Nat.{_-_, _%_}
 use native.Mathlib.Omega.{arith}

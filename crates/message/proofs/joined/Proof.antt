@@ -12,7 +12,8 @@ use Rattle.message.proofs.joined.Statement.{statement}
 use Rattle.message.proofs.joined.Tie as tie
 
 abbrev Inv-loop : tie.InvT-loop
-Inv-loop bytes from to seen₀ i₀ seen i = eqb seen 0 && allZero (bytesBetween i to bytes) ≡ allZero (bytesBetween from to bytes)
+Inv-loop bytes from to seen₀ i₀ seen i =
+    eqb seen 0 && allZero (bytesBetween i to bytes) ≡ allZero (bytesBetween from to bytes)
 
 abbrev μ-loop : tie.MeasureT-loop
 μ-loop bytes from to seen₀ i₀ seen i = to - i
