@@ -77,7 +77,7 @@ static void show_message(const uint8_t *record)
     printf("\n");
 }
 
-/* The same message in a buffer that held a longer one: what that one left behind it is refused. */
+/* The same message with zeros after it, and with one byte after it, as an older, longer message leaves it there. */
 static void show_residue(const uint8_t *record)
 {
     uint8_t message[RAIL_SLOT] = {0}, fields[RAIL_FIELDS];

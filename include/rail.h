@@ -76,7 +76,8 @@ extern "C" {
  *   2 validation   plan (2)                                                           11 bytes
  *   3 decision     vote (2), stamp (1)                                                12 bytes
  * Bounds: phase 1 to 63; plans not 0; stamp below the phase in kind 1, at most the phase in kind 3; entries whose
- * phases rise strictly and are below the message's phase. All bytes of the slice after the message must be 0.
+ * phases rise strictly and are below the message's phase. After the message every byte must be 0, up to
+ * the end of the slot or of what rail_read is lent.
  */
 
 /* The fields of a read message: their length, and where they stand. rail_entry tells the entries. */
@@ -114,8 +115,8 @@ uint64_t rail_start(uint8_t class_, uint8_t n, uint8_t b, uint8_t f, uint8_t d, 
                     uint16_t plan, uint8_t *record, size_t record_length);
 
 /* Writes the coming message to the buffer's front. The value is its length, 0 for silence. Bytes after the message keep
- * their values: clear a buffer that is used again, or send no more than the message. With the tail of an older message
- * behind it a slot is absent. Refuses 25, 7 to 9. */
+ * their values: send no more than the message, or clear the buffer before each write, the first too. A slot with
+ * anything but zeros after its message is absent (RAIL_RESIDUE). Refuses 25, 7 to 9. */
 uint64_t rail_write(const uint8_t *record, size_t record_length, uint8_t *buffer, size_t buffer_length);
 
 /* Takes the coming round: the record becomes the next one. The value is 0. Refuses 25, 7, 8, 14. */
@@ -127,7 +128,7 @@ uint64_t rail_ask(const uint8_t *record, size_t record_length, const uint8_t *in
 /* The record's standing result. The value is the plan, 0 before there is one. Refuses 25, 7. */
 uint64_t rail_result(const uint8_t *record, size_t record_length);
 
-/* Reads the message at the front of the bytes, behind which all are 0, and writes its fields. The value is 0. Refuses
+/* Reads the message at the front of the bytes, after which all are 0, and writes its fields. The value is 0. Refuses
  * 26, 10 to 13, 16. */
 uint64_t rail_read(const uint8_t *bytes, size_t bytes_length, uint8_t *fields, size_t fields_length);
 

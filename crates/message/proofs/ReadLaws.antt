@@ -11,7 +11,7 @@ use borrow.Author.Tests.{leb-true, eqb-true, eq-eqb, ne-eqb, le-leb}
 use Rattle.wire.specs.Outcome.{Outcome, accepted, refused, require}
 use Rattle.wire.specs.Sizes.{planSize}
 use Rattle.wire.proofs.Tests.{both-true}
-use Rattle.wire.proofs.Outcomes.{passed, same-value}
+use Rattle.wire.proofs.Outcomes.{refused-not-accepted, passed, same-value}
 use Rattle.message.specs.Layout.{headerSize, planPlace, countPlace, entriesPlace, entrySize}
 use Rattle.message.specs.Fields.{Body, selection, validation, decision, Message}
 use Rattle.message.specs.Bounds.{within}
@@ -113,7 +113,7 @@ pub rest-left : (s : List ℕ) (m : Message) → frontOf s ≡ accepted m
 unfolding readOf
 rest-left s m e = ap (cleared s) e
 
--- what is refused at the front is refused so
+-- a front that is refused is refused with its own number, whatever follows
 pub front-refused : (s : List ℕ) (number : ℕ) → frontOf s ≡ refused number → readOf s ≡ refused number
 unfolding readOf
 front-refused s number e = ap (cleared s) e
@@ -129,7 +129,7 @@ read-front s m e = go (frontOf s) refl e
     go (accepted k) front e =
         let rest = passed (allZero (restOf s)) 16 (accepted k) e in
         (front ∙ rest .1, rest .0)
-    go (refused number) front e = absurd (let z : _≡_ {A = ℕ} 0 1 = cc in omega arith)
+    go (refused number) front e = absurd (refused-not-accepted number m e)
 
 pub read-passes : (s : List ℕ) (m : Message) → readOf s ≡ accepted m → Passes s m
 read-passes s m e = front-passes s m (read-front s m e .0)

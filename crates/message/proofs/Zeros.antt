@@ -69,7 +69,7 @@ tested-twice true false c = refl
 tested-twice false b c = refl
 
 -- the bytes from a place to the end
-between-rest : (bytes : List ℕ) (from : ℕ) → bytesBetween from (length bytes) bytes ≡ drop from bytes
+pub between-rest : (bytes : List ℕ) (from : ℕ) → bytesBetween from (length bytes) bytes ≡ drop from bytes
 between-rest bytes from = take-all (length bytes - from) (drop from bytes) (le-of-eq (length-drop from bytes))
 
 pub zeros-whole : (bytes : List ℕ) → allZero (bytesBetween 0 (length bytes) bytes) ≡ allZero bytes

@@ -1,4 +1,5 @@
--- What the private functions ask of a slice and a row, and what they tell of a number and of the row.
+-- What the private functions ask of a slice and a row, and what they tell of a number, of a stretch of bytes and of the
+-- row.
 -- Promises of private functions: no public contract cites this file.
 use Prim.Native.Nat.{ℕ, _+_, _-_, _*_, _<_, _≤_}
 use mathlib.Core.Bool.{Bool, cond, _&&_}

@@ -94,7 +94,7 @@ pub const SELECTION_LENGTH: u16 = ENTRIES_AT as u16;
 // No phase: a byte does not hold it.
 const BROKEN: u16 = 256;
 
-// So many bytes are joined at once.
+// So many bytes the compiler joins at once: two vectors of the processor.
 const BLOCK: usize = 32;
 
 // Why reading refuses; `readNumber` in specs/Reading.antt has the papers' numbers.
@@ -444,8 +444,8 @@ fn read_front(s: &[u8]) -> Reading
     Reading::Refused(ReadRefusal::Cut)
 }
 
-// The bytes from one place up to another, joined bit by bit: 0 where all of them are. It looks at every one, also
-// behind one that is not, so that the compiler takes several at once.
+// The bytes from one place up to another, joined bit by bit: 0 exactly where all of them are, and nobody asks for more.
+// It looks at every one, also behind one that is not 0, so that the compiler takes several at once.
 fn joined(bytes: &[u8], from: usize, to: usize) -> u8
     requires { ⌜ to ≤ length (now bytes) ⌝ }
     ensures { λ r. ⌜ eqb r 0 ≡ allZero (bytesBetween from to (now (bytes .entry))) ⌝ }

@@ -65,6 +65,8 @@ impl Engine for Archive {
             .unwrap_or_else(|| panic!("the archive reads a message of kind {}", fields[image::FIELDS_KIND])))
     }
 
+    /// The archive shows entries one by one (`rail_entry`, which `boundary` compares): here they are the part of the
+    /// slice that `rail_read` tells of.
     fn entries<'a>(&self, slice: &'a [u8]) -> &'a [u8] {
         let mut fields = [0; FIELDS];
         match rail::read(slice, &mut fields) {

@@ -124,8 +124,8 @@ pub fn with_residue_in_slot(random: &mut Random, mut bytes: Vec<u8>) -> Vec<u8> 
     bytes
 }
 
-/// Puts residue behind a message of this length, where the slice has zeros and at least one: a byte at the front, in
-/// the middle or at the end, several, random ones, or what a port driver leaves.
+/// Puts residue behind a message of this length, where the slice has at least one byte, and only zeros: a byte at the
+/// front, in the middle or at the end, several, random ones, or what a port driver leaves.
 fn put_residue(random: &mut Random, slice: &mut [u8], length: usize) {
     let rest = &mut slice[length..];
     let (any_place, last) = (random.below(rest.len()), rest.len() - 1);

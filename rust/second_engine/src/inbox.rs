@@ -131,7 +131,8 @@ fn shift_histories<'a>(counting: &mut Counting<'a>, node: &Node, inbox: &'a [u8]
 }
 
 /// The rule of two mutants: slots that do not count list all the same. In the one they are read and of another run or
-/// phase; in the other they are of the coming round and break a bound, and list what stands before an entry that does.
+/// phase; in the other they are of the coming round and break a bound or have residue, and list what stands before an
+/// entry that is broken.
 fn add_strays<'a>(counting: &mut Counting<'a>, node: &Node, inbox: &'a [u8], mutation: Mutation) {
     for slot in inbox.chunks_exact(SLOT) {
         let Ok((message, entries)) = message::parse(slot) else {
@@ -140,7 +141,7 @@ fn add_strays<'a>(counting: &mut Counting<'a>, node: &Node, inbox: &'a [u8], mut
         let is_coming = is_of_coming_round(node, &message);
         let is_stray = match mutation {
             Mutation::ForeignSlotsList => !is_coming && message::read(slot).is_ok(),
-            _ => is_coming && !message.is_within_bounds(entries),
+            _ => is_coming && message::read(slot).is_err(),
         };
         if is_stray {
             counting.push_stray(message::entries_before_a_broken_one(message.phase, entries));

@@ -53,7 +53,7 @@ pub enum Mutation {
     /// round". Slots of another run or phase list all the same,
     ForeignSlotsList,
     /// and, against "a slot that reading refuses is simply absent", so do slots that break a bound, with the entries
-    /// before it.
+    /// before it, or have residue behind them, with all entries.
     RefusedSlotsList,
     /// Against 02 (C-11): "the least D accepted for that n". The D is the least that the next class accepts, where
     /// there is one.

@@ -1,7 +1,7 @@
 -- `are_zeros` meets its contract.
 use mathlib.Core.Path.{ap₂, _∙_}
 use mathlib.Core.Bool.{_&&_}
-use Prim.Native.Nat.{_-_, _%_}
+use Prim.Native.Nat.{ℕ, _-_, _%_}
 use native.Mathlib.Omega.{arith}
 use lib.ListN.{length}
 use borrow.Author.Needs.{needs}
@@ -25,6 +25,10 @@ joined-requires-2 c κs = search needs
 joined-requires-3 : tie.Need-joined-requires-3
 joined-requires-3 c κs = search needs
 
+-- as many bytes as the code joins at once
+abbrev block : ℕ
+block = 32
+
 -- the last block begins before the whole blocks end
 returns-2 : tie.Need-returns-2
 returns-2 c =
@@ -32,7 +36,7 @@ returns-2 c =
     let n = length bytes in
     or-zero (c .before .joined2 .result) (c .joined3 .result)
     ∙ ap₂ _&&_ (c .before .joined2 .ensures) (c .joined3 .ensures)
-    ∙ zeros-cover bytes (n - 32) (n - n % 32) (omega arith)
+    ∙ zeros-cover bytes (n - block) (n - n % block) (omega arith)
 
 pub are-zeros-spec : {M : Type 1} → statement M
 are-zeros-spec =

@@ -1,16 +1,15 @@
 -- `is_clear` meets its contract.
 use mathlib.Core.Path.{ap, _∙_}
-use native.Mathlib.Omega.{arith}
 use mathlib.Core.List.{List}
-use Prim.Native.Nat.{ℕ, _-_, _≤_}
-use native.Mathlib.Nat.{le-of-eq}
-use lib.ListN.{length, drop, length-drop}
-use lib.Seq.{take-all}
+use Prim.Native.Nat.{ℕ, _≤_}
+use native.Mathlib.Omega.{arith}
+use lib.ListN.{length, drop}
 use borrow.Author.Needs.{needs}
 use denote.Ref.{now}
 use Rattle.message.specs.Layout.{headerSize}
 use Rattle.message.specs.Reading.{lengthAt, allZero}
 use Rattle.message.proofs.ReadLaws.{framed-long}
+use Rattle.message.proofs.Zeros.{between-rest}
 use Rattle.message.proofs.is_clear.Statement.{statement}
 use Rattle.message.proofs.is_clear.Tie as tie
 
@@ -19,7 +18,7 @@ module _ (c : tie.Start) where
   abbrev s : List ℕ
   s = now (c .args .s)
 
-  pub held : (headerSize ≤ length s) × (lengthAt s ≤ length s)
+  held : (headerSize ≤ length s) × (lengthAt s ≤ length s)
   held = framed-long s (c .pre)
 
 u16-at-requires : tie.Need-u16-at-requires
@@ -49,8 +48,9 @@ returns c =
     let read = c .before .before in
     let s = now (read .before .before .args .s) in
     let size = read .u16-at .result in
-    let all = take-all (length s - size) (drop size s) (le-of-eq (length-drop size s)) in
-    c .are-zeros .ensures ∙ ap allZero all ∙ ap (λ size. allZero (drop size s)) (read .u16-at .ensures)
+    c .are-zeros .ensures
+    ∙ ap allZero (between-rest s size)
+    ∙ ap (λ size. allZero (drop size s)) (read .u16-at .ensures)
 
 pub is-clear-spec : {M : Type 1} → statement M
 is-clear-spec =
