@@ -76,8 +76,8 @@ extern "C" {
  *   2 validation   plan (2)                                                           11 bytes
  *   3 decision     vote (2), stamp (1)                                                12 bytes
  * Bounds: phase 1 to 63; plans not 0; stamp below the phase in kind 1, at most the phase in kind 3; entries whose
- * phases rise strictly and are below the message's phase. After the message every byte must be 0, up to
- * the end of the slot or of what rail_read is lent.
+ * phases rise strictly and are below the message's phase. After the message every byte must be 0, up to the end of the
+ * slot or of what rail_read is lent.
  */
 
 /* The fields of a read message: their length, and where they stand. rail_entry tells the entries. */
