@@ -9,6 +9,7 @@ use lib.ListN.{length, take, replicate}
 use lib.Seq.{take-at}
 use Rattle.wire.specs.Outcome.{accepted}
 use Rattle.wire.specs.Bytes.{AreBytes}
+use Rattle.wire.proofs.Outcomes.{same-value}
 use Rattle.message.specs.Fields.{Message}
 use Rattle.message.specs.Bounds.{within, Fits}
 use Rattle.message.specs.Encoding.{sizeOf, encode}
@@ -17,14 +18,11 @@ use Rattle.message.proofs.EncodeLaws.{encode-length}
 use Rattle.codec.proofs.Written.{front-of-encode}
 use Rattle.codec.proofs.Padded.{padded-of-read}
 
-same-message : (m k : Message) → accepted m ≡ accepted k → m ≡ k
-same-message m k e = cc
-
 -- one run of bytes encodes one message, whatever follows it
 pub one-message : (m k : Message) (s t : List ℕ) → within m ≡ true → Fits m → within k ≡ true → Fits k
     → encode m ++ s ≡ encode k ++ t → m ≡ k
 one-message m k s t m-ok m-fits k-ok k-fits e =
-    same-message m k (sym (front-of-encode m s m-ok m-fits) ∙ ap frontOf e ∙ front-of-encode k t k-ok k-fits)
+    same-value (sym (front-of-encode m s m-ok m-fits) ∙ ap frontOf e ∙ front-of-encode k t k-ok k-fits)
 
 front : (s : List ℕ) (m : Message) → AreBytes s → readOf s ≡ accepted m → take (sizeOf (m .body)) s ≡ encode m
 front s m bytes e =

@@ -110,8 +110,8 @@ fn row_width(phase: u8, n: usize, places: usize) -> usize
 }
 
 // Walks the slots of an inbox, once, into the columns; kind, run and phase are those of the coming round. The places of
-// a slot that does not count keep what they had, but for its row, where the entries of a selection may stand that breaks
-// a bound or has residue behind it: presence tells which rows say something.
+// a slot that does not count keep what they had, but for its row, where the entries of a selection may stand that
+// breaks a bound or has residue behind it: presence tells which rows say something.
 pub fn read_slots(
     inbox: &[u8],
     coming: Header,

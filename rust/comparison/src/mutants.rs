@@ -30,26 +30,37 @@ pub fn tell_all(engine: &dyn Engine, cases: Cases) -> Result<(), String> {
     tell_lookups(engine)
 }
 
-/// How many of the cases tell the mutant.
-fn count(engine: &dyn Engine, mutation: Mutation, operation: Operation, cases: u64) -> usize {
-    let is_told = |seed: &u64| compare(operation, *seed, engine, &Second { mutation }).is_err();
-    (1..=cases).filter(is_told).count()
+/// How many of so many cases of each operation tell the mutant; prints them on one line.
+fn told<const N: usize>(engine: &dyn Engine, mutation: Mutation, cases: [(Operation, u64); N]) -> [usize; N] {
+    let counts = cases.map(|(operation, cases)| {
+        (1..=cases).filter(|&seed| compare(operation, seed, engine, &Second { mutation }).is_err()).count()
+    });
+    println!("  {mutation:?}: {}", counts.map(|count| count.to_string()).join(", "));
+    counts
+}
+
+fn check_told(mutation: Mutation, is_told: bool) -> Result<(), String> {
+    if is_told {
+        Ok(())
+    } else {
+        Err(format!("{mutation:?} is not told from the engine"))
+    }
 }
 
 /// The mutants of rounds. Rounds have to tell every one, runs and schedules all but those that are no change there.
 fn tell_rounds(engine: &dyn Engine, cases: Cases) -> Result<(), String> {
     let Cases { rounds, runs, schedules, drills, .. } = cases;
     println!("mutants are told by how many of {rounds} rounds, {runs} runs, {schedules} schedules, {drills} drills:");
+    let cases = [
+        (Operation::Round, rounds),
+        (Operation::Run, runs),
+        (Operation::Schedule, schedules),
+        (Operation::Drill, drills),
+    ];
     for mutation in Mutation::MUTANTS_OF_ROUNDS {
-        let count = |operation, cases| count(engine, mutation, operation, cases);
-        let rounds = count(Operation::Round, cases.rounds);
-        let runs = count(Operation::Run, cases.runs);
-        let schedules = count(Operation::Schedule, cases.schedules);
-        let drills = count(Operation::Drill, cases.drills);
-        println!("  {mutation:?}: {rounds}, {runs}, {schedules}, {drills}");
-        if rounds == 0 || ((runs == 0 || schedules == 0) && !IN_AGREEMENT.contains(&mutation)) {
-            return Err(format!("{mutation:?} is not told from the engine"));
-        }
+        let [rounds, runs, schedules, _] = told(engine, mutation, cases);
+        let is_in_runs = runs > 0 && schedules > 0;
+        check_told(mutation, rounds > 0 && (is_in_runs || IN_AGREEMENT.contains(&mutation)))?;
     }
     Ok(())
 }
@@ -59,17 +70,16 @@ fn tell_rounds(engine: &dyn Engine, cases: Cases) -> Result<(), String> {
 fn tell_reading(engine: &dyn Engine, cases: Cases) -> Result<(), String> {
     let Cases { reads, rounds, runs, schedules, .. } = cases;
     println!("mutants are told by how many of {reads} reads, {rounds} rounds, {runs} runs, {schedules} schedules:");
+    let cases = [
+        (Operation::Read, reads),
+        (Operation::Round, rounds),
+        (Operation::Run, runs),
+        (Operation::Schedule, schedules),
+    ];
     for mutation in Mutation::MUTANTS_OF_READING {
-        let count = |operation, cases| count(engine, mutation, operation, cases);
-        let reads = count(Operation::Read, cases.reads);
-        let rounds = count(Operation::Round, cases.rounds);
-        let runs = count(Operation::Run, cases.runs);
-        let schedules = count(Operation::Schedule, cases.schedules);
-        println!("  {mutation:?}: {reads}, {rounds}, {runs}, {schedules}");
-        let is_in_rounds = rounds > 0 && runs > 0 && schedules > 0;
-        if reads == 0 || (!is_in_rounds && mutation != Mutation::ResidueFirst) {
-            return Err(format!("{mutation:?} is not told from the engine"));
-        }
+        let [reads, others @ ..] = told(engine, mutation, cases);
+        let is_in_rounds = others.iter().all(|&count| count > 0);
+        check_told(mutation, reads > 0 && (is_in_rounds || mutation == Mutation::ResidueFirst))?;
     }
     Ok(())
 }
@@ -81,9 +91,7 @@ fn tell_lookups(engine: &dyn Engine) -> Result<(), String> {
         let is_told = |&lookup: &_| lookups::compare(lookup, engine, &Second { mutation }).is_err();
         let told = lookups::near_the_table().filter(is_told).count();
         println!("  {mutation:?}: {told}");
-        if told == 0 {
-            return Err(format!("{mutation:?} is not told from the engine"));
-        }
+        check_told(mutation, told > 0)?;
     }
     Ok(())
 }

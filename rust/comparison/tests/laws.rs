@@ -1,7 +1,7 @@
 //! Laws of the operations on generated cases, and that these cases reach every answer.
 
 use comparison::seeds::seeds;
-use generators::{crews, inboxes, messages, plans, records, Random};
+use generators::{crews, inboxes, messages, records, Random};
 use second_engine::inbox::{Ballot, SLOT};
 use second_engine::message::{ENTRY, ENTRY_PLAN, LAST_PHASE};
 use second_engine::{message, plan, rounds, Crew, Node, Refusal, Selection};
@@ -210,15 +210,9 @@ fn selections_of_class_3_are_of_every_size_and_phase() {
 fn the_order_of_slots_and_absent_slots_play_no_part() {
     for seed in seeds("the_order_of_slots_and_absent_slots_play_no_part", 10_000) {
         let random = &mut Random::new(seed);
-        let pool = plans::pool(random);
-        let crew = crews::accepted(random);
-        let node = records::sound_of(random, crew, &pool);
-        if node.phase == Node::SPENT {
-            continue;
-        }
-        let inbox = inboxes::whole(random, &node, &pool);
+        let Some((node, inbox)) = inboxes::unspent_case(random) else { continue };
         let mut other = vec![0; inbox.len()];
-        let order = random.order(usize::from(crew.n));
+        let order = random.order(usize::from(node.crew.n));
         for (slot, from) in other.chunks_exact_mut(SLOT).zip(order) {
             let bytes = &inbox[SLOT * from..SLOT * (from + 1)];
             match message::read(bytes) {

@@ -1,10 +1,10 @@
 //! Residue (02, C-12) on generated messages and inboxes, and that it comes up everywhere in them.
 
 use comparison::seeds::seeds;
-use generators::{crews, inboxes, messages, plans, records, Random};
+use generators::{inboxes, messages, Random};
 use second_engine::inbox::SLOT;
 use second_engine::message::{self, HEADER};
-use second_engine::{rounds, Node, Refusal};
+use second_engine::{rounds, Refusal};
 use std::collections::BTreeSet;
 
 /// Cuts the slice after the length that stands at its front, and not before the header's end; none where the slice has
@@ -88,13 +88,7 @@ fn a_slot_with_residue_is_absent() {
     let (mut spoiled_rounds, mut changed) = (BTreeSet::new(), 0);
     for seed in seeds("a_slot_with_residue_is_absent", 10_000) {
         let random = &mut Random::new(seed);
-        let pool = plans::pool(random);
-        let crew = crews::accepted(random);
-        let node = records::sound_of(random, crew, &pool);
-        if node.phase == Node::SPENT {
-            continue;
-        }
-        let inbox = inboxes::whole(random, &node, &pool);
+        let Some((node, inbox)) = inboxes::unspent_case(random) else { continue };
         let (mut spoiled, mut cleared) = (inbox.clone(), inbox.clone());
         for (place, slot) in inbox.chunks_exact(SLOT).enumerate() {
             let Ok(read) = message::read(slot) else { continue };
@@ -112,7 +106,7 @@ fn a_slot_with_residue_is_absent() {
         assert_eq!(taken(&spoiled), taken(&cleared), "seed {seed}");
         if taken(&spoiled) != taken(&inbox) {
             changed += 1;
-            spoiled_rounds.insert((crew.class, node.round));
+            spoiled_rounds.insert((node.crew.class, node.round));
         }
     }
     println!("residue changed the answers of {changed} inboxes");

@@ -221,3 +221,11 @@ pub fn case(random: &mut Random) -> (Node, Vec<u8>) {
     };
     (node, inbox)
 }
+
+/// A sound record and a whole inbox for it; none where the record is spent.
+pub fn unspent_case(random: &mut Random) -> Option<(Node, Vec<u8>)> {
+    let pool = plans::pool(random);
+    let crew = crate::crews::accepted(random);
+    let node = crate::records::sound_of(random, crew, &pool);
+    (node.phase != Node::SPENT).then(|| (node, whole(random, &node, &pool)))
+}
