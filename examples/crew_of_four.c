@@ -1,6 +1,7 @@
 /*
  * A crew of four agrees on a plan, though one of the four is Byzantine: crew 3,4,1,0,3, nodes 0 to 2 honest with plans
  * 5, 6 and 7, while node 3 tells each of them something else. In phase 1 it keeps them apart; in phase 2 they decide.
+ * Then the budget of the decided plan is split among three shuttles.
  * Every answer is checked. examples/check builds and runs it.
  */
 #include "rail.h"
@@ -125,6 +126,25 @@ static void whole_round(uint8_t records[HONEST][RAIL_RECORD])
     printf("\n");
 }
 
+/* Each node splits the budget of the decided plan, and comes to the same shares. Which plan has which budget is a table
+ * of the site's own. */
+static void show_split(unsigned plan)
+{
+    enum { SHUTTLES = 3 };
+    static const uint32_t budgets[] = {[5] = 1000, [6] = 1001, [7] = 1200};
+    static const uint32_t demands[SHUTTLES] = {400, 300, 500};
+    uint32_t shares[SHUTTLES + 1];
+    value(rail_split(demands, SHUTTLES, budgets[plan], shares, SHUTTLES), "split");
+    printf("plan %u has %u mA for demands of", plan, (unsigned)budgets[plan]);
+    for (int i = 0; i < SHUTTLES; i++)
+        printf(" %u", (unsigned)demands[i]);
+    printf(": shares of");
+    for (int i = 0; i < SHUTTLES; i++)
+        printf(" %u", (unsigned)shares[i]);
+    printf("\nroom for one share more is refused with %u\n",
+           RAIL_REFUSED(rail_split(demands, SHUTTLES, budgets[plan], shares, SHUTTLES + 1)));
+}
+
 int main(void)
 {
     static const uint16_t plans[HONEST] = {5, 6, 7};
@@ -142,5 +162,6 @@ int main(void)
             show_residue(records[0]);
         whole_round(records);
     }
+    show_split((unsigned)value(rail_result(records[0], RAIL_RECORD), "result"));
     return 0;
 }

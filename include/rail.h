@@ -3,8 +3,9 @@
  * `rt staticlib boundary` proves and writes. docs/LINKING.md says how to build, link and call it, and what each
  * function promises.
  *
- * Bytes are lent as a pointer and a length. The pointer is not null, not even for a length of 0; the bytes of a call
- * do not overlap; and no pointer is kept after the call. Any values may stand in the bytes: the call tests them.
+ * Bytes are lent as a pointer and a length, and so are the numbers of rail_split, whose length is how many there are.
+ * The pointer is not null, not even for a length of 0; what is lent to one call does not overlap; and no pointer is
+ * kept after the call. Any values may stand there: the call tests them.
  */
 #ifndef RAIL_H
 #define RAIL_H
@@ -18,7 +19,7 @@ extern "C" {
 
 /*
  * An answer is one number of 64 bits: a value below 2^56, or 2^56 times the number of a refusal. Where a call is
- * refused, no lent byte has been written.
+ * refused, nothing that was lent has been written.
  */
 #define RAIL_REFUSED(answer) ((unsigned)((answer) >> 56))          /* the refusal's number, 0 where it was accepted */
 #define RAIL_VALUE(answer) ((answer) & UINT64_C(0xffffffffffffff)) /* the value of an accepted call */
@@ -40,6 +41,8 @@ extern "C" {
 #define RAIL_INBOX 14          /* inbox not 202 times n bytes long */
 #define RAIL_RANGE 15          /* a lookup outside the table: class not 1 to 3, b above 10 or f above 15 */
 #define RAIL_RESIDUE 16        /* a byte that is not 0 after the message */
+#define RAIL_COUNT 18          /* not 1 to 64 demands, or not as many shares as demands */
+#define RAIL_AMOUNT 19         /* a demand above 100,000 mA or a budget above 1,000,000 mA */
 #define RAIL_WRONG_RECORD 25   /* record not RAIL_RECORD bytes long */
 #define RAIL_WRONG_FIELDS 26   /* fields not RAIL_FIELDS bytes long */
 #define RAIL_NO_ENTRY 27       /* the message has no entry i */
@@ -101,6 +104,11 @@ extern "C" {
 #define RAIL_LEAST_N(value) ((unsigned)((value) >> 8))
 #define RAIL_LEAST_D(value) ((unsigned)((value) & 255))
 
+/* How far a split goes: so many shuttles, and these amounts in mA. */
+#define RAIL_MOST_SHUTTLES 64
+#define RAIL_MOST_DEMAND 100000
+#define RAIL_MOST_BUDGET 1000000
+
 /* Accepts a crew. The value is 0. Refuses 1 to 4. */
 uint64_t rail_accept(uint8_t class_, uint8_t n, uint8_t b, uint8_t f, uint8_t d);
 
@@ -135,6 +143,12 @@ uint64_t rail_read(const uint8_t *bytes, size_t bytes_length, uint8_t *fields, s
 /* Entry i, from 0 on, of the message that rail_read reads there. RAIL_ENTRY_PHASE and RAIL_ENTRY_PLAN take the value
  * apart. Refuses 10 to 13, 16, 27. */
 uint64_t rail_entry(const uint8_t *bytes, size_t bytes_length, size_t i);
+
+/* Splits a budget among shuttles, in mA: to each its demand where the budget is enough for all, else so much that the
+ * shares sum to exactly the budget. The lengths are how many demands and shares there are, not how many bytes. All
+ * shares are written. The value is 0. Refuses 18, 19. */
+uint64_t rail_split(const uint32_t *demands, size_t demands_length, uint32_t budget, uint32_t *shares,
+                    size_t shares_length);
 
 #ifdef __cplusplus
 }

@@ -27,7 +27,8 @@ use Rattle.ballot.specs.Least.{least, leastOf}
 use Rattle.ballot.specs.Selection.{possible, backed, backing, enough, selection, leading, mostVoted, anyPlan, taken}
 use Rattle.ballot.specs.Validation.{valid, validated}
 use Rattle.ballot.specs.Decision.{decides, decision}
-use Rattle.wire.proofs.Tests.{and-T, everyBelow, every-below}
+use Rattle.wire.specs.Below.{everyBelow}
+use Rattle.wire.proofs.Tests.{and-T, every-below}
 use Rattle.ballot.proofs.Tests.{holds-T}
 use Rattle.wire.proofs.Numbers.{allBytes, are-bytes}
 use Rattle.node.specs.Record.{begun}

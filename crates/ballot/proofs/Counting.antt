@@ -1,5 +1,5 @@
 -- The laws of counting, for any n and any list. Builds on specs/Count.antt.
-use mathlib.Core.Path.{_≡_, refl, ap, _∙_, subst}
+use mathlib.Core.Path.{_≡_, refl, ap, ap₂, _∙_, subst}
 use mathlib.Core.Bool.{Bool, true, false, not, _&&_}
 use mathlib.Core.List.{List, [], _∷_, _++_}
 use mathlib.Core.Logic.{_⊎_, inl, inr}
@@ -29,6 +29,11 @@ bit-pos false h = omega arith
 pub bit-F : (b : Bool) → (T b → ⊥) → bit b ≡ 0
 bit-F true t = absurd (t tt)
 bit-F false t = refl
+
+pub bit-mono : (a b : Bool) → (T a → T b) → bit a ≤ bit b
+bit-mono true true f = omega arith
+bit-mono true false f = absurd (f tt)
+bit-mono false b f = omega arith
 
 -- Numbers below n.
 
@@ -63,6 +68,13 @@ tally-not p (suc n) = go (p n) (tally-not p n)
     go true i = omega arith
     go false i = omega arith
 
+-- tests that agree below n count alike
+pub tally-same : (a b : ℕ → Bool) (n : ℕ) → ((q : ℕ) → q < n → a q ≡ b q) → tally a n ≡ tally b n
+unfolding tally
+tally-same a b zero same = refl
+tally-same a b (suc n) same =
+    ap₂ (λ x y. bit x + y) (same n (omega arith)) (tally-same a b n (λ q less. same q (omega arith)))
+
 -- what passes p or r passes u, and what passes both passes x: the counts of p and r make at most those of u and x
 pub tally-meet : (p r u x : ℕ → Bool) (n : ℕ) → Implies n p u → Implies n r u
     → ((q : ℕ) → q < n → T (p q) → T (r q) → T (x q)) → tally p n + tally r n ≤ tally u n + tally x n
@@ -90,7 +102,7 @@ pub tally-apart : (p r x : ℕ → Bool) (n : ℕ) → ((q : ℕ) → q < n → 
 tally-apart p r x n h = omega (arith, tally-meet p r all-of x n (λ q l t. tt) (λ q l t. tt) h, tally-all n)
 
 -- what passes u passes p or r
-tally-join : (u p r : ℕ → Bool) (n : ℕ) → ((q : ℕ) → q < n → T (u q) → T (p q) ⊎ T (r q))
+pub tally-join : (u p r : ℕ → Bool) (n : ℕ) → ((q : ℕ) → q < n → T (u q) → T (p q) ⊎ T (r q))
     → tally u n ≤ tally p n + tally r n
 unfolding tally
 tally-join u p r zero h = omega arith

@@ -8,6 +8,7 @@ use lib.ListN.{length}
 use lib.Seq.{sets}
 use borrow.Author.Tests.{eq-eqb}
 use Rattle.wire.specs.Outcome.{Outcome, accepted, refused, require, verdict, valueOr, isAccepted}
+use Rattle.wire.proofs.Outcomes.{refused-not-accepted, same-number}
 use Rattle.wire.proofs.Stores.{sets-whole}
 use Rattle.least_crews.specs.declared.LookupRefusal.{LookupRefusal}
 use Rattle.least_crews.specs.declared.LookupRefusal.the-variants.{Range}
@@ -84,6 +85,22 @@ module _ (image : List ℕ) (before : Node) {fits : Bool} (is-fit : fits ≡ ima
 pub image-kept : (image : List ℕ) (outcome : Outcome Node) {answer : ℕ} → imageFits image ≡ false
     → answer ≡ refusalUnit * 25 → Leaves done (onImage image outcome) (recordAfter image) answer image
 image-kept image outcome unfit e = rw unfit (record { told = refusal-told done wrong-image e refl; left = refl })
+
+-- An operation whose value is what it leaves in a lent slice, of which a caller sees the answer beside that.
+module _ (before after : List ℕ) where
+  -- where it is accepted, the slice has the value
+  pub value-left : (outcome : Outcome (List ℕ)) → accepted tt ≡ verdict outcome → after ≡ valueOr before outcome
+      → Leaves done outcome (valueOr before) 0 after
+  value-left (accepted value) told left = record { told = value-told done value (omega arith) refl; left = left }
+  value-left (refused number) told left = absurd (refused-not-accepted number tt (sym told))
+
+  -- where it is refused, what it had
+  pub slice-kept : (outcome : Outcome (List ℕ)) {number r answer : ℕ} → refused number ≡ verdict outcome
+      → Numbered number r → answer ≡ refusalUnit * r → after ≡ valueOr before outcome
+      → Leaves done outcome (valueOr before) answer after
+  slice-kept (accepted value) {number} told n e left = absurd (refused-not-accepted number tt told)
+  slice-kept (refused known) told n e left =
+      record { told = refusal-told done n e (ap refused (sym (same-number told))); left = left }
 
 -- The standing result of the record whose image is lent.
 module _ (image : List ℕ) (loaded : Loaded) (from : LoadedFrom image loaded) (fit : loaded .fits ≡ true) {ok : Bool}

@@ -1,9 +1,11 @@
 // The engine for C and Rust: functions on numbers and lent bytes, each the engine's own operation on the record whose
-// image (crate image) it is lent. docs/LINKING.md says how to link and call it, rail.h declares it for C.
+// image (crate image) it is lent, and the splitting of a budget (crate current) on lent numbers of four bytes.
+// docs/LINKING.md says how to link and call it, rail.h declares it for C.
 // An answer is one number of eight bytes: a value below 2^56, or 2^56 times the number of a refusal. specs/Answers.antt
 // says what each function answers and leaves in what it is lent.
 use crew::Acceptance;
 use crew::Crew;
+use current::Splitting;
 use least_crews::Finding;
 use message::Body;
 use message::ENTRY_SIZE;
@@ -26,6 +28,7 @@ ghost use Rattle.wire.specs.Outcome.{valueOr};
 ghost use Rattle.crew.specs.Parts.{crewOf};
 ghost use Rattle.crew.specs.Acceptance.{acceptOf, acceptAnswer, acceptNumber};
 ghost use Rattle.least_crews.specs.Search.{lookupOf, lookupAnswer};
+ghost use Rattle.current.specs.Shares.{splitOf, splitNumber};
 ghost use Rattle.message.specs.Reading.{bodyAs, readNumber};
 ghost use Rattle.node.specs.Starting.{startNumber};
 ghost use Rattle.node.specs.Sending.{sendNumber, sendAnswer};
@@ -96,6 +99,11 @@ const RANGE: u64 = 15;
 
 // Reading, after its other numbers.
 const RESIDUE: u64 = 16;
+
+// Splitting a budget.
+const COUNT: u64 = 18;
+
+const AMOUNT: u64 = 19;
 
 // What only this boundary refuses: after the engine's own numbers and those kept for it.
 const WRONG_IMAGE: u64 = 25;
@@ -195,6 +203,15 @@ fn round_number(why: rounds::TakeRefusal) -> u64
         rounds::TakeRefusal::Unsound => UNSOUND,
         rounds::TakeRefusal::Spent => SPENT,
         rounds::TakeRefusal::Inbox => INBOX,
+    }
+}
+
+fn split_number(why: current::SplitRefusal) -> u64
+    ensures { λ r. ⌜ Numbered (splitNumber why) r ⌝ }
+{
+    match why {
+        current::SplitRefusal::Count => COUNT,
+        current::SplitRefusal::Amount => AMOUNT,
     }
 }
 
@@ -437,5 +454,18 @@ pub extern "C" fn rail_entry(bytes: &[u8], i: usize) -> u64
     match reading {
         Reading::Message(_) => entry_in(message::entries(bytes), i),
         Reading::Refused(why) => refusal(read_number(why)),
+    }
+}
+
+// Splits a budget among shuttles, into the lent shares.
+#[no_mangle]
+pub extern "C" fn rail_split(demands: &[u32], budget: u32, shares: &mut [u32]) -> u64
+    ensures { λ r. ⌜ Leaves done (splitOf (now (demands .entry)) budget (length (now (shares .entry))))
+        (valueOr (now (shares .entry))) r (now (shares .exit)) ⌝ }
+{
+    let splitting = current::split(demands, budget, shares);
+    match splitting {
+        Splitting::Accepted => 0,
+        Splitting::Refused(why) => refusal(split_number(why)),
     }
 }

@@ -6,7 +6,8 @@ use Prim.Native.Nat.{ℕ, suc, _+_, _-_}
 use native.Mathlib.Omega.{arith}
 use lib.Dec.{T, eqb, eqb→eq}
 use lib.ListN.{length}
-use Rattle.wire.proofs.Tests.{and-T, everyBelow, every-below}
+use Rattle.wire.specs.Below.{everyBelow}
+use Rattle.wire.proofs.Tests.{and-T, every-below}
 use Rattle.least_crews.specs.declared.Least.{Least}
 use Rattle.least_crews.specs.Search.{lastClass, mostB, mostF}
 use Rattle.least_crews.specs.Entries.{IsLeast, numbers, entryIn, Shown}

@@ -4,7 +4,6 @@ use crew::Crew;
 use crew::MOST_NODES;
 use least_crews::Finding;
 use least_crews::Least;
-use script::Field;
 use script::Number;
 
 // Where answers go, and where refusals.
@@ -28,8 +27,9 @@ fn show_number(file: i32, text: &[u8], number: u64) {
     io::print_decimal(file, number);
 }
 
-fn byte_of(number: Field) -> u8 {
-    if number < OUTSIDE as Field {
+// No number that is read is larger than OUTSIDE; to test it here spares a proof of that.
+fn byte_of(number: u32) -> u8 {
+    if number < OUTSIDE as u32 {
         return number as u8;
     }
     OUTSIDE
@@ -38,7 +38,7 @@ fn byte_of(number: Field) -> u8 {
 fn argument(i: usize) -> u8 {
     let mut text = io::buffer();
     let length = os::arg(i, &mut text);
-    match script::decimal(&text[..length]) {
+    match script::decimal(&text[..length], OUTSIDE as u32) {
         Number::Value(number) => byte_of(number),
         Number::Bad => OUTSIDE,
     }

@@ -11,7 +11,8 @@ use Rattle.wire.specs.Outcome.{accepted, isAccepted}
 use Rattle.wire.specs.Bytes.{AreBytes}
 use Rattle.ballot.specs.Count.{holds}
 use Rattle.ballot.specs.Ballot.{Ballot}
-use Rattle.wire.proofs.Tests.{and-T, T-and, everyBelow, every-below}
+use Rattle.wire.specs.Below.{everyBelow}
+use Rattle.wire.proofs.Tests.{and-T, T-and, every-below}
 use Rattle.inbox.specs.Inbox.{slotAt, ballotAt}
 use Rattle.rounds.specs.Taking.{takeOf}
 use Rattle.agreement.specs.Statement.{Call, write, ask, take-round, Event, Wrote}

@@ -26,7 +26,8 @@ use Rattle.node.specs.Sending.{comingOf, writeComingOf}
 use Rattle.rounds.specs.Taking.{afterRound, takeOf}
 use Rattle.agreement.specs.Statement.{write, ask, take-round, Execution, made, recordOf, afterCalls, callsOf}
 use Rattle.agreement.proofs.Simulation.{honest-below}
-use Rattle.wire.proofs.Tests.{and-T, everyBelow, every-below}
+use Rattle.wire.specs.Below.{everyBelow}
+use Rattle.wire.proofs.Tests.{and-T, every-below}
 use Rattle.wire.proofs.Numbers.{allBytes}
 use Rattle.agreement.proofs.Checking.{sameBytes, wroteFront}
 use Rattle.agreement.proofs.Example.{crew, buffer, slot, drill, drill-premises}

@@ -11,7 +11,7 @@ use borrow.Author.Tests.{le-leb, lt-leb, lt-ltb, le-ltb, ltb-true, ltb-false}
 use Rattle.script.specs.declared.Numbers.{Numbers}
 use Rattle.script.specs.declared.Number.{Number}
 use Rattle.script.specs.declared.Number.the-variants.{Value, Bad}
-use Rattle.script.specs.Fields.{mostNumbers, numberOf, numbersFrom, noNumbers}
+use Rattle.script.specs.Fields.{largest, mostNumbers, numberOf, numbersFrom, noNumbers}
 use Rattle.script.specs.Lines.{space, until, split, onto}
 
 le-go : (t : Bool) (u n : ℕ) → u ≤ n → cond t 0 (suc u) ≤ suc n
@@ -70,15 +70,16 @@ module _ (b at e : ℕ) (s : List ℕ) (inside : at ≤ length s) (found : e ≡
 -- what a turn of the loop over the words does
 module _ (w : List ℕ) (ws : List (List ℕ)) (k : ℕ) (vs : List ℕ) (r : Numbers)
     (whole : numbersFrom (w ∷ ws) k vs ≡ r) where
-  numbers-bad : numberOf w ≡ Bad → noNumbers ≡ r
+  numbers-bad : numberOf largest w ≡ Bad → noNumbers ≡ r
   unfolding numbersFrom
   numbers-bad e = rw e at whole
 
-  numbers-full : (v : ℕ) → numberOf w ≡ Value v → mostNumbers ≤ k → noNumbers ≡ r
+  numbers-full : (v : ℕ) → numberOf largest w ≡ Value v → mostNumbers ≤ k → noNumbers ≡ r
   unfolding numbersFrom
   numbers-full v e h = rw (e, le-leb _ _ h) at whole
 
-  numbers-more : (v : ℕ) → numberOf w ≡ Value v → k < mostNumbers → numbersFrom ws (k + 1) (set vs k v) ≡ r
+  numbers-more : (v : ℕ) → numberOf largest w ≡ Value v → k < mostNumbers
+      → numbersFrom ws (k + 1) (set vs k v) ≡ r
   unfolding numbersFrom
   numbers-more v e h = rw (e, lt-leb _ _ h) at whole
 
@@ -96,7 +97,7 @@ after b e s = cond (ltb e (length s)) (split b (drop (e + 1) s)) []
 pub record Turn (s vs : List ℕ) (k at e : ℕ) (m : Number) (r : Numbers) : Type 0 where
   pub inside : at ≤ length s
   pub found : e ≡ at + until space (drop at s)
-  pub read : m ≡ numberOf (take (e - at) (drop at s))
+  pub read : m ≡ numberOf largest (take (e - at) (drop at s))
   pub gives : numbersFrom (split space (drop at s)) k vs ≡ r
 
 module _ {s vs : List ℕ} {k at e : ℕ} {m : Number} {r : Numbers} (turn : Turn s vs k at e m r) where

@@ -29,16 +29,18 @@ pub record Digit (c r : ℕ) : Type 0 where
   pub value : r ≡ digitOf c
   pub within : r ≤ 10
 
--- the number whose first digits have the value a: bad at a byte that is no digit, and beyond the largest
-unfoldable pub valueFrom : ℕ → List ℕ → Number
-valueFrom a [] = Value a
-valueFrom a (c ∷ cs) =
-    cond (ltb (digitOf c) 10 && leb (10 * a + digitOf c) largest) (valueFrom (10 * a + digitOf c) cs) Bad
+-- the number whose first digits have the value a: bad at a byte that is no digit, and beyond `most`
+unfoldable pub valueFrom : ℕ → ℕ → List ℕ → Number
+valueFrom most a [] = Value a
+valueFrom most a (c ∷ cs) =
+    cond (ltb (digitOf c) 10 && leb (10 * a + digitOf c) most) (valueFrom most (10 * a + digitOf c) cs) Bad
 
--- A field: not empty, and no zero before other digits.
+-- A field of at most `most`: not empty, and no zero before other digits.
 -- 01: "Fields are decimal without leading zeros"
-unfoldable pub numberOf : List ℕ → Number
-numberOf w = cond (eqb (length w) 0) Bad (cond (leb 2 (length w) && eqb (getD w 0 0) 48) Bad (valueFrom 0 w))
+unfoldable pub numberOf : ℕ → List ℕ → Number
+numberOf most w =
+    cond (eqb (length w) 0) Bad
+    (cond (leb 2 (length w) && eqb (getD w 0 0) 48) Bad (valueFrom most 0 w))
 
 -- the answer where a field is no number, or there are too many of them
 abbrev pub noNumbers : Numbers
@@ -52,7 +54,7 @@ andThen Bad next = noNumbers
 unfoldable pub numbersFrom : List (List ℕ) → ℕ → List ℕ → Numbers
 numbersFrom [] k values = record { good = true; count = k; values = values }
 numbersFrom (w ∷ ws) k values =
-    andThen (numberOf w) (λ v. cond (leb mostNumbers k) noNumbers (numbersFrom ws (k + 1) (set values k v)))
+    andThen (numberOf largest w) (λ v. cond (leb mostNumbers k) noNumbers (numbersFrom ws (k + 1) (set values k v)))
 
 -- 01: "parted by one space"
 abbrev pub numbersOn : List ℕ → Numbers

@@ -20,18 +20,18 @@ const ZERO: u8 = b'0';
 
 const NINE: u8 = b'9';
 // What `digit` answers for a byte that is no digit.
-const NO_DIGIT: u32 = 10;
+const NO_DIGIT: u64 = 10;
 // The largest plan, all bits of its bytes set. No number of a script is larger: every other bound is lower.
 const LARGEST: u32 = (1 << (8 * PLAN_SIZE)) - 1;
 // No line has more numbers: line 2 has one for each node.
 const MOST_NUMBERS: usize = MOST_NODES;
 
-// A field's number. It has a plan's type: no field is larger than the largest plan.
+// A number of a line. It has a plan's type: none is larger than the largest plan.
 pub type Field = Plan;
 
-// A decimal field.
+// A decimal field, read up to a bound that the reader names.
 pub enum Number {
-    Value(Field),
+    Value(u32),
     Bad,
 }
 
@@ -95,7 +95,7 @@ pub fn find(s: &[u8], byte: u8, from: usize) -> usize
 }
 
 // A digit's value.
-fn digit(c: u8) -> u32
+fn digit(c: u8) -> u64
     ensures { λ r. ⌜ Digit c r ⌝ }
 {
     if c < ZERO {
@@ -104,12 +104,13 @@ fn digit(c: u8) -> u32
     if NINE < c {
         return NO_DIGIT;
     }
-    (c - ZERO) as u32
+    (c - ZERO) as u64
 }
 
-// A field's number. It stops at the digit that takes it past the largest, so a field of any length is read safely.
-pub fn decimal(s: &[u8]) -> Number
-    ensures { λ r. ⌜ r ≡ numberOf (now (s .entry)) ⌝ }
+// A field's number, of at most `most`. It stops at the digit that takes it past that, so a field of any length is read
+// safely.
+pub fn decimal(s: &[u8], most: u32) -> Number
+    ensures { λ r. ⌜ r ≡ numberOf most (now (s .entry)) ⌝ }
 {
     if s.len() == 0 {
         return Number::Bad;
@@ -117,19 +118,21 @@ pub fn decimal(s: &[u8]) -> Number
     if (2 <= s.len()) & (s[0] == ZERO) {
         return Number::Bad;
     }
-    let mut value: u32 = 0;
+    // Ten times the largest `most` needs more than 32 bits.
+    let limit = most as u64;
+    let mut value: u64 = 0;
     let mut i: usize = 0;
     while i < s.len() {
         let d = digit(s[i]);
         let w = 10 * value + d;
-        if (d < NO_DIGIT) & (w <= LARGEST) {
+        if (d < NO_DIGIT) & (w <= limit) {
             value = w;
             i = i + 1;
         } else {
             return Number::Bad;
         }
     }
-    Number::Value(value as Field)
+    Number::Value(value as u32)
 }
 
 fn no_numbers() -> Numbers
@@ -151,12 +154,12 @@ fn numbers_on(s: &[u8]) -> Numbers
     let mut at: usize = 0;
     loop {
         let end = find(s, SPACE, at);
-        match decimal(&s[at..end]) {
+        match decimal(&s[at..end], LARGEST) {
             Number::Value(value) => {
                 if MOST_NUMBERS <= count {
                     return no_numbers();
                 }
-                values[count] = value;
+                values[count] = value as Field;
                 count = count + 1;
                 if s.len() <= end {
                     return Numbers {

@@ -13,7 +13,7 @@ use Rattle.crew.specs.Thresholds.{Class, one, two, three, E}
 use Rattle.ballot.specs.Count.{tally, countIf}
 use Rattle.ballot.specs.Ballot.{Ballot, votes}
 use Rattle.ballot.specs.Selection.{Choice, possible, backed, backing, enough, answer, selection}
-use Rattle.ballot.proofs.Counting.{tally-has}
+use Rattle.ballot.proofs.Counting.{tally-has, tally-same}
 use Rattle.inbox.specs.Columns.{Columns, polled}
 use Rattle.tally.specs.declared.counts.Plans.{Plans}
 use Rattle.tally.specs.Marks.{
@@ -27,7 +27,6 @@ use Rattle.tally.specs.Marks.{
   backingAs,
 }
 use Rattle.tally.specs.Promises.{Counted, Bounded, Found}
-use Rattle.tally.proofs.Tallies.{tally-same}
 use Rattle.tally.proofs.Polling.{voteAt, onSlot, backing-polled, told-same}
 use Rattle.tally.proofs.Ruling.{counting, unstamped, backing-found, one-needs, two-needs}
 

@@ -14,10 +14,9 @@ use Rattle.ballot.specs.Count.{tally, countIf, gather, push, holds}
 use Rattle.ballot.specs.Ballot.{Ballot, votes}
 use Rattle.ballot.specs.Least.{lower, least}
 use Rattle.ballot.specs.Selection.{besides, backing}
-use Rattle.ballot.proofs.Counting.{count-gather, length-count}
+use Rattle.ballot.proofs.Counting.{tally-same, count-gather, length-count}
 use Rattle.inbox.specs.Columns.{Columns, ballotFrom, slotOf, polled}
 use Rattle.tally.specs.Marks.{Marks, marked, voting, supporting, told, leastMarked, backingMarked}
-use Rattle.tally.proofs.Tallies.{tally-same}
 use Rattle.tally.proofs.Backings.{besideIt, besidesMarked, backing-told}
 
 module _ (read : Columns) (h : ℕ → List Entry) where

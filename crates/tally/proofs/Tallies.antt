@@ -1,10 +1,10 @@
 -- What the loops over slots go by, and among them those that count slots.
-use mathlib.Core.Path.{_≡_, ap₂, refl, subst}
+use mathlib.Core.Path.{refl, subst}
 use mathlib.Core.Bool.{Bool}
-use Prim.Native.Nat.{ℕ, zero, suc, _+_, _<_, _≤_}
+use Prim.Native.Nat.{ℕ, _+_, _≤_}
 use native.Mathlib.Numerals.{add-one}
 use native.Mathlib.Omega.{arith}
-use Rattle.ballot.specs.Count.{bit, tally}
+use Rattle.ballot.specs.Count.{tally}
 use Rattle.tally.specs.Promises.{OneIf, Counted}
 
 -- A loop over n slots stands before slot q: what it says of the first q slots holds.
@@ -25,10 +25,3 @@ pub counted-more : {test : ℕ → Bool} {q count one : ℕ} → Counted test q 
     → Counted test (q + 1) (count + one)
 unfolding tally
 counted-more {q = q} counted here = record { count = rw (add-one q) (omega arith); at-most-all = omega arith }
-
--- tests that agree below n count alike
-pub tally-same : (a b : ℕ → Bool) (n : ℕ) → ((q : ℕ) → q < n → a q ≡ b q) → tally a n ≡ tally b n
-unfolding tally
-tally-same a b zero same = refl
-tally-same a b (suc n) same =
-    ap₂ (λ x y. bit x + y) (same n (omega arith)) (tally-same a b n (λ q less. same q (omega arith)))

@@ -8,6 +8,7 @@ use native.Mathlib.Omega.{arith}
 use lib.Dec.{T, leb, ltb, eqb, leb→le, le→leb, ltb→lt, lt→ltb, nleb→lt, nltb→le, eqb→eq, eqb-refl, not-T, T-not}
 use lib.Arith.{lt→nleb, le→nltb}
 use borrow.Author.Tests.{eqb-true, eqb-false}
+use Rattle.wire.specs.Below.{everyBelow}
 
 pub eq→eqb : (a b : ℕ) → a ≡ b → T (eqb a b)
 eq→eqb a b e = rw e (eqb-refl b)
@@ -83,12 +84,7 @@ by-equality {A} m n same differ = go (eqb m n) refl
     go true e = same (eqb-true m n e)
     go false e = differ (eqb-false m n e)
 
--- A test that every number below a bound passes: it computes, and holds at each.
-
-unfoldable pub everyBelow : (ℕ → Bool) → ℕ → Bool
-everyBelow f zero = true
-everyBelow f (suc n) = f n && everyBelow f n
-
+-- what every number below a bound passes, each of them passes
 pub every-below : (f : ℕ → Bool) (n : ℕ) → T (everyBelow f n) → (q : ℕ) → q < n → T (f q)
 unfolding everyBelow
 every-below f zero t q h = absurd (omega arith)

@@ -3,3 +3,4 @@ pub mod Entry
 pub mod Sizes
 pub mod Bytes
 pub mod Plan
+pub mod Below

@@ -1,11 +1,14 @@
-//! What only the archive's boundary has: lengths of lent slices, images and fields byte for byte, results, entries.
+//! What only the archive's boundary has: lengths of lent slices, images and fields byte for byte, results, entries, and
+//! the numbers around lent shares.
 //! Each case is a function of a seed and is held against the second engine and the layout in `image`.
 
 use crate::engine::numbers;
 use crate::image;
 use comparison::cases::{same, show_inbox};
+use generators::splits::{self, Split};
 use generators::{crews, inboxes, messages, plans, records, Random};
 use rail::{Answer, Refused, FIELDS, RECORD, SLOT};
+use second_engine::current::{self, MOST_DEMAND};
 use second_engine::message::{
     self, DECISION_LENGTH, ENTRY, ENTRY_PLAN, MOST_ENTRIES, SELECTION_LENGTH, VALIDATION_LENGTH,
 };
@@ -22,10 +25,13 @@ pub enum Boundary {
     Results,
     /// The fields of a message and each of its entries.
     Messages,
+    /// Splits, with every number that may not be written.
+    Splits,
 }
 
 impl Boundary {
-    pub const ALL: [Boundary; 4] = [Boundary::Lengths, Boundary::Images, Boundary::Results, Boundary::Messages];
+    pub const ALL: [Boundary; 5] =
+        [Boundary::Lengths, Boundary::Images, Boundary::Results, Boundary::Messages, Boundary::Splits];
 }
 
 /// Gives the case of this seed to the archive and tells the first difference.
@@ -36,6 +42,7 @@ pub fn compare(boundary: Boundary, seed: u64) -> Result<(), String> {
         Boundary::Images => compare_images(random),
         Boundary::Results => compare_results(random),
         Boundary::Messages => compare_messages(random),
+        Boundary::Splits => compare_splits(random),
     };
     outcome.map_err(|difference| format!("{boundary:?}, seed {seed}: {difference}"))
 }
@@ -45,37 +52,45 @@ fn answer(answer: Result<u64, Refusal>) -> Answer {
     answer.map_err(|refusal| Refused(refusal.number()))
 }
 
-/// A part of this length in the middle of random bytes, which a call may not touch.
-struct Lent {
-    bytes: Vec<u8>,
+/// A part in the middle of random bytes, or of random numbers, which a call may not touch.
+struct Lent<T> {
+    whole: Vec<T>,
+    margin: usize,
     length: usize,
 }
 
-impl Lent {
-    const MARGIN: usize = 16;
+impl Lent<u8> {
+    fn bytes(random: &mut Random, part: &[u8]) -> Lent<u8> {
+        Lent::within(16, part, || random.byte())
+    }
+}
 
-    fn new(random: &mut Random, part: &[u8]) -> Lent {
-        let mut bytes = random.bytes(2 * Lent::MARGIN + part.len());
-        bytes[Lent::MARGIN..][..part.len()].copy_from_slice(part);
-        Lent { bytes, length: part.len() }
+impl Lent<u32> {
+    /// With as much on each side as a case has demands at most: shares written behind a short buffer stand there.
+    fn numbers(random: &mut Random, part: &[u32]) -> Lent<u32> {
+        Lent::within(200, part, || random.number() as u32)
+    }
+}
+
+impl<T: Copy> Lent<T> {
+    fn within(margin: usize, part: &[T], any: impl FnMut() -> T) -> Lent<T> {
+        let mut whole: Vec<T> = std::iter::repeat_with(any).take(2 * margin + part.len()).collect();
+        whole[margin..][..part.len()].copy_from_slice(part);
+        Lent { whole, margin, length: part.len() }
     }
 
-    fn part(&mut self) -> &mut [u8] {
-        &mut self.bytes[Lent::MARGIN..][..self.length]
+    /// The whole after a call on the part, with its answer.
+    fn after(&self, call: impl FnOnce(&mut [T]) -> Answer) -> (Answer, Vec<T>) {
+        let mut whole = self.whole.clone();
+        let answer = call(&mut whole[self.margin..][..self.length]);
+        (answer, whole)
     }
 
-    /// All bytes after a call on the part, with its answer.
-    fn after(&self, call: impl FnOnce(&mut [u8]) -> Answer) -> (Answer, Vec<u8>) {
-        let mut lent = Lent { bytes: self.bytes.clone(), length: self.length };
-        let answer = call(lent.part());
-        (answer, lent.bytes)
-    }
-
-    /// All bytes where the part became this.
-    fn with(&self, part: &[u8]) -> Vec<u8> {
-        let mut bytes = self.bytes.clone();
-        bytes[Lent::MARGIN..][..self.length].copy_from_slice(part);
-        bytes
+    /// The whole where the part became this.
+    fn with(&self, part: &[T]) -> Vec<T> {
+        let mut whole = self.whole.clone();
+        whole[self.margin..][..self.length].copy_from_slice(part);
+        whole
     }
 }
 
@@ -95,8 +110,8 @@ fn compare_lengths(random: &mut Random) -> Result<(), String> {
     // The front of a good image, or more than one, so that nothing but the length is wrong.
     let length = wrong_length(random, RECORD);
     let good: Vec<u8> = image::of(&node).into_iter().cycle().take(length).collect();
-    let lent = Lent::new(random, &good);
-    let unchanged = (Err(Refused::WRONG_RECORD), lent.bytes.clone());
+    let lent = Lent::bytes(random, &good);
+    let unchanged = (Err(Refused::WRONG_RECORD), lent.whole.clone());
     let crew = if random.chance(1, 2) { numbers(node.crew) } else { numbers(crews::any(random)) };
     let start = lent.after(|record| rail::start(crew, node.own, node.run, node.vote, record));
     same(&("start", crew, length), start, unchanged.clone())?;
@@ -105,15 +120,15 @@ fn compare_lengths(random: &mut Random) -> Result<(), String> {
     same(&("result", &good), rail::result(&good), unchanged.0)?;
     let size = random.below(SLOT + 28);
     let bytes = random.bytes(size);
-    let buffer = Lent::new(random, &bytes);
+    let buffer = Lent::bytes(random, &bytes);
     let write = buffer.after(|buffer| rail::write(&good, buffer));
-    same(&("write", &good, &bytes), write, (Err(Refused::WRONG_RECORD), buffer.bytes.clone()))?;
+    same(&("write", &good, &bytes), write, (Err(Refused::WRONG_RECORD), buffer.whole.clone()))?;
     let slice = messages::any(random);
     let size = wrong_length(random, FIELDS);
     let bytes = random.bytes(size);
-    let fields = Lent::new(random, &bytes);
+    let fields = Lent::bytes(random, &bytes);
     let read = fields.after(|fields| rail::read(&slice, fields));
-    same(&("read", &slice, &bytes), read, (Err(Refused::WRONG_FIELDS), fields.bytes.clone()))
+    same(&("read", &slice, &bytes), read, (Err(Refused::WRONG_FIELDS), fields.whole.clone()))
 }
 
 /// A record's image: of a generated record, some of them with a few bytes changed or with random ones throughout.
@@ -135,7 +150,7 @@ fn compare_images(random: &mut Random) -> Result<(), String> {
     let (node, inbox) = inboxes::case(random);
     let image = any_image(random, &node);
     let node = image::node(&image);
-    let lent = Lent::new(random, &image);
+    let lent = Lent::bytes(random, &image);
     let mut next = node;
     let taken = answer(rounds::take(&mut next, &inbox).map(|()| 0));
     let case = || (node, show_inbox(&inbox));
@@ -163,11 +178,11 @@ fn compare_start(random: &mut Random) -> Result<(), String> {
     let run = random.number() as u32;
     let plan = if random.chance(1, 4) { 0 } else { plans::any(random) };
     let bytes = random.bytes(RECORD);
-    let lent = Lent::new(random, &bytes);
+    let lent = Lent::bytes(random, &bytes);
     let found = lent.after(|record| rail::start(numbers(crew), own, run, plan, record));
     let expected = match Node::start(crew, own, run, plan) {
         Ok(node) => (Ok(0), lent.with(&image::of(&node))),
-        Err(refusal) => (Err(Refused(refusal.number())), lent.bytes.clone()),
+        Err(refusal) => (Err(Refused(refusal.number())), lent.whole.clone()),
     };
     same(&(crew, own, run, plan), found, expected)
 }
@@ -185,7 +200,7 @@ fn compare_write(random: &mut Random, node: &Node, image: &[u8]) -> Result<(), S
         any_length,
     ]);
     let bytes = random.bytes(length);
-    let lent = Lent::new(random, &bytes);
+    let lent = Lent::bytes(random, &bytes);
     let mut after = bytes.clone();
     let written = answer(node.write(&mut after).map(|length| length as u64));
     same(&(node, &bytes), lent.after(|buffer| rail::write(image, buffer)), (written, lent.with(&after)))
@@ -203,8 +218,8 @@ fn compare_messages(random: &mut Random) -> Result<(), String> {
     let slice = messages::any(random);
     let read = message::read(&slice);
     let bytes = random.bytes(FIELDS);
-    let lent = Lent::new(random, &bytes);
-    let after = read.map_or(lent.bytes.clone(), |message| lent.with(&image::fields_of(&message)));
+    let lent = Lent::bytes(random, &bytes);
+    let after = read.map_or(lent.whole.clone(), |message| lent.with(&image::fields_of(&message)));
     let found = lent.after(|fields| rail::read(&slice, fields));
     same(&slice, found, (answer(read.map(|_| 0)), after))?;
     // Every entry, and places that the message does not have, as far as a place can be.
@@ -225,4 +240,17 @@ fn compare_messages(random: &mut Random) -> Result<(), String> {
         same(&(&slice, i), rail::entry(&slice, i), expected)?;
     }
     Ok(())
+}
+
+fn compare_splits(random: &mut Random) -> Result<(), String> {
+    let split = splits::any(random);
+    let Split { demands, budget, shares } = &split;
+    let mut after = shares.clone();
+    let written = answer(current::split(demands, *budget, &mut after).map(|()| 0));
+    // The demands stand between others, with which the answer would be another.
+    let among: Vec<u32> = [&[MOST_DEMAND], &demands[..], &[MOST_DEMAND]].concat();
+    let demands = &among[1..][..demands.len()];
+    let lent = Lent::numbers(random, shares);
+    let found = lent.after(|shares| rail::split(demands, *budget, shares));
+    same(&split, found, (written, lent.with(&after)))
 }

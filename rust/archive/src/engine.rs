@@ -103,4 +103,8 @@ impl Engine for Archive {
         drop(standard_input);
         child.wait_with_output().expect("the drill's output is read").stdout
     }
+
+    fn split(&self, demands: &[u32], budget: u32, shares: &mut [u32]) -> Result<(), Refusal> {
+        done(rail::split(demands, budget, shares))
+    }
 }

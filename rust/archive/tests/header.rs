@@ -3,7 +3,7 @@
 
 use archive::image;
 use rail::Refused;
-use second_engine::{Body, Crew, Message, Node, Refusal};
+use second_engine::{current, Body, Crew, Message, Node, Refusal};
 use std::collections::BTreeMap;
 
 /// The header's macros that are numbers.
@@ -75,11 +75,28 @@ fn offsets_are_those_of_the_layout() {
     for (name, number) in lengths.into_iter().chain(asked) {
         assert_eq!(numbers[name], number, "{name}");
     }
-    // With the refusals this is every number of the header.
-    assert_eq!(numbers.len(), places.len() + lengths.len() + asked.len() + refusals().len());
+    // With the limits and the refusals this is every number of the header.
+    assert_eq!(numbers.len(), places.len() + lengths.len() + asked.len() + limits().len() + refusals().len());
 }
 
-fn refusals() -> [(&'static str, u8); 19] {
+/// The limits of a split, each in the crate `rail` and in the second engine.
+fn limits() -> [(&'static str, [usize; 2]); 3] {
+    [
+        ("RAIL_MOST_SHUTTLES", [rail::MOST_SHUTTLES, current::MOST_SHUTTLES]),
+        ("RAIL_MOST_DEMAND", [rail::MOST_DEMAND, current::MOST_DEMAND].map(|most| most as usize)),
+        ("RAIL_MOST_BUDGET", [rail::MOST_BUDGET, current::MOST_BUDGET].map(|most| most as usize)),
+    ]
+}
+
+#[test]
+fn limits_are_the_same() {
+    let numbers = numbers();
+    for (name, limits) in limits() {
+        assert_eq!(limits, [numbers[name]; 2], "{name}");
+    }
+}
+
+fn refusals() -> [(&'static str, u8); 21] {
     [
         ("RAIL_CLASS", Refusal::Class.number()),
         ("RAIL_SIZE", Refusal::Nodes.number()),
@@ -97,6 +114,8 @@ fn refusals() -> [(&'static str, u8); 19] {
         ("RAIL_INBOX", Refusal::InboxLength.number()),
         ("RAIL_RANGE", Refusal::Range.number()),
         ("RAIL_RESIDUE", Refusal::Residue.number()),
+        ("RAIL_COUNT", Refusal::Count.number()),
+        ("RAIL_AMOUNT", Refusal::Amount.number()),
         ("RAIL_WRONG_RECORD", Refused::WRONG_RECORD.0),
         ("RAIL_WRONG_FIELDS", Refused::WRONG_FIELDS.0),
         ("RAIL_NO_ENTRY", Refused::NO_ENTRY.0),

@@ -2,7 +2,7 @@
 
 use crate::engine::Engine;
 use crate::pair::Pair;
-use crate::{runs, schedules};
+use crate::{runs, schedules, splits};
 use generators::{crews, drills, inboxes, messages, plans, records, Random};
 use second_engine::inbox::SLOT;
 use second_engine::message::{DECISION_LENGTH, ENTRY, HEADER, SELECTION_LENGTH, VALIDATION_LENGTH};
@@ -19,6 +19,8 @@ pub enum Operation {
     Read,
     /// Asking and taking.
     Round,
+    /// Splitting the rail's current, with the properties of C-19.
+    Split,
     /// Whole runs, with the properties of demand 3.
     Run,
     /// Nodes out of step, with the claims of C-17.
@@ -27,12 +29,13 @@ pub enum Operation {
 }
 
 impl Operation {
-    pub const ALL: [Operation; 8] = [
+    pub const ALL: [Operation; 9] = [
         Operation::Accept,
         Operation::Start,
         Operation::Write,
         Operation::Read,
         Operation::Round,
+        Operation::Split,
         Operation::Run,
         Operation::Schedule,
         Operation::Drill,
@@ -48,6 +51,7 @@ pub fn compare(operation: Operation, seed: u64, one: &dyn Engine, other: &dyn En
         Operation::Write => compare_write(random, one, other),
         Operation::Read => compare_read(random, one, other),
         Operation::Round => compare_round(random, one, other),
+        Operation::Split => splits::drive(random, Pair { engine: one, other: Some(other) }),
         Operation::Run => runs::drive(random, one, Some(other)).map(|_| ()),
         Operation::Schedule => schedules::drive(random, Pair { engine: one, other: Some(other) }).map(|_| ()),
         Operation::Drill => compare_drill(random, one, other),

@@ -1,9 +1,10 @@
 //! The operations of an engine, as a comparison calls them, and the second engine behind them.
 
-use second_engine::{drill, least_crews, message, rounds};
+use second_engine::{current, drill, least_crews, message, rounds};
 use second_engine::{Crew, LeastCrew, Message, Mutation, Node, Plan, Refusal, Selection};
 
-/// An engine. Records are lent to be written, so that a comparison sees where a call should have left one alone.
+/// An engine. Records and shares are lent to be written, so that a comparison sees where a call should have left them
+/// alone.
 pub trait Engine {
     fn accept(&self, crew: Crew) -> Result<(), Refusal>;
     /// Looks up an entry of the table of least crews.
@@ -16,6 +17,8 @@ pub trait Engine {
     fn ask(&self, node: &mut Node, inbox: &[u8]) -> Result<Selection, Refusal>;
     fn take(&self, node: &mut Node, inbox: &[u8]) -> Result<(), Refusal>;
     fn drill(&self, input: &[u8]) -> Vec<u8>;
+    /// Splits the rail's current.
+    fn split(&self, demands: &[u32], budget: u32, shares: &mut [u32]) -> Result<(), Refusal>;
 }
 
 /// The second engine, or a mutant of it.
@@ -59,5 +62,9 @@ impl Engine for Second {
 
     fn drill(&self, input: &[u8]) -> Vec<u8> {
         drill::run_mutated(input, self.mutation)
+    }
+
+    fn split(&self, demands: &[u32], budget: u32, shares: &mut [u32]) -> Result<(), Refusal> {
+        current::split_mutated(demands, budget, shares, self.mutation)
     }
 }

@@ -1,5 +1,6 @@
 //! Comparison of two engines on generated cases and on lookups in the table of least crews (C-11), the properties of
-//! whole runs (01, 'The list in demand 3'), and the claims on schedules, where nodes are out of step (C-17).
+//! whole runs (01, 'The list in demand 3'), the claims on schedules, where nodes are out of step (C-17), and the
+//! properties of splits of the rail's current (C-19).
 
 pub mod cases;
 pub mod decisions;
@@ -13,6 +14,7 @@ pub mod runs;
 pub mod schedules;
 pub mod seeds;
 pub mod slots;
+pub mod splits;
 
 pub use cases::{compare, Operation};
 pub use engine::{Engine, Second};

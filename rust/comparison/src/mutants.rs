@@ -6,7 +6,7 @@ use crate::engine::{Engine, Second};
 use crate::lookups;
 use crate::pair::Pair;
 use crate::regrouping::{self, Regrouping};
-use crate::schedules;
+use crate::{schedules, splits};
 use generators::Random;
 use second_engine::Mutation;
 
@@ -18,16 +18,26 @@ pub struct Cases {
     pub runs: u64,
     pub schedules: u64,
     pub drills: u64,
+    pub splits: u64,
 }
 
 /// All decisions of a run are on one plan, so that these are no change there. Only single rounds tell them.
 const IN_AGREEMENT: [Mutation; 2] = [Mutation::ResultReplaced, Mutation::GreatestDecides];
 
+/// Wrong only in what is refused. Small splits are all accepted, so that other splits have to tell these.
+pub const IN_REFUSALS: [Mutation; 4] = [
+    Mutation::AmountBeforeCount,
+    Mutation::LongerBufferTaken,
+    Mutation::LargestDemandRefused,
+    Mutation::WrittenBeforeRefused,
+];
+
 /// Gives the same cases to the engine and to every mutant, and prints how many tell them apart.
 pub fn tell_all(engine: &dyn Engine, cases: Cases) -> Result<(), String> {
     tell_rounds(engine, cases)?;
     tell_reading(engine, cases)?;
-    tell_lookups(engine)
+    tell_lookups(engine)?;
+    tell_splits(engine, cases)
 }
 
 /// How many of so many cases of each operation tell the mutant; prints them on one line.
@@ -92,6 +102,22 @@ fn tell_lookups(engine: &dyn Engine) -> Result<(), String> {
         let told = lookups::near_the_table().filter(is_told).count();
         println!("  {mutation:?}: {told}");
         check_told(mutation, told > 0)?;
+    }
+    Ok(())
+}
+
+/// The mutants of splits. No other case has a split in it, so random splits have to tell every one, and small ones, of
+/// which none is left out, all but those that are wrong in refusals.
+fn tell_splits(engine: &dyn Engine, cases: Cases) -> Result<(), String> {
+    let small = || generators::splits::small(4);
+    println!("mutants are told by how many of {} splits, {} small splits:", cases.splits, small().count());
+    for mutation in Mutation::MUTANTS_OF_SPLITS {
+        let mutant = Second { mutation };
+        let pair = Pair { engine, other: Some(&mutant) };
+        let told = (1..=cases.splits).filter(|&seed| splits::drive(&mut Random::new(seed), pair).is_err()).count();
+        let told_small = small().filter(|split| splits::check(pair, split).is_err()).count();
+        println!("  {mutation:?}: {told}, {told_small}");
+        check_told(mutation, told > 0 && (told_small > 0 || IN_REFUSALS.contains(&mutation)))?;
     }
     Ok(())
 }

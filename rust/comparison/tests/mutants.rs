@@ -6,7 +6,7 @@ use comparison::pair::Pair;
 use comparison::regrouping::{self, Regrouping};
 use comparison::seeds::seeds;
 use comparison::{compare, Engine, Operation, Second};
-use comparison::{exchanges, runs, schedules};
+use comparison::{exchanges, runs, schedules, splits};
 use generators::schedules::Schedule;
 use generators::Random;
 use second_engine::{Crew, LeastCrew, Message, Mutation, Node, Plan, Refusal, Selection};
@@ -28,11 +28,14 @@ fn the_engine_is_equal_to_itself() {
     if let Err(difference) = lookups::compare_all(lookups::near_the_table(), &Second::default(), &Second::default()) {
         panic!("{difference}");
     }
+    if let Err(difference) = splits::check_small(Pair { engine: &Second::default(), other: Some(&Second::default()) }) {
+        panic!("{difference}");
+    }
 }
 
 #[test]
 fn every_mutant_is_told_from_the_engine() {
-    let cases = Cases { reads: 2_000, rounds: 2_000, runs: 100, schedules: 600, drills: 200 };
+    let cases = Cases { reads: 2_000, rounds: 2_000, runs: 100, schedules: 600, drills: 200, splits: 2_000 };
     if let Err(failure) = tell_all(&Second::default(), cases) {
         panic!("{failure}");
     }
@@ -122,6 +125,10 @@ impl<F: Fn(&Node) -> bool> Engine for Wrong<F> {
 
     fn drill(&self, input: &[u8]) -> Vec<u8> {
         Second::default().drill(input)
+    }
+
+    fn split(&self, demands: &[u32], budget: u32, shares: &mut [u32]) -> Result<(), Refusal> {
+        Second::default().split(demands, budget, shares)
     }
 }
 

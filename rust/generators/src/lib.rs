@@ -1,5 +1,5 @@
 //! Generators of test cases, each a function of a seed: crews, records, messages, inboxes, whole runs, schedules, drill
-//! scripts.
+//! scripts, splits of the rail's current.
 //! Any engine may be fed from them; they use the second engine's types and its reader, never its rules.
 
 pub mod crews;
@@ -12,5 +12,6 @@ pub mod random;
 pub mod records;
 pub mod runs;
 pub mod schedules;
+pub mod splits;
 
 pub use random::Random;

@@ -2,7 +2,9 @@
 //!
 //! Why the calls are sound: a slice goes as its pointer and its length, so the callee may touch these bytes and no
 //! others; a Rust slice's pointer is not null, even where it is empty; `&mut` overlaps nothing else that is lent; and
-//! the functions keep no pointer once they have returned. They need nothing of the bytes' values.
+//! the functions keep no pointer once they have returned. They need nothing of the bytes' values. Where a slice is of
+//! numbers, its length counts numbers on both sides of the call, and its pointer is aligned for them, also where it is
+//! empty.
 
 unsafe extern "C" {
     fn rail_accept(class: u8, n: u8, b: u8, f: u8, d: u8) -> u64;
@@ -25,6 +27,13 @@ unsafe extern "C" {
     fn rail_result(record: *const u8, record_length: usize) -> u64;
     fn rail_read(bytes: *const u8, bytes_length: usize, fields: *mut u8, fields_length: usize) -> u64;
     fn rail_entry(bytes: *const u8, bytes_length: usize, i: usize) -> u64;
+    fn rail_split(
+        demands: *const u32,
+        demands_length: usize,
+        budget: u32,
+        shares: *mut u32,
+        shares_length: usize,
+    ) -> u64;
 }
 
 pub fn accept([class, n, b, f, d]: [u8; 5]) -> u64 {
@@ -70,4 +79,10 @@ pub fn read(bytes: &[u8], fields: &mut [u8]) -> u64 {
 pub fn entry(bytes: &[u8], i: usize) -> u64 {
     // SAFETY: pointer and length are those of a slice; nothing is written.
     unsafe { rail_entry(bytes.as_ptr(), bytes.len(), i) }
+}
+
+pub fn split(demands: &[u32], budget: u32, shares: &mut [u32]) -> u64 {
+    // SAFETY: each pointer and length are those of a slice of numbers; only the shares, which are lent to be, are
+    // written.
+    unsafe { rail_split(demands.as_ptr(), demands.len(), budget, shares.as_mut_ptr(), shares.len()) }
 }

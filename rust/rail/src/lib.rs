@@ -1,5 +1,5 @@
-//! The proved engine for Rust programs: safe functions over its archive (docs/LINKING.md), on numbers and lent bytes.
-//! A record is kept as its image of 149 bytes. Any bytes may be lent: lengths and contents are tested behind the call.
+//! The proved engine for Rust programs: safe functions over its archive (docs/LINKING.md), on numbers and lent slices.
+//! A record is kept as its image of 149 bytes. Anything may be lent: lengths and contents are tested behind the call.
 
 mod calls;
 
@@ -15,8 +15,14 @@ pub const ANY: u64 = 1 << 32;
 pub const ENTRY_PHASE: u64 = 1 << 32;
 /// The value of a least crew is this times its n, plus its D.
 pub const LEAST_N: u64 = 1 << 8;
+/// How many shuttles a split has at most.
+pub const MOST_SHUTTLES: usize = 64;
+/// The highest demand of a shuttle, in mA.
+pub const MOST_DEMAND: u32 = 100_000;
+/// The highest budget, in mA.
+pub const MOST_BUDGET: u32 = 1_000_000;
 
-/// The number of a refusal: 01's 1 to 14, 02's 15 and 16, or one of the three below.
+/// The number of a refusal: 01's 1 to 14, 02's 15, 16, 18 and 19, or one of the three below.
 #[derive(Clone, Copy, Debug, PartialEq, Eq)]
 pub struct Refused(pub u8);
 
@@ -29,7 +35,7 @@ impl Refused {
     pub const NO_ENTRY: Refused = Refused(27);
 }
 
-/// A value below 2^56, or the refusal; where a call is refused, no lent byte is written.
+/// A value below 2^56, or the refusal; where a call is refused, nothing that was lent is written.
 pub type Answer = Result<u64, Refused>;
 
 /// An answer is a value, or 2^56 times the number of a refusal.
@@ -87,4 +93,11 @@ pub fn read(bytes: &[u8], fields: &mut [u8]) -> Answer {
 /// the message, this refuses with the same number.
 pub fn entry(bytes: &[u8], i: usize) -> Answer {
     answer(calls::entry(bytes, i))
+}
+
+/// Splits a budget among shuttles, all in mA, and writes the share of each at the place of its demand: the demand where
+/// the budget is enough for all, else so much that the shares sum to exactly the budget. There are 1 to `MOST_SHUTTLES`
+/// demands, none above `MOST_DEMAND`, as many shares, and a budget of at most `MOST_BUDGET`.
+pub fn split(demands: &[u32], budget: u32, shares: &mut [u32]) -> Answer {
+    answer(calls::split(demands, budget, shares))
 }

@@ -2,6 +2,7 @@
 //! It is written from the papers' sentences alone; comparison tests hold it against the proved engine.
 
 pub mod crew;
+pub mod current;
 pub mod drill;
 pub mod inbox;
 pub mod least_crews;

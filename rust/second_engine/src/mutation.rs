@@ -77,6 +77,30 @@ pub enum Mutation {
     /// Against "It refuses with 16 a read with a non-zero byte after the length, tested after 13." It is tested as soon
     /// as the length is known, before 11, 12 and 13.
     ResidueFirst,
+    /// Against 02 (C-19): "each gets demand × B / T rounded down". It is rounded up, and nothing is left over to give,
+    RoundedUp,
+    /// or to the nearest, half up, and what is left over then, if anything, goes to the largest remainders.
+    RoundedToNearest,
+    /// Against "the mA left over go one each to the largest remainders, lower shuttle number on a tie". On a tie the
+    /// higher number comes first,
+    TiesToTheHigherNumber,
+    /// or the smallest remainders do,
+    SmallestRemaindersFirst,
+    /// or all of them go to the one largest remainder,
+    LeftOverToOne,
+    /// or one of them goes to nobody,
+    OneLeftOverTooFew,
+    /// or none goes to anybody.
+    LeftOverKept,
+    /// Against "It refuses with 18 a count outside 1 to 64 or a share buffer of another length, then with 19 a number
+    /// out of range, writing nothing." 19 is tested before 18,
+    AmountBeforeCount,
+    /// or a longer share buffer is taken, and its front is written,
+    LongerBufferTaken,
+    /// or the largest demand, 100,000 mA, is refused,
+    LargestDemandRefused,
+    /// or the shares are cleared where 19 is answered.
+    WrittenBeforeRefused,
 }
 
 impl Mutation {
@@ -126,5 +150,19 @@ impl Mutation {
         Mutation::ResidueOfDecisions,
         // This one shows in reading alone: under either number the slot is absent.
         Mutation::ResidueFirst,
+    ];
+    /// Every mutant with a wrong rule in splitting the rail's current, which shows nowhere else.
+    pub const MUTANTS_OF_SPLITS: [Mutation; 11] = [
+        Mutation::RoundedUp,
+        Mutation::RoundedToNearest,
+        Mutation::TiesToTheHigherNumber,
+        Mutation::SmallestRemaindersFirst,
+        Mutation::LeftOverToOne,
+        Mutation::OneLeftOverTooFew,
+        Mutation::LeftOverKept,
+        Mutation::AmountBeforeCount,
+        Mutation::LongerBufferTaken,
+        Mutation::LargestDemandRefused,
+        Mutation::WrittenBeforeRefused,
     ];
 }

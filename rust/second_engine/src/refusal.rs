@@ -36,11 +36,15 @@ pub enum Refusal {
     Range = 15,
     /// 02 (C-12): "It refuses with 16 a read with a non-zero byte after the length, tested after 13."
     Residue = 16,
+    /// 02 (C-19): "It refuses with 18 a count outside 1 to 64 or a share buffer of another length,"
+    Count = 18,
+    /// and "then with 19 a number out of range, writing nothing."
+    Amount = 19,
 }
 
 impl Refusal {
     /// Every refusal, in the order of the numbers.
-    pub const ALL: [Refusal; 16] = [
+    pub const ALL: [Refusal; 18] = [
         Refusal::Class,
         Refusal::Nodes,
         Refusal::DecisionOutOfReach,
@@ -57,9 +61,11 @@ impl Refusal {
         Refusal::InboxLength,
         Refusal::Range,
         Refusal::Residue,
+        Refusal::Count,
+        Refusal::Amount,
     ];
 
-    /// The paper's number, 1 to 16: 1 to 14 are 01's, 15 and 16 are 02's.
+    /// The paper's number: 1 to 14 are 01's, 15, 16, 18 and 19 are 02's. No refusal here has 17.
     pub const fn number(self) -> u8 {
         self as u8
     }

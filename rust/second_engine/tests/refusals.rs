@@ -214,8 +214,14 @@ fn asking_and_taking() {
 
 #[test]
 fn numbers_and_refusals() {
-    assert!((1..=16).eq(Refusal::ALL.into_iter().map(Refusal::number)));
+    // No refusal has 17.
+    assert!((1..=16).chain(18..=19).eq(Refusal::ALL.into_iter().map(Refusal::number)));
+    for refusal in Refusal::ALL {
+        assert_eq!(Refusal::from_number(refusal.number()), Some(refusal));
+    }
     assert_eq!(Refusal::from_number(15), Some(Refusal::Range));
     assert_eq!(Refusal::from_number(16), Some(Refusal::Residue));
-    assert_eq!(Refusal::from_number(17), None);
+    assert_eq!(Refusal::from_number(18), Some(Refusal::Count));
+    assert_eq!(Refusal::from_number(19), Some(Refusal::Amount));
+    assert_eq!([0, 17, 20, 255].map(Refusal::from_number), [None; 4]);
 }

@@ -1,6 +1,6 @@
 -- `shown_table` meets its contract: the test of the whole table is computed here.
 use mathlib.Core.Path.{refl}
-use Rattle.wire.proofs.Tests.{everyBelow}
+use Rattle.wire.specs.Below.{everyBelow}
 use Rattle.least_crews.proofs.Entries.{right, allRight, shown}
 use Rattle.least_crews.proofs.shown_table.Statement.{statement}
 use Rattle.least_crews.proofs.shown_table.Tie as tie

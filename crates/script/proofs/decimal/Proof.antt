@@ -5,22 +5,22 @@ use mathlib.Core.List.{List}
 use Prim.Native.Nat.{ℕ, _≤_, _-_}
 use lib.ListN.{length, drop}
 use borrow.Author.Tests.{eq-eqb, ne-eqb}
-use Rattle.script.specs.Fields.{largest, valueFrom, numberOf}
+use Rattle.script.specs.Fields.{valueFrom, numberOf}
 use borrow.Author.Needs.{needs}
 use Rattle.script.proofs.decimal.Statement.{statement}
 use Rattle.script.proofs.decimal.Tie as tie
 
 -- the digits before place i have the value v, and with those left they give the number of the whole field
-record Read (s : List ℕ) (v i : ℕ) : Type 0 where
-  low : v ≤ largest
+record Read (most : ℕ) (s : List ℕ) (v i : ℕ) : Type 0 where
+  low : v ≤ most
   within : i ≤ length s
-  rest : valueFrom v (drop i s) ≡ numberOf s
+  rest : valueFrom most v (drop i s) ≡ numberOf most s
 
 abbrev Inv-loop : tie.InvT-loop
-Inv-loop s v₀ i₀ v i = Read s v i
+Inv-loop s most limit v₀ i₀ v i = Read most s v i
 
 abbrev μ-loop : tie.MeasureT-loop
-μ-loop s v₀ i₀ v i = length s - i
+μ-loop s most limit v₀ i₀ v i = length s - i
 
 returns : tie.Need-returns Inv-loop μ-loop
 unfolding numberOf
@@ -65,10 +65,10 @@ loop-again c =
     let digit = c .before .digit in
     let turn = c .before .before .before in
     record {
-      low = value-low (digit .result) _ (c .if3 .taken);
+      low = value-low _ (digit .result) _ (c .if3 .taken);
       within = search needs;
       rest =
-          value-more _ _ _ _ _ _ (turn .loop-test .taken) (digit .ensures .value) refl (c .if3 .taken)
+          value-more _ _ _ _ _ _ _ (turn .loop-test .taken) (digit .ensures .value) refl (c .if3 .taken)
           (turn .before .loop .inv .rest);
     }
 
@@ -76,14 +76,14 @@ returns-3 : tie.Need-returns-3 Inv-loop μ-loop
 returns-3 c =
     let digit = c .before .digit in
     let turn = c .before .before .before in
-    value-stop _ _ _ _ _ _ (turn .loop-test .taken) (digit .ensures .value) refl (c .if3 .left)
+    value-stop _ _ _ _ _ _ _ (turn .loop-test .taken) (digit .ensures .value) refl (c .if3 .left)
     (turn .before .loop .inv .rest)
 
-cast-t19 : tie.Need-cast-t19 Inv-loop μ-loop
-cast-t19 c = search needs
+cast-t21 : tie.Need-cast-t21 Inv-loop μ-loop
+cast-t21 c = search needs
 
 returns-4 : tie.Need-returns-4 Inv-loop μ-loop
-returns-4 c = value-end _ _ _ _ (c .loop-test .left) (c .before .loop .inv .rest)
+returns-4 c = value-end _ _ _ _ _ (c .loop-test .left) (c .before .loop .inv .rest)
 
 pub decimal-spec : {M : Type 1} → statement M
 decimal-spec =
@@ -103,5 +103,5 @@ decimal-spec =
     loop-less
     loop-again
     returns-3
-    cast-t19
+    cast-t21
     returns-4)

@@ -1,6 +1,8 @@
 -- `numbers_on` meets its contract.
-use mathlib.Core.Path.{_∙_, _≡_}
+use mathlib.Core.Path.{_∙_, _≡_, sym}
 use lib.ListN.{length-set, length, drop}
+use native.Mathlib.Omega.{arith}
+use Rattle.script.proofs.Walk.{number-at-most}
 use Rattle.script.proofs.Words.{piece-within, Turn, turn-bad, turn-full, turn-more, turn-last}
 use mathlib.Core.List.{List}
 use Prim.Native.Nat.{ℕ, _≤_, _-_}
@@ -71,6 +73,12 @@ returns c =
     c .no-numbers .ensures
     ∙ turn-full (turn (valued .before .before)) _ (valued .value .given .1) (c .before .if1 .taken)
 
+cast-values : tie.Need-cast-values Inv-loop μ-loop
+cast-values c =
+    let valued = c .before .before in
+    let read = valued .before .before .decimal in
+    omega (arith, number-at-most _ _ _ (sym (read .ensures) ∙ valued .value .given .1))
+
 mul-values : tie.Need-mul-values Inv-loop μ-loop
 mul-values c = search needs
 
@@ -127,6 +135,7 @@ numbers-on-spec =
     enum-known-value
     no-numbers-requires
     returns
+    cast-values
     mul-values
     array-write-values
     add-count

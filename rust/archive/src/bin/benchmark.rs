@@ -1,17 +1,20 @@
-//! Times the proved engine's archive against the second engine, both in this one run, on the same inboxes, in turn, and
-//! the proved drill program against the second engine's, `second_drill`, which is expected beside this program.
+//! Times the proved engine's archive against the second engine, both in this one run, on the same inboxes and splits,
+//! in turn, and the proved drill program against the second engine's, `second_drill`, which is expected beside this
+//! program.
 //! docs/BENCHMARK.md says what is measured. Usage: benchmark DRILL [REPETITIONS]; it prints the summary that the page
 //! holds, then the whole tables.
 
 use archive::engine::numbers;
 use archive::{image, Archive};
 use comparison::Engine;
-use generators::drills;
 use generators::messages::Fields;
+use generators::{drills, Random};
 use rail::RECORD;
+use second_engine::current::{self, MOST_BUDGET, MOST_DEMAND, MOST_SHUTTLES};
 use second_engine::inbox::SLOT;
 use second_engine::message::LAST_PHASE;
 use second_engine::{rounds, Crew, Node, Plan};
+use std::cell::RefCell;
 use std::fs::{self, File};
 use std::hint::black_box;
 use std::path::{Path, PathBuf};
@@ -101,6 +104,7 @@ fn main() {
     print_rows(&rows);
     print_growth(&rows);
     print_image(repetitions);
+    print_splits(repetitions);
     print_drill(repetitions, drill.into());
 }
 
@@ -342,6 +346,56 @@ fn print_image(repetitions: usize) {
     println!("| the same test in the second engine, which has no image | {sound:.0} |");
     println!("| starting a node and writing its image (`rail_start`) | {start:.0} |");
     println!();
+}
+
+/// So many demands with a budget for them, by name: too little, with one remainder for all or with random ones, and
+/// enough.
+fn splits(count: usize) -> [(&'static str, Vec<u32>, u32); 3] {
+    let random = &mut Random::new(1);
+    let mut up_to = |most: u32| -> Vec<u32> { (0..count).map(|_| random.between(1, most as usize) as u32).collect() };
+    let equal = vec![MOST_DEMAND; count];
+    let any = up_to(MOST_DEMAND);
+    let low = up_to(MOST_DEMAND.min(MOST_BUDGET / count as u32));
+    let half = |demands: &[u32]| (demands.iter().sum::<u32>() / 2).min(MOST_BUDGET) - 1;
+    let (half_of_equal, half_of_any) = (half(&equal), half(&any));
+    [("too little, a tie of all", equal, half_of_equal), ("too little", any, half_of_any), ("enough", low, MOST_BUDGET)]
+}
+
+/// Splits of the rail's current, of few demands and of as many as there may be.
+fn print_splits(repetitions: usize) {
+    println!("## Splits");
+    println!();
+    println!("Nanoseconds.");
+    println!();
+    println!("| demands | budget | engine | second | ratio |");
+    println!("|---|---|---|---|---|");
+    for count in [4, MOST_SHUTTLES] {
+        for (name, demands, budget) in splits(count) {
+            let shares = RefCell::new(vec![0; count]);
+            check_split(&demands, budget);
+            let engine = || {
+                let shares = &mut shares.borrow_mut();
+                _ = black_box(rail::split(black_box(&demands), black_box(budget), black_box(shares)));
+            };
+            let second = || {
+                let shares = &mut shares.borrow_mut();
+                _ = black_box(current::split(black_box(&demands), black_box(budget), black_box(shares)));
+            };
+            let [engine, second] = time(repetitions, [&engine, &second]);
+            let ratio = median_ratio(&engine, &second);
+            println!("| {count} | {name} | {:.0} | {:.0} | {ratio:.2} |", median(engine), median(second));
+        }
+    }
+    println!();
+}
+
+/// What is timed is accepted, and both engines answer it alike.
+fn check_split(demands: &[u32], budget: u32) {
+    let archive = Archive { drill: Default::default() };
+    let (mut one, mut other) = (vec![0; demands.len()], vec![1; demands.len()]);
+    current::split(demands, budget, &mut other).expect("the second engine splits the budget");
+    archive.split(demands, budget, &mut one).expect("the engine splits the budget");
+    assert_eq!(one, other);
 }
 
 /// The drill programs, each from its start to its end: on the longest script, and on one that has the same first lines

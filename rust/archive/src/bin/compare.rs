@@ -1,12 +1,14 @@
-//! Holds the proved engine's archive and drill against the second engine: all small crews, all lookups, the longest
-//! drill, random cases of every operation and of the boundary, and every mutant, which has to be told from the archive.
+//! Holds the proved engine's archive and drill against the second engine: all small crews, all lookups, all small
+//! splits, the longest drill, random cases of every operation and of the boundary, and every mutant, which has to be
+//! told from the archive.
 //! Usage: compare DRILL [MINUTES]. Without MINUTES each operation gets its number of cases once; with MINUTES it gets
 //! them again and again, with new seeds, until the time is over. SEED sets the first seed.
 
 use archive::{boundary, Archive, Boundary};
 use comparison::cases::same;
 use comparison::mutants::{tell_all, Cases};
-use comparison::{compare, lookups, Engine, Operation, Second};
+use comparison::pair::Pair;
+use comparison::{compare, lookups, splits, Engine, Operation, Second};
 use generators::{crews, drills};
 use std::panic::{catch_unwind, AssertUnwindSafe};
 use std::process::exit;
@@ -16,6 +18,7 @@ use std::time::{Duration, Instant, SystemTime, UNIX_EPOCH};
 fn cases_of(operation: Operation) -> u64 {
     match operation {
         Operation::Accept | Operation::Start | Operation::Write | Operation::Read | Operation::Round => 1_000_000,
+        Operation::Split => 1_000_000,
         Operation::Run => 5_000,
         Operation::Schedule => 6_000,
         Operation::Drill => 3_000,
@@ -25,7 +28,7 @@ fn cases_of(operation: Operation) -> u64 {
 fn cases_of_boundary(boundary: Boundary) -> u64 {
     match boundary {
         Boundary::Lengths => 200_000,
-        Boundary::Images => 500_000,
+        Boundary::Images | Boundary::Splits => 500_000,
         Boundary::Results | Boundary::Messages => 1_000_000,
     }
 }
@@ -69,9 +72,10 @@ fn first_seed(is_new: bool) -> u64 {
 fn compare_once(archive: &Archive, first: u64) -> Result<(), String> {
     compare_small_crews(archive)?;
     lookups::compare_all(lookups::every(), archive, &Second::default())?;
+    splits::check_small(Pair { engine: archive, other: Some(&Second::default()) })?;
     compare_longest_drill(archive)?;
     compare_all(archive, first, 1)?;
-    tell_all(archive, Cases { reads: 2_000, rounds: 2_000, runs: 100, schedules: 400, drills: 100 })
+    tell_all(archive, Cases { reads: 2_000, rounds: 2_000, runs: 100, schedules: 400, drills: 100, splits: 2_000 })
 }
 
 fn compare_for(archive: &Archive, first: u64, time: Duration) -> Result<(), String> {

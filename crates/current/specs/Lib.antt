@@ -1,0 +1,4 @@
+pub mod Sums
+pub mod Shares
+pub mod Fair
+pub mod Promises
