@@ -126,8 +126,8 @@ static void whole_round(uint8_t records[HONEST][RAIL_RECORD])
     printf("\n");
 }
 
-/* Each node splits the budget of the decided plan, and comes to the same shares. Which plan has which budget is a table
- * of the site's own. */
+/* Any node can split the budget of the decided plan, and all come to the same shares. Which plan has which budget is a
+ * table of the site's own. */
 static void show_split(unsigned plan)
 {
     enum { SHUTTLES = 3 };

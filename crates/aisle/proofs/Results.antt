@@ -11,9 +11,10 @@ use borrow.Author.Tests.{lt-ltb, le-ltb, ltb-true, ltb-false}
 use Rattle.crew.specs.Parts.{mostNodes}
 use Rattle.node.specs.declared.Node.{Node}
 use Rattle.wire.proofs.Tests.{by-equality}
+use Rattle.wire.specs.Below.{table}
 use Rattle.wire.proofs.Arrays.{same-everywhere, filled-all}
-use Rattle.aisle.specs.Round.{table, nodeIn, resultsOf}
-use Rattle.aisle.proofs.Tables.{table-long, table-filled}
+use Rattle.wire.proofs.Tables.{table-long, table-filled}
+use Rattle.aisle.specs.Round.{nodeIn, resultsOf}
 
 -- node k's result, if it is one of the first i
 abbrev resultOf : List Node → ℕ → ℕ → ℕ

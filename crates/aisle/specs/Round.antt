@@ -2,10 +2,11 @@
 -- coming message, then every honest node takes the round, with an inbox of what reaches it.
 use Prim.Native.Nat.{ℕ, zero, suc, _+_, _*_}
 use mathlib.Core.Bool.{Bool, false, cond, _&&_}
-use mathlib.Core.List.{List, [], _∷_, _++_}
+use mathlib.Core.List.{List, [], _++_}
 use lib.ListN.{getD, replicate}
 use lib.Dec.{leb, ltb, eqb}
 use Rattle.wire.specs.Outcome.{valueOr}
+use Rattle.wire.specs.Below.{table}
 use Rattle.wire.specs.Sizes.{spentPhase}
 use Rattle.crew.specs.Parts.{mostNodes}
 use Rattle.message.specs.Layout.{slotSize}
@@ -21,11 +22,6 @@ use Rattle.pending.specs.declared.Waiting.{Waiting}
 use Rattle.pending.specs.Pairs.{nothing, waitingFrom}
 use Rattle.aisle.specs.declared.Setup.{Setup}
 use Rattle.aisle.specs.declared.Moment.{Moment}
-
--- f 0 to f (n - 1)
-unfoldable pub table : {A : Type 0} → (ℕ → A) → ℕ → List A
-table f zero = []
-table f (suc n) = table f n ++ (f n ∷ [])
 
 -- what stands at no place of an array of records, and of one of what waits
 abbrev pub nowhere : Node

@@ -4,13 +4,13 @@ use mathlib.Core.List.{List}
 use lib.ListN.{getD, replicate}
 use lib.Dec.{leb}
 use Rattle.wire.specs.Outcome.{valueOr}
+use Rattle.wire.specs.Below.{table}
 use Rattle.crew.specs.declared.Crew.{Crew}
 use Rattle.crew.specs.Parts.{mostNodes}
 use Rattle.node.specs.Record.{blank}
 use Rattle.node.specs.Starting.{startOf}
 use Rattle.pending.specs.Pairs.{nothing}
 use Rattle.aisle.specs.declared.State.{State}
-use Rattle.aisle.specs.Round.{table}
 
 -- The drill after line 2. A node with plan 0 is not honest: its start is refused.
 -- 01: "0 for a node that is not honest"; "Run is 1."

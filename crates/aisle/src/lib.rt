@@ -14,6 +14,7 @@ ghost use mathlib.Core.Bool.{cond};
 ghost use lib.ListN.{getD, length, replicate};
 ghost use lib.Dec.{leb};
 ghost use Rattle.wire.specs.Outcome.{valueOr};
+ghost use Rattle.wire.specs.Below.{table};
 ghost use Rattle.wire.specs.Sizes.{spentPhase};
 ghost use Rattle.crew.specs.Parts.{mostNodes};
 ghost use Rattle.message.specs.Layout.{slotSize};
@@ -22,7 +23,6 @@ ghost use Rattle.node.specs.Place.{roundAfter, phaseAfter};
 ghost use Rattle.node.specs.Sending.{comingBufferOf};
 ghost use Rattle.node.specs.Starting.{startOf};
 ghost use Rattle.aisle.specs.Round.{
-  table,
   sayBuffer,
   delivered,
   nodeAfter,

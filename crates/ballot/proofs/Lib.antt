@@ -1,5 +1,6 @@
 pub mod Tests
 pub mod Counting
+pub mod Loops
 pub mod Least
 pub mod AnyPlan
 pub mod Selection

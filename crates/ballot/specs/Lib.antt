@@ -4,3 +4,4 @@ pub mod Least
 pub mod Selection
 pub mod Validation
 pub mod Decision
+pub mod Promises

@@ -1,5 +1,5 @@
 -- What the functions for C and Rust answer, and what they leave in what they are lent: the engine's own definitions on
--- the record whose image is lent.
+-- the record whose image is lent. A split is crate current's own definition, on the numbers that are lent.
 use Prim.Native.Nat.{ℕ, _+_, _*_, _/_, _^_, _<_}
 use mathlib.Core.Path.{_≡_}
 use mathlib.Core.List.{List, [], _∷_, _++_}

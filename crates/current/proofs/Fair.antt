@@ -1,6 +1,6 @@
 -- What 02 says of the shares holds of any demands and every budget: `fair` at the end.
 use mathlib.Core.Path.{_≡_, ap, _∙_}
-use mathlib.Core.Bool.{Bool}
+use mathlib.Core.Bool.{Bool, _||_}
 use mathlib.Core.List.{List}
 use mathlib.Core.Logic.{_⊎_, inl, inr}
 use Prim.Native.Nat.{ℕ, suc, _+_, _≤_, _<_}
@@ -8,19 +8,21 @@ use native.Mathlib.Omega.{arith}
 use native.Mathlib.Nat.{mul-le-mul-left}
 use native.Mathlib.Decide.{decLt, decLe}
 use native.Mathlib.Numerals.{add-one}
-use lib.Dec.{T, leb, ltb, eqb}
+use lib.Dec.{T, leb, ltb, eqb, eqb-refl}
 use lib.ListN.{length, List·getD-eq-default}
 use lib.Seq.{ext-getD}
 use borrow.Author.Tests.{le-leb, lt-leb}
-use Rattle.wire.proofs.Tests.{tests, by-equality}
+use Rattle.wire.proofs.Tests.{tests, or-T, T-or-l, T-or-r}
+use Rattle.wire.proofs.Tables.{table-long, table-filled}
 use Rattle.ballot.specs.Count.{bit, tally}
 use Rattle.ballot.proofs.Counting.{bit-T, bit-F, bit-le, bit-mono, tally-le, tally-same}
+use Rattle.ballot.proofs.Counting.{tally-meet, tally-join, tally-has, tally-none, nobody-of}
 use Rattle.current.specs.Sums.{sum}
 use Rattle.current.specs.Shares.{amount, total, wholePart, remainder, leftOver, rank, getsOne, share, sharesOf}
 use Rattle.current.specs.Fair.{Fair}
-use Rattle.current.proofs.Sums.{sum-le, sum-same, sum-add, sum-tally, sum-has, one-is, length-table, table-at}
+use Rattle.current.proofs.Sums.{sum-same, sum-add, sum-tally, sum-has}
 use Rattle.current.proofs.Ranks.{aboveIt, ranks-count}
-use Rattle.current.proofs.Keys.{key, step, rank-key, distinct-keys}
+use Rattle.current.proofs.Keys.{keyIn, step, rank-key, distinct-keys}
 use Rattle.current.proofs.Parts.{left-and-wholes, hasRest, left-few, left-most}
 use Rattle.current.proofs.Parts.{whole-below, nothing-asked, Stays, Rises, one-more, whole-near}
 
@@ -36,7 +38,7 @@ module _ (demands : List ℕ) (budget : ℕ) where
 
   -- a shuttle's place in the order, as one number, and its rank by it
   abbrev keyOf : ℕ → ℕ
-  keyOf = key (length demands) (remainder demands budget)
+  keyOf = keyIn (length demands) (remainder demands budget)
 
   ranked : (i : ℕ) → i < length demands → rank demands budget i ≡ aboveIt keyOf (length demands) i
   unfolding rank
@@ -133,10 +135,10 @@ module _ (demands : List ℕ) (budget : ℕ) (over : suc budget < total demands)
       )
 
   -- where i rises, its key falls, and what does not rise does not fall: it still goes before i if it did
-  still-before : (i j : ℕ) → i < length demands → Rises demands budget i → Stays demands budget j
+  still-ahead : (i j : ℕ) → i < length demands → Rises demands budget i → Stays demands budget j
       → T (ltb (keyOf demands budget i) (keyOf demands budget j))
       → T (ltb (keyOf demands (suc budget) i) (keyOf demands (suc budget) j))
-  still-before i j inside up s t =
+  still-ahead i j inside up s t =
       let n = length demands in
       let own : remainder demands (suc budget) i ≤ remainder demands budget i = omega (arith, up .rest, demand-low) in
       let other : remainder demands budget j ≤ remainder demands (suc budget) j = omega (arith, s .rest) in
@@ -147,50 +149,25 @@ module _ (demands : List ℕ) (budget : ℕ) (over : suc budget < total demands)
 
   module _ (i : ℕ) (inside : i < length demands) (up : Rises demands budget i) where
     -- so, of each shuttle: it is i, or it rises, or it goes before i still if it did
-    each : (j : ℕ) → j < length demands
-        → bit (ltb (keyOf demands budget i) (keyOf demands budget j)) + bit (eqb j i)
-        ≤ bit (ltb (keyOf demands (suc budget) i) (keyOf demands (suc budget) j)) + bit (rises j)
-    each j j-inside = by-equality j i itself other
-      where
-        old : Bool
-        old = ltb (keyOf demands budget i) (keyOf demands budget j)
-
-        new : Bool
-        new = ltb (keyOf demands (suc budget) i) (keyOf demands (suc budget) j)
-
-        itself : j ≡ i → bit old + bit (eqb j i) ≤ bit new + bit (rises j)
-        itself same =
-            omega (
-              arith,
-              bit-F old (λ t. omega (tests, ap (keyOf demands budget) same)),
-              bit-le (eqb j i),
-              bit-T (rises j) (rw same (omega (tests, up .high))),
-            )
-
-        other : (j ≡ i → ⊥) → bit old + bit (eqb j i) ≤ bit new + bit (rises j)
-        other apart =
-            let none = bit-F (eqb j i) (λ t. apart (omega tests)) in
-            elim (one-more demands budget below j j-inside) [
-              | inl s ↦ omega (arith, none, bit-mono old new (still-before i j inside up s))
-              | inr s ↦ omega (arith, none, bit-le old, bit-T (rises j) (omega (tests, s .high)))
-            ]
-
     rank-next : rank demands budget i + 1 ≤ rank demands (suc budget) i + tally rises (length demands)
     rank-next =
         let n = length demands in
         let old : ℕ → Bool = λ j. ltb (keyOf demands budget i) (keyOf demands budget j) in
         let new : ℕ → Bool = λ j. ltb (keyOf demands (suc budget) i) (keyOf demands (suc budget) j) in
         let is : ℕ → Bool = λ j. eqb j i in
+        let either : ℕ → Bool = λ j. new j || rises j in
         omega (
           arith,
-          sum-le (λ j. bit (old j) + bit (is j)) (λ j. bit (new j) + bit (rises j)) n each,
-          sum-add (λ j. bit (old j)) (λ j. bit (is j)) n,
-          sum-add (λ j. bit (new j)) (λ j. bit (rises j)) n,
-          sum-tally old n,
-          sum-tally new n,
-          sum-tally is n,
-          sum-tally rises n,
-          one-is i n inside,
+          tally-meet old is either nobody-of n
+              (λ j l t. elim (one-more demands budget below j l) [
+                | inl s ↦ T-or-l (new j) (rises j) (still-ahead i j inside up s t)
+                | inr s ↦ T-or-r (new j) (rises j) (omega (tests, s .high))
+              ])
+              (λ j l t. let same : j ≡ i = omega tests in T-or-r (new j) (rises j) (rw same (omega (tests, up .high))))
+              (λ j l t k. let same : j ≡ i = omega tests in omega (tests, ap (keyOf demands budget) same)),
+          tally-join either new rises n (λ j l t. or-T (new j) (rises j) t),
+          tally-has is n i inside (eqb-refl i),
+          tally-none n,
           ranked demands budget i inside,
           ranked demands (suc budget) i inside,
         )
@@ -250,11 +227,11 @@ share-near demands budget i inside = go (decLe (total demands) budget) (decLe (t
 module _ (demands : List ℕ) (budget : ℕ) where
   pub length-shares : length (sharesOf demands budget) ≡ length demands
   unfolding sharesOf
-  length-shares = length-table (share demands budget) (length demands)
+  length-shares = table-long (share demands budget) (length demands)
 
   pub share-at : (i : ℕ) → i < length demands → amount (sharesOf demands budget) i ≡ share demands budget i
   unfolding sharesOf
-  share-at i inside = table-at (share demands budget) (length demands) i inside
+  share-at i inside = table-filled (share demands budget) 0 (length demands) i inside
 
   -- a number that no shuttle has
   behind : (i : ℕ) → length demands ≤ i → amount (sharesOf demands budget) i ≡ 0

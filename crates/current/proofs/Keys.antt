@@ -11,7 +11,8 @@ use lib.Dec.{T, ltb, eqb}
 use Rattle.wire.proofs.Tests.{tests, and-T, T-and, or-T, T-or-l, T-or-r}
 use Rattle.ballot.specs.Count.{tally}
 use Rattle.ballot.proofs.Counting.{tally-same}
-use Rattle.current.specs.Shares.{before}
+use Rattle.current.specs.Shares.{aheadOf}
+use Rattle.current.specs.Promises.{key}
 use Rattle.current.proofs.Ranks.{Distinct, aboveIt}
 
 -- two tests that go with each other are the same
@@ -21,29 +22,29 @@ same-test true false f g = absurd (f tt)
 same-test false true f g = absurd (g tt)
 same-test false false f g = refl
 
--- by how much of a remainder in steps of the base, and within a step by the number, the lower first
-abbrev pub key : ℕ → (ℕ → ℕ) → ℕ → ℕ
-key base m i = base * m i + (base - suc i)
+-- shuttle i's key
+abbrev pub keyIn : ℕ → (ℕ → ℕ) → ℕ → ℕ
+keyIn base m i = key base (m i) i
 
 -- a higher remainder is a whole step
 pub step : (base a b : ℕ) → a < b → base * a + base ≤ base * b
 step base a b less = omega (arith, mul-le-mul-left {m = suc a} {n = b} base (omega arith), mul-suc base a)
 
 module _ (base : ℕ) (m : ℕ → ℕ) (i j : ℕ) (inside-i : i < base) (inside-j : j < base) where
-  before-higher : T (before m i j) → T (ltb (key base m i) (key base m j))
-  before-higher t = go (or-T (ltb (m i) (m j)) (eqb (m j) (m i) && ltb j i) t)
+  ahead-higher : T (aheadOf m i j) → T (ltb (keyIn base m i) (keyIn base m j))
+  ahead-higher t = go (or-T (ltb (m i) (m j)) (eqb (m j) (m i) && ltb j i) t)
     where
-      go : T (ltb (m i) (m j)) ⊎ T (eqb (m j) (m i) && ltb j i) → T (ltb (key base m i) (key base m j))
+      go : T (ltb (m i) (m j)) ⊎ T (eqb (m j) (m i) && ltb j i) → T (ltb (keyIn base m i) (keyIn base m j))
       go (inl a) = omega (tests, step base (m i) (m j) (omega tests))
       go (inr b) =
           let both = and-T (eqb (m j) (m i)) (ltb j i) b in
           let same : m j ≡ m i = omega (tests, both .0) in
           omega (tests, both .1, ap (λ (r : ℕ). base * r) same)
 
-  higher-before : T (ltb (key base m i) (key base m j)) → T (before m i j)
-  higher-before t = go (decLt (m i) (m j)) (decLt (m j) (m i))
+  higher-ahead : T (ltb (keyIn base m i) (keyIn base m j)) → T (aheadOf m i j)
+  higher-ahead t = go (decLt (m i) (m j)) (decLt (m j) (m i))
     where
-      go : Dec (m i < m j) → Dec (m j < m i) → T (before m i j)
+      go : Dec (m i < m j) → Dec (m j < m i) → T (aheadOf m i j)
       go (yes a) b = T-or-l (ltb (m i) (m j)) (eqb (m j) (m i) && ltb j i) (omega tests)
       go (no a) (yes b) = absurd (omega (tests, step base (m j) (m i) b))
       go (no a) (no b) =
@@ -51,18 +52,18 @@ module _ (base : ℕ) (m : ℕ → ℕ) (i j : ℕ) (inside-i : i < base) (insid
           T-or-r (ltb (m i) (m j)) (eqb (m j) (m i) && ltb j i)
           (T-and (eqb (m j) (m i)) (ltb j i) (omega tests) (omega (tests, ap (λ (r : ℕ). base * r) same)))
 
-  pub before-key : before m i j ≡ ltb (key base m i) (key base m j)
-  before-key = same-test (before m i j) (ltb (key base m i) (key base m j)) before-higher higher-before
+  pub ahead-key : aheadOf m i j ≡ ltb (keyIn base m i) (keyIn base m j)
+  ahead-key = same-test (aheadOf m i j) (ltb (keyIn base m i) (keyIn base m j)) ahead-higher higher-ahead
 
 -- so the rank of a shuttle is how many have a higher key
 pub rank-key : (base : ℕ) (m : ℕ → ℕ) (n i : ℕ) → n ≤ base → i < n
-    → tally (before m i) n ≡ aboveIt (key base m) n i
+    → tally (aheadOf m i) n ≡ aboveIt (keyIn base m) n i
 rank-key base m n i room inside =
-    tally-same (before m i) (λ j. ltb (key base m i) (key base m j)) n
-    (λ j l. before-key base m i j (omega arith) (omega arith))
+    tally-same (aheadOf m i) (λ j. ltb (keyIn base m i) (keyIn base m j)) n
+    (λ j l. ahead-key base m i j (omega arith) (omega arith))
 
 -- and no two have the same
-pub distinct-keys : (base : ℕ) (m : ℕ → ℕ) (n : ℕ) → n ≤ base → Distinct (key base m) n
+pub distinct-keys : (base : ℕ) (m : ℕ → ℕ) (n : ℕ) → n ≤ base → Distinct (keyIn base m) n
 distinct-keys base m n room i j a b e = go (decLt (m i) (m j)) (decLt (m j) (m i))
   where
     go : Dec (m i < m j) → Dec (m j < m i) → i ≡ j

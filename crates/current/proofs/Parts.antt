@@ -7,7 +7,7 @@ use mathlib.Core.Logic.{_⊎_, inl, inr}
 use Prim.Native.Nat.{ℕ, zero, suc, _+_, _-_, _*_, _/_, _%_, _≤_, _<_}
 use native.Mathlib.Omega.{arith}
 use native.Mathlib.Decide.{decLt}
-use native.Mathlib.Nat.{add-mul, mul-comm, mul-suc, div-add-mod', mod-lt, mod-eq-of-lt, mod-eq-sub-mod}
+use native.Mathlib.Nat.{mul-le-mul-left, add-mul, mul-comm, mul-suc, div-add-mod', mod-lt, mod-eq-of-lt, mod-eq-sub-mod}
 use native.Mathlib.Nat.{div-eq-of-lt, div-eq-of-lt-le, mul-div-cancel, mul-add-div-right, mul-add-mod-self-right}
 use native.Mathlib.Nat.{le-of-mul-le-mul-right, lt-of-mul-lt-mul-right, mul-lt-mul-of-pos-left}
 use lib.Dec.{ltb}
@@ -108,11 +108,10 @@ module _ (demands : List ℕ) (budget : ℕ) (over : budget < total demands) whe
       (omega arith, omega (arith, parts i, product))
 
   pub whole-within : (i : ℕ) → wholePart demands budget i ≤ amount demands i
-  whole-within i = go (decLt 0 (amount demands i))
-    where
-      go : Dec (0 < amount demands i) → wholePart demands budget i ≤ amount demands i
-      go (yes some) = omega (arith, whole-below i some)
-      go (no none) = omega (arith, nothing-asked i (omega arith) .0)
+  whole-within i =
+      le-of-mul-le-mul-right {k = total demands}
+      (omega (arith, parts i, mul-le-mul-left {m = budget} {n = total demands} (amount demands i) (omega arith)))
+      (omega arith)
 
 -- from a product to its whole part and remainder
 whole-of : (demands : List ℕ) (budget i x : ℕ) → amount demands i * budget ≡ x

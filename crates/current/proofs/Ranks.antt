@@ -5,10 +5,10 @@ use mathlib.Core.Logic.{_⊎_, inl, inr}
 use Prim.Native.Nat.{ℕ, zero, suc, _+_, _-_, _≤_, _<_}
 use native.Mathlib.Omega.{arith}
 use native.Mathlib.Decide.{ℕ-discrete, decLt}
-use lib.Dec.{T, ltb, eqb}
-use Rattle.wire.proofs.Tests.{tests, by-equality}
+use lib.Dec.{T, ltb, eqb, eqb-refl}
+use Rattle.wire.proofs.Tests.{tests}
 use Rattle.ballot.specs.Count.{bit, tally}
-use Rattle.ballot.proofs.Counting.{bit-T, bit-F, bit-mono, tally-le, tally-join, tally-not}
+use Rattle.ballot.proofs.Counting.{tally-le, tally-join, tally-meet, tally-has, tally-not}
 use Rattle.ballot.proofs.Counting.{Implies, tally-none, nobody-of, tally-all, all-of}
 
 -- g gives no two numbers below n the same value
@@ -51,21 +51,14 @@ below-exactly g n L h k le =
 
 -- a test that passes more, and strictly more at q, has a higher count
 tally-lt : (p r : ℕ → Bool) (n q : ℕ) → Implies n p r → q < n → (T (p q) → ⊥) → T (r q) → tally p n < tally r n
-unfolding tally
-tally-lt p r zero q h l np tr = absurd (omega arith)
-tally-lt p r (suc n) q h l np tr =
-    by-equality q n
-    (λ e. omega (
+tally-lt p r n q h l np tr =
+    omega (
       arith,
-      bit-F (p n) (rw e at np),
-      bit-T (r n) (rw e at tr),
-      tally-le p r n (λ i k. h i (omega arith)),
-    ))
-    (λ e. omega (
-      arith,
-      bit-mono (p n) (r n) (h n (omega arith)),
-      tally-lt p r n q (λ i k. h i (omega arith)) (omega (arith, e)) np tr,
-    ))
+      tally-meet p (λ k. eqb k q) r nobody-of n h (λ k j t. let same : k ≡ q = omega tests in rw same tr)
+          (λ k j a b. let same : k ≡ q = omega tests in absurd (np (rw same at a))),
+      tally-has (λ k. eqb k q) n q l (eqb-refl q),
+      tally-none n,
+    )
 
 module _ (key : ℕ → ℕ) (n : ℕ) where
   -- how many have a higher key than i

@@ -1,21 +1,23 @@
 -- What the functions that share a budget out go by: a demand's part, and what the shares come to.
-use mathlib.Core.Path.{_≡_, refl, sym, ap, ap₂, _∙_}
-use mathlib.Core.List.{List, [], _∷_, _++_}
-use Prim.Native.Nat.{ℕ, zero, suc, _-_, _*_, _≤_, _<_}
+use mathlib.Core.Path.{_≡_, sym, ap, ap₂, _∙_}
+use mathlib.Core.List.{List}
+use Prim.Native.Nat.{ℕ, _-_, _*_, _≤_, _<_}
 use native.Mathlib.Omega.{arith}
 use native.Mathlib.Nat.{mul-le-mul-right}
 use native.Mathlib.Decide.{decLt}
 use lib.Dec.{ltb}
 use lib.ListN.{length, getD, List·getD-eq-default}
-use Rattle.wire.proofs.Arrays.{Filling, filled-all}
+use Rattle.wire.specs.Below.{table}
+use Rattle.wire.proofs.Tables.{table-long, table-filled, table-same}
+use Rattle.ballot.specs.Count.{tally}
 use Rattle.ballot.proofs.Counting.{tally-same}
-use Rattle.current.specs.Sums.{sum, table}
+use Rattle.current.specs.Sums.{sum}
 use Rattle.current.specs.Shares.{mostShuttles, mostDemand, amount, total}
 use Rattle.current.specs.Shares.{wholePart, remainder, leftOver, rank, share, sharesOf}
-use Rattle.current.specs.Promises.{mostTotal, Divided, Small, Scarce, above, withExtra, LaidParts}
+use Rattle.current.specs.Promises.{mostTotal, Divided, Small, Scarce, isAbove, withExtra, LaidParts}
 use Rattle.current.specs.declared.Part.{Part}
-use Rattle.current.proofs.Sums.{sum-same, sum-most, length-table, table-at}
-use Rattle.current.proofs.Keys.{key, rank-key}
+use Rattle.current.proofs.Sums.{sum-same, sum-most}
+use Rattle.current.proofs.Keys.{keyIn, rank-key}
 use Rattle.current.proofs.Parts.{whole-within, wholes-within, remainder-low}
 use Rattle.current.proofs.Fair.{share-over}
 
@@ -46,26 +48,14 @@ module _ {demands : List ℕ} {budget all : ℕ} (scarce : Scarce demands budget
   pub rest-low : (i : ℕ) → remainder demands budget i < mostTotal
   rest-low i = omega (arith, remainder-low demands budget over i, total-low, scarce .is-total)
 
--- A list that a loop has filled with what the numbers below n give.
-pub filled-table : {f : ℕ → ℕ} {n : ℕ} {l : List ℕ} {i : ℕ} → Filling 0 f n l i → n ≤ i → l ≡ table f n
-filled-table {f} {n} {l} {i} filling ended =
-    filled-all f 0 l (table f n) i (filling .long ∙ sym (length-table f n)) (omega (arith, filling .long))
-    (filling .so-far) (λ k less. table-at f n k (omega (arith, length-table f n)))
-
-table-same : (f g : ℕ → ℕ) (n : ℕ) → ((i : ℕ) → i < n → f i ≡ g i) → table f n ≡ table g n
-unfolding table
-table-same f g zero same = refl
-table-same f g (suc n) same =
-    ap₂ (λ l x. l ++ (x ∷ [])) (table-same f g n (λ i l. same i (omega arith))) (same n (omega arith))
-
 -- The shares, from the whole parts and the priorities.
 module _ {demands : List ℕ} {budget all : ℕ} (scarce : Scarce demands budget all) {shares priorities : List ℕ}
     (laid : LaidParts demands budget shares priorities) where
   pub as-long : length shares ≡ length demands
-  as-long = ap length (laid .wholes) ∙ length-table (wholePart demands budget) (length demands)
+  as-long = ap length (laid .wholes) ∙ table-long (wholePart demands budget) (length demands)
 
   whole-at : (i : ℕ) → i < length demands → amount shares i ≡ wholePart demands budget i
-  whole-at i inside = rw (laid .wholes) (table-at (wholePart demands budget) (length demands) i inside)
+  whole-at i inside = rw (laid .wholes) (table-filled (wholePart demands budget) 0 (length demands) i inside)
 
   pub small-shares : Small shares
   small-shares = record {
@@ -86,13 +76,13 @@ module _ {demands : List ℕ} {budget all : ℕ} (scarce : Scarce demands budget
   wholes-low = omega (arith, wholes-total, wholes-within demands budget (over scarce))
 
   rank-is : (i : ℕ) → i < length demands
-      → above priorities (length demands) (getD priorities i 0) ≡ rank demands budget i
+      → tally (isAbove priorities (getD priorities i 0)) (length demands) ≡ rank demands budget i
   unfolding rank
   rank-is i inside =
       let n = length demands in
       let m = remainder demands budget in
-      tally-same (λ j. ltb (getD priorities i 0) (getD priorities j 0))
-      (λ j. ltb (key mostShuttles m i) (key mostShuttles m j)) n
+      tally-same (isAbove priorities (getD priorities i 0))
+      (λ j. ltb (keyIn mostShuttles m i) (keyIn mostShuttles m j)) n
       (λ j less. ap₂ ltb (laid .order i inside) (laid .order j less))
       ∙ sym (rank-key mostShuttles m n i (scarce .small .few) inside)
 

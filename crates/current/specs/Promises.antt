@@ -5,15 +5,10 @@ use mathlib.Core.List.{List}
 use Prim.Native.Nat.{ℕ, suc, _+_, _-_, _*_, _/_, _%_, _≤_, _<_}
 use lib.Dec.{ltb}
 use lib.ListN.{length, getD}
+use Rattle.wire.specs.Below.{table}
 use Rattle.ballot.specs.Count.{bit, tally}
-use Rattle.current.specs.Sums.{table}
 use Rattle.current.specs.Shares.{mostShuttles, mostDemand, amount, total, wholePart, remainder}
 use Rattle.current.specs.declared.Part.{Part}
-
--- 1 where a test passes, else 0
-pub record OneIf (test : Bool) (r : ℕ) : Type 0 where
-  pub is-bit : r ≡ bit test
-  pub at-most-one : r ≤ 1
 
 -- the largest number of 32 bits, and the largest product of two
 abbrev pub largest : ℕ
@@ -41,29 +36,33 @@ pub record Divided (product all : ℕ) (part : Part) : Type 0 where
 abbrev pub mostTotal : ℕ
 mostTotal = mostShuttles * mostDemand
 
--- what a split has passed where it is accepted
-pub record Small (demands : List ℕ) : Type 0 where
-  pub few : length demands ≤ mostShuttles
-  pub low : (i : ℕ) → amount demands i ≤ mostDemand
+-- amounts as few and as low as a split that is accepted has demands
+pub record Small (amounts : List ℕ) : Type 0 where
+  pub few : length amounts ≤ mostShuttles
+  pub low : (i : ℕ) → amount amounts i ≤ mostDemand
 
--- and the budget is not enough for all, so that it has to be shared out
+-- such demands, and a budget that is not enough for all: it has to be shared out
 pub record Scarce (demands : List ℕ) (budget all : ℕ) : Type 0 where
   pub small : Small demands
   pub is-total : all ≡ total demands
   pub over : budget < all
 
--- The larger of two remainders has the higher priority and, on a tie, the lower number: no two shuttles have the same.
+-- A remainder and its shuttle's number below a base, as one number: the larger remainder has the higher key and, on a
+-- tie, the lower number. So no two shuttles have the same.
+abbrev pub key : ℕ → ℕ → ℕ → ℕ
+key base rest i = base * rest + (base - suc i)
+
 abbrev pub priorityOf : ℕ → ℕ → ℕ
-priorityOf rest i = mostShuttles * rest + (mostShuttles - suc i)
+priorityOf rest i = key mostShuttles rest i
 
--- how many of the first n have a higher priority than this
-abbrev pub above : List ℕ → ℕ → ℕ → ℕ
-above priorities n own = tally (λ j. ltb own (getD priorities j 0)) n
+-- shuttle j has a higher priority than this
+abbrev pub isAbove : List ℕ → ℕ → ℕ → Bool
+isAbove priorities own j = ltb own (getD priorities j 0)
 
--- a share and what its shuttle gets of the mA left over
+-- a share and what its shuttle gets of the mA left over, by how many are above it
 abbrev pub withExtra : List ℕ → ℕ → List ℕ → ℕ → ℕ
 withExtra priorities left shares i =
-    amount shares i + bit (ltb (above priorities (length shares) (getD priorities i 0)) left)
+    amount shares i + bit (ltb (tally (isAbove priorities (getD priorities i 0)) (length shares)) left)
 
 -- the priorities of all shuttles stand in an array
 abbrev pub Prioritised : List ℕ → ℕ → List ℕ → Type 0

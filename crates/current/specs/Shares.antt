@@ -7,9 +7,9 @@ use mathlib.Core.List.{List}
 use lib.Dec.{leb, ltb, eqb}
 use lib.ListN.{length, getD}
 use Rattle.wire.specs.Outcome.{Outcome, accepted, refused, require, verdict, valueOr}
-use Rattle.wire.specs.Below.{everyBelow}
+use Rattle.wire.specs.Below.{everyBelow, table}
 use Rattle.ballot.specs.Count.{bit, tally}
-use Rattle.current.specs.Sums.{sum, table}
+use Rattle.current.specs.Sums.{sum}
 use Rattle.current.specs.declared.SplitRefusal.{SplitRefusal}
 use Rattle.current.specs.declared.SplitRefusal.the-variants.{Count, Amount}
 use Rattle.current.specs.declared.Splitting.{Splitting}
@@ -35,8 +35,8 @@ total amounts = sum (amount amounts) (length amounts)
 
 -- Shuttle j goes before shuttle i where the mA left over are given out: its remainder is larger or, on a tie, its
 -- number is lower.
-abbrev pub before : (ℕ → ℕ) → ℕ → ℕ → Bool
-before remainder i j = ltb (remainder i) (remainder j) || (eqb (remainder j) (remainder i) && ltb j i)
+abbrev pub aheadOf : (ℕ → ℕ) → ℕ → ℕ → Bool
+aheadOf remainder i j = ltb (remainder i) (remainder j) || (eqb (remainder j) (remainder i) && ltb j i)
 
 module _ (demands : List ℕ) (budget : ℕ) where
   -- demand × B / T, rounded down
@@ -53,7 +53,7 @@ module _ (demands : List ℕ) (budget : ℕ) where
 
   -- how many shuttles go before shuttle i
   unfoldable pub rank : ℕ → ℕ
-  rank i = tally (before remainder i) (length demands)
+  rank i = tally (aheadOf remainder i) (length demands)
 
   -- one each, as far as they go: shuttle i gets one where fewer shuttles go before it than mA are left over
   abbrev pub getsOne : ℕ → Bool

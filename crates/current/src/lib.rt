@@ -5,7 +5,8 @@ ghost use Prim.Native.Nat.{_≤_, _<_};
 ghost use lib.Dec.{ltb};
 ghost use lib.ListN.{length};
 ghost use Rattle.wire.specs.Outcome.{verdict};
-ghost use Rattle.current.specs.Sums.{table};
+ghost use Rattle.wire.specs.Below.{table};
+ghost use Rattle.ballot.specs.Promises.{OneIf, Counted};
 ghost use Rattle.current.specs.Shares.{
   mostShuttles,
   total,
@@ -17,7 +18,6 @@ ghost use Rattle.current.specs.Shares.{
   SplitInto,
 };
 ghost use Rattle.current.specs.Promises.{
-  OneIf,
   Widened,
   Multiplied,
   mostProduct,
@@ -26,7 +26,7 @@ ghost use Rattle.current.specs.Promises.{
   Small,
   Scarce,
   priorityOf,
-  above,
+  isAbove,
   withExtra,
   Room,
   LaidParts,
@@ -171,7 +171,7 @@ fn one_if(test: bool) -> u32
 // compiler counts several at once.
 fn count_above(priorities: &[u32; MOST_SHUTTLES], n: usize, own: u32) -> u32
     requires { ⌜ n ≤ mostShuttles ⌝ }
-    ensures { λ r. ⌜ r ≡ above (now (priorities .entry)) n own ⌝ }
+    ensures { λ r. ⌜ Counted (isAbove (now (priorities .entry)) own) n r ⌝ }
 {
     let mut count: u32 = 0;
     let mut j: usize = 0;

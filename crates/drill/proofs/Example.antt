@@ -29,7 +29,8 @@ use Rattle.print.specs.Texts.{decimalOf, fieldOf, fieldsFrom, resultLine, badLi
 use Rattle.pending.specs.Pairs.{nothing, withCut, withSay, waitingFrom}
 use Rattle.drill.specs.Run.{follow, second, first, drillOf}
 use Rattle.aisle.specs.Start.{begunOf}
-use Rattle.aisle.specs.Round.{table, sayBuffer, slotsOf, slotFrom, nodeAfter, resultsOf, goOf}
+use Rattle.wire.specs.Below.{table}
+use Rattle.aisle.specs.Round.{sayBuffer, slotsOf, slotFrom, nodeAfter, resultsOf, goOf}
 
 -- a text's bytes: each of its characters is one of ASCII
 abbrev bytes : String → List ℕ

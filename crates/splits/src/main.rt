@@ -20,7 +20,7 @@ const BUDGET: usize = 1;
 
 const FIRST_DEMAND: usize = 2;
 
-// Room for one demand more than a split may have: so many are too many, as all others are.
+// Room for one demand more than a split may have: so many are refused, and more need not be read.
 const ROOM: usize = MOST_SHUTTLES + 1;
 
 // Out of both ranges: what an argument is taken for that is no number, or one above the largest budget.

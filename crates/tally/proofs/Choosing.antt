@@ -26,7 +26,8 @@ use Rattle.tally.specs.Marks.{
   joined,
   backingAs,
 }
-use Rattle.tally.specs.Promises.{Counted, Bounded, Found}
+use Rattle.ballot.specs.Promises.{Counted}
+use Rattle.tally.specs.Promises.{Bounded, Found}
 use Rattle.tally.proofs.Polling.{voteAt, onSlot, backing-polled, told-same}
 use Rattle.tally.proofs.Ruling.{counting, unstamped, backing-found, one-needs, two-needs}
 

@@ -1,4 +1,3 @@
-pub mod Tallies
 pub mod Telling
 pub mod Finding
 pub mod Backings

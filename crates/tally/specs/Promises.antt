@@ -8,22 +8,11 @@ use lib.ListN.{length, getD}
 use Rattle.crew.specs.declared.Crew.{Crew}
 use Rattle.crew.specs.Parts.{mostNodes}
 use Rattle.crew.specs.Thresholds.{one, two, E}
-use Rattle.ballot.specs.Count.{bit, tally}
 use Rattle.ballot.specs.Least.{lower}
 use Rattle.ballot.specs.Selection.{Backing, Choice, answer}
 use Rattle.tally.specs.declared.counts.Plans.{Plans}
 use Rattle.tally.specs.Rules.{slotsOf}
 use Rattle.tally.specs.Marks.{marked, reaching, leastMarked, joined, backingMarked, backingAs, leastIn}
-
--- 1 where the test passes, else 0
-pub record OneIf (test : Bool) (r : ℕ) : Type 0 where
-  pub worth : r ≡ bit test
-  pub at-most-one : r ≤ 1
-
--- so many of the first n slots pass the test
-pub record Counted (test : ℕ → Bool) (n r : ℕ) : Type 0 where
-  pub count : r ≡ tally test n
-  pub at-most-all : r ≤ n
 
 -- slot p is there and says what slot q says
 pub record Alike (present : List Bool) (votes stamps : List ℕ) (q p : ℕ) : Type 0 where

@@ -23,7 +23,8 @@ ghost use Rattle.tally.specs.Marks.{
   reaching,
   highest,
 };
-ghost use Rattle.tally.specs.Promises.{OneIf, Counted, FirstAlike, Fillable, WithPlan, Found};
+ghost use Rattle.ballot.specs.Promises.{OneIf, Counted};
+ghost use Rattle.tally.specs.Promises.{FirstAlike, Fillable, WithPlan, Found};
 
 fn one_if(test: bool) -> u16
     ensures { λ r. ⌜ OneIf test r ⌝ }

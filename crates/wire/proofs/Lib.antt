@@ -3,3 +3,4 @@ pub mod Outcomes
 pub mod Numbers
 pub mod Stores
 pub mod Arrays
+pub mod Tables

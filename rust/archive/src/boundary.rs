@@ -247,7 +247,7 @@ fn compare_splits(random: &mut Random) -> Result<(), String> {
     let Split { demands, budget, shares } = &split;
     let mut after = shares.clone();
     let written = answer(current::split(demands, *budget, &mut after).map(|()| 0));
-    // The demands stand between others, with which the answer would be another.
+    // The demands stand between others, so that an engine which reads past them gives other shares.
     let among: Vec<u32> = [&[MOST_DEMAND], &demands[..], &[MOST_DEMAND]].concat();
     let demands = &among[1..][..demands.len()];
     let lent = Lent::numbers(random, shares);

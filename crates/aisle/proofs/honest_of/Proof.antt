@@ -1,6 +1,7 @@
 -- `honest_of` meets its contract. The invariant: the first i places say whether the node has a plan.
 use Rattle.wire.proofs.Arrays.{filling-none, filling-more}
-use Rattle.aisle.proofs.Tables.{Tabled, tabled-all}
+use Rattle.wire.proofs.Tables.{filled-table}
+use Rattle.aisle.proofs.Tables.{Tabled}
 use lib.Dec.{leb}
 use lib.ListN.{getD}
 use Rattle.crew.specs.Parts.{mostNodes}
@@ -38,7 +39,7 @@ loop-again : tie.Need-loop-again Inv-loop μ-loop
 loop-again c = filling-more _ (c .loop-test .taken) (c .before .loop .inv) refl
 
 returns : tie.Need-returns Inv-loop μ-loop
-returns c = tabled-all _ mostNodes _ _ (c .loop-test .left) (c .before .loop .inv)
+returns c = filled-table (c .before .loop .inv) (c .loop-test .left)
 
 pub honest-of-spec : {M : Type 1} → statement M
 honest-of-spec =

@@ -7,7 +7,8 @@ use native.Mathlib.Omega.{arith}
 use lib.Seq.{length-take-le}
 use Rattle.crew.specs.Parts.{mostNodes}
 use Rattle.wire.proofs.Arrays.{filling-none}
-use Rattle.aisle.proofs.Tables.{length-mapped, tabled-all}
+use Rattle.wire.proofs.Tables.{filled-table}
+use Rattle.aisle.proofs.Tables.{length-mapped}
 use Rattle.aisle.proofs.Records.{Taking, inbox-is, honest-takes, others-stay}
 use borrow.Author.Needs.{needs}
 use Rattle.aisle.proofs.records_after.Statement.{statement}
@@ -94,7 +95,7 @@ loop-again c =
     ]
 
 returns : tie.Need-returns Inv-loop μ-loop
-returns c = tabled-all _ mostNodes _ _ (c .loop-test .left) (c .before .loop .inv .taken)
+returns c = filled-table (c .before .loop .inv .taken) (c .loop-test .left)
 
 pub records-after-spec : {M : Type 1} → statement M
 records-after-spec =

@@ -1,6 +1,7 @@
 -- `start_nodes` meets its contract. The invariant: the first i nodes have started.
 use Rattle.wire.proofs.Arrays.{filling-none, filling-more}
-use Rattle.aisle.proofs.Tables.{Tabled, tabled-all}
+use Rattle.wire.proofs.Tables.{filled-table}
+use Rattle.aisle.proofs.Tables.{Tabled}
 use Rattle.node.specs.Starting.{startOf}
 use Rattle.node.specs.Record.{blank}
 use Rattle.wire.specs.Outcome.{valueOr}
@@ -52,7 +53,7 @@ loop-again c =
     filling-more _ (turn .loop-test .taken) (turn .before .loop .inv) (c .start-node2 .ensures)
 
 returns : tie.Need-returns Inv-loop μ-loop
-returns c = tabled-all _ mostNodes _ _ (c .loop-test .left) (c .before .loop .inv)
+returns c = filled-table (c .before .loop .inv) (c .loop-test .left)
 
 pub start-nodes-spec : {M : Type 1} → statement M
 start-nodes-spec =

@@ -1,29 +1,21 @@
 -- `count_above` meets its contract. The invariant: the count is that of the first j.
-use mathlib.Core.Path.{_≡_}
-use mathlib.Core.List.{List}
-use Prim.Native.Nat.{ℕ, _≤_, _-_}
 use native.Mathlib.Omega.{arith}
-use native.Mathlib.Numerals.{add-one}
+use Prim.Native.Nat.{_-_}
 use borrow.Author.Needs.{needs}
-use Rattle.ballot.specs.Count.{tally}
-use Rattle.current.specs.Promises.{above}
+use Rattle.ballot.specs.Promises.{Counted}
+use Rattle.ballot.proofs.Loops.{Through, through-all, counted-none, counted-more}
+use Rattle.current.specs.Promises.{isAbove}
 use Rattle.current.proofs.count_above.Statement.{statement}
 use Rattle.current.proofs.count_above.Tie as tie
 
-record Counted (priorities : List ℕ) (n own count j : ℕ) : Type 0 where
-  within : j ≤ n
-  so-far : count ≡ above priorities j own
-  at-most-all : count ≤ j
-
 abbrev Inv-loop : tie.InvT-loop
-Inv-loop priorities n own count₀ j₀ count j = Counted priorities n own count j
+Inv-loop priorities n own count₀ j₀ count j = Through n (λ k. Counted (isAbove priorities own) k count) j
 
 abbrev μ-loop : tie.MeasureT-loop
 μ-loop priorities n own count₀ j₀ count j = n - j
 
 loop-holds : tie.Need-loop-holds Inv-loop μ-loop
-unfolding tally
-loop-holds c = search needs
+loop-holds c = record { within = omega arith; so-far = counted-none }
 
 mul-one-if : tie.Need-mul-one-if Inv-loop μ-loop
 mul-one-if c = search needs
@@ -44,17 +36,12 @@ loop-less : tie.Need-loop-less Inv-loop μ-loop
 loop-less c = search needs
 
 loop-again : tie.Need-loop-again Inv-loop μ-loop
-unfolding tally
-loop-again c = record {
-  within = search needs;
-  so-far = rw add-one (omega arith);
-  at-most-all = search needs;
-}
+loop-again c =
+    let looped = c .before .before .before .loop in
+    record { within = omega arith; so-far = counted-more (looped .inv .so-far) (c .one-if .ensures) }
 
 returns : tie.Need-returns Inv-loop μ-loop
-returns c =
-    let done : c .before .loop .j ≡ c .before .before .args .n = omega arith in
-    rw (← done) (c .before .loop .inv .so-far)
+returns c = through-all (c .before .loop .inv) (c .loop-test .left)
 
 pub count-above-spec : {M : Type 1} → statement M
 count-above-spec =

@@ -8,8 +8,8 @@ use lib.ListN.{length, getD}
 use lib.Seq.{getD-set-other}
 use borrow.Author.Needs.{needs}
 use Rattle.wire.proofs.Arrays.{Filling, filling-none, filling-more}
+use Rattle.wire.proofs.Tables.{filled-table}
 use Rattle.current.specs.Promises.{withExtra}
-use Rattle.current.proofs.Steps.{filled-table}
 use Rattle.current.proofs.give_out.Statement.{statement}
 use Rattle.current.proofs.give_out.Tie as tie
 
@@ -68,10 +68,10 @@ loop-again c =
     let looped = c .before .before .before .before .before in
     let i = looped .loop .i in
     let so-far = looped .loop .inv in
-    let rank = c .before .before .count-above .ensures in
+    let rank = c .before .before .count-above .ensures .count in
     record {
       given = filling-more _ (search needs) (so-far .given)
-          (ap₂ (λ (a b : ℕ). a + b) (so-far .kept i (omega arith)) (c .extra .ensures .is-bit ∙ rw rank));
+          (ap₂ (λ (a b : ℕ). a + b) (so-far .kept i (omega arith)) (c .extra .ensures .worth ∙ rw rank));
       kept = λ k later.
           getD-set-other (looped .loop .shares) i k _ 0 (λ same. omega arith) ∙ so-far .kept k (omega arith);
     }

@@ -7,9 +7,10 @@ use native.Mathlib.Omega.{arith}
 use lib.ListN.{length}
 use borrow.Author.Needs.{needs}
 use Rattle.wire.proofs.Arrays.{Filling, filling-none, filling-more, filling-until}
+use Rattle.wire.proofs.Tables.{filled-table}
 use Rattle.current.specs.Shares.{mostShuttles, wholePart, remainder}
 use Rattle.current.specs.Promises.{priorityOf}
-use Rattle.current.proofs.Steps.{whole-is, rest-is, total-low, whole-low, rest-low, filled-table}
+use Rattle.current.proofs.Steps.{whole-is, rest-is, total-low, whole-low, rest-low}
 use Rattle.current.proofs.lay_parts.Statement.{statement}
 use Rattle.current.proofs.lay_parts.Tie as tie
 

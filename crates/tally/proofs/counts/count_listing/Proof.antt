@@ -6,9 +6,9 @@ use Rattle.tally.proofs.counts.count_listing.Statement.{statement}
 use Rattle.tally.proofs.counts.count_listing.Tie as tie
 use Prim.Native.Nat.{_-_}
 use native.Mathlib.Omega.{arith}
-use Rattle.tally.proofs.Tallies.{Through, through-all, counted-none, counted-more}
+use Rattle.ballot.proofs.Loops.{Through, through-all, counted-none, counted-more}
 use Rattle.tally.specs.Marks.{isLister}
-use Rattle.tally.specs.Promises.{Counted}
+use Rattle.ballot.specs.Promises.{Counted}
 
 abbrev Inv-loop : tie.InvT-loop
 Inv-loop present histories phases n plan phase known width first count₀ q₀ count q =

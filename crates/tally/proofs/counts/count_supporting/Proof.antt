@@ -2,9 +2,9 @@
 use Prim.Native.Nat.{_-_}
 use native.Mathlib.Omega.{arith}
 use borrow.Author.Needs.{needs}
-use Rattle.tally.proofs.Tallies.{Through, through-all, counted-none, counted-more}
+use Rattle.ballot.proofs.Loops.{Through, through-all, counted-none, counted-more}
 use Rattle.tally.specs.Marks.{supporting}
-use Rattle.tally.specs.Promises.{Counted}
+use Rattle.ballot.specs.Promises.{Counted}
 use Rattle.tally.proofs.counts.count_supporting.Statement.{statement}
 use Rattle.tally.proofs.counts.count_supporting.Tie as tie
 

@@ -4,9 +4,9 @@ use Rattle.tally.proofs.counts.count_votes.Statement.{statement}
 use Rattle.tally.proofs.counts.count_votes.Tie as tie
 use Prim.Native.Nat.{_-_}
 use native.Mathlib.Omega.{arith}
-use Rattle.tally.proofs.Tallies.{Through, through-all, counted-none, counted-more}
+use Rattle.ballot.proofs.Loops.{Through, through-all, counted-none, counted-more}
 use Rattle.tally.specs.Marks.{voting}
-use Rattle.tally.specs.Promises.{Counted}
+use Rattle.ballot.specs.Promises.{Counted}
 
 abbrev Inv-loop : tie.InvT-loop
 Inv-loop marks votes n vote count₀ q₀ count q = Through n (λ k. Counted (voting marks votes vote) k count) q

@@ -1,7 +1,7 @@
 -- `find_plans` meets its contract. The invariant: the plans are those that the first q slots vote for.
 use denote.Ref.{now}
 use Rattle.tally.proofs.Finding.{holds-none, holds-more, holds-same}
-use Rattle.tally.proofs.Tallies.{Through, through-all}
+use Rattle.ballot.proofs.Loops.{Through, through-all}
 use Rattle.tally.specs.Promises.{Holds}
 use Rattle.tally.specs.Marks.{reaching}
 use lib.ListN.{getD}

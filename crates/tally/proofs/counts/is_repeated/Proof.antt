@@ -13,7 +13,7 @@ use borrow.Author.Tests.{le-ltb, lt-ltb}
 use Rattle.ballot.specs.Count.{tally}
 use Rattle.ballot.proofs.Counting.{tally-has}
 use Rattle.tally.specs.Marks.{voting, votersOf}
-use Rattle.tally.proofs.Tallies.{Through, through-all}
+use Rattle.ballot.proofs.Loops.{Through, through-all}
 
 abbrev Inv-loop : tie.InvT-loop
 Inv-loop present votes q p₀ p = Through q (λ k. tally (voting present votes (getD votes q 0)) k ≡ 0) p

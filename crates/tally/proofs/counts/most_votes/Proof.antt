@@ -1,6 +1,6 @@
 -- `most_votes` meets its contract. The invariant: the count is the highest of the first q slots.
 use Rattle.tally.proofs.Finding.{most-more}
-use Rattle.tally.proofs.Tallies.{Through, through-all}
+use Rattle.ballot.proofs.Loops.{Through, through-all}
 use Rattle.tally.specs.Marks.{marked, votersOf, told, highest}
 use denote.Ref.{now}
 use native.Mathlib.Omega.{arith}
