@@ -134,7 +134,7 @@ module _ (demands : List ℕ) (budget : ℕ) (over : suc budget < total demands)
         left-and-wholes demands (suc budget) over,
       )
 
-  -- where i rises, its key falls, and what does not rise does not fall: it still goes before i if it did
+  -- where i rises, its key falls, and the key of a shuttle that stays does not: it still goes before i if it did
   still-ahead : (i j : ℕ) → i < length demands → Rises demands budget i → Stays demands budget j
       → T (ltb (keyOf demands budget i) (keyOf demands budget j))
       → T (ltb (keyOf demands (suc budget) i) (keyOf demands (suc budget) j))
@@ -148,7 +148,7 @@ module _ (demands : List ℕ) (budget : ℕ) (over : suc budget < total demands)
       demand-low = sum-has (amount demands) (length demands) i inside
 
   module _ (i : ℕ) (inside : i < length demands) (up : Rises demands budget i) where
-    -- so, of each shuttle: it is i, or it rises, or it goes before i still if it did
+    -- so i itself, and each that went before it, rises or still goes before i: counted, no shuttle is both
     rank-next : rank demands budget i + 1 ≤ rank demands (suc budget) i + tally rises (length demands)
     rank-next =
         let n = length demands in
