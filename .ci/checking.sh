@@ -1,5 +1,6 @@
-# What check_drill, check_least and check_split share, which take this file in: a folder for what a check makes, and the
-# words that they are written in. A check that fails is told, and the next goes on; `finish` fails if any did.
+# What check_drill, check_least, check_split and check_absence share, which take this file in: a folder for what a check
+# makes, and the words that they are written in. A check that fails is told, and the next goes on; `finish` fails if any
+# did.
 room=$(mktemp -d)
 trap 'rm -rf "$room"' EXIT
 out=$room/out err=$room/err

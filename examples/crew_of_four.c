@@ -1,7 +1,8 @@
 /*
  * A crew of four agrees on a plan, though one of the four is Byzantine: crew 3,4,1,0,3, nodes 0 to 2 honest with plans
  * 5, 6 and 7, while node 3 tells each of them something else. In phase 1 it keeps them apart; in phase 2 they decide.
- * Then the budget of the decided plan is split among three shuttles.
+ * Then two of them show which slots counted when they decided, and the budget of the decided plan is split among three
+ * shuttles.
  * Every answer is checked. examples/check builds and runs it.
  */
 #include "rail.h"
@@ -62,6 +63,11 @@ static unsigned two_bytes(const uint8_t *bytes, size_t at)
     return bytes[at] + 256u * bytes[at + 1];
 }
 
+static unsigned four_bytes(const uint8_t *bytes, size_t at)
+{
+    return two_bytes(bytes, at) + 65536u * two_bytes(bytes, at + 2);
+}
+
 /* What node 0 is about to say, read back. */
 static void show_message(const uint8_t *record)
 {
@@ -101,10 +107,34 @@ static void show_selection(const uint8_t *record, const uint8_t *inbox)
         printf(" %u", (unsigned)selected);
 }
 
+/* What the absence window takes of a finished run: its number, then the marks of the slots that counted in the round
+ * that decided. */
+enum { FINISHED_MARKS = 4, FINISHED = 8 };
+
+/* Lays a number of four bytes out, low byte first. */
+static void put_four(uint8_t *bytes, uint32_t number)
+{
+    for (int i = 0; i < 4; i++)
+        bytes[i] = (uint8_t)(number >> 8 * i);
+}
+
+/* Takes a round, and where it is the one that decided, lays run and marks out. The marks are told before the take:
+ * after it the record is in the next round. */
+static void take_round(uint8_t *record, const uint8_t *inbox, uint8_t *finished)
+{
+    uint64_t marks = value(rail_marks(record, RAIL_RECORD, inbox, NODES * RAIL_SLOT), "marks");
+    uint64_t before = value(rail_result(record, RAIL_RECORD), "result");
+    value(rail_take(record, RAIL_RECORD, inbox, NODES * RAIL_SLOT), "take");
+    if (before != 0 || value(rail_result(record, RAIL_RECORD), "result") == 0)
+        return;
+    memcpy(finished, record + RAIL_RECORD_RUN, 4);
+    put_four(finished + FINISHED_MARKS, (uint32_t)marks);
+}
+
 /* One whole round: every honest node writes, then every honest node takes its own inbox. Buffers and slots begin as
  * zeros, so that nothing is left behind a message. It prints what was selected in round 1, vote and stamp after round
  * 2, and the standing results after round 3. */
-static void whole_round(uint8_t records[HONEST][RAIL_RECORD])
+static void whole_round(uint8_t records[HONEST][RAIL_RECORD], uint8_t finished[HONEST][FINISHED])
 {
     uint8_t written[HONEST][RAIL_SLOT] = {{0}}, inbox[NODES * RAIL_SLOT];
     uint8_t phase = records[0][RAIL_RECORD_PHASE], round = records[0][RAIL_RECORD_ROUND];
@@ -117,12 +147,26 @@ static void whole_round(uint8_t records[HONEST][RAIL_RECORD])
         lie_to(inbox + RAIL_SLOT * BYZANTINE, own, round, phase);
         if (round == 1)
             show_selection(record, inbox);
-        value(rail_take(record, RAIL_RECORD, inbox, sizeof inbox), "take");
+        take_round(record, inbox, finished[own]);
         if (round == 2)
             printf(" %u/%u", two_bytes(record, RAIL_RECORD_VOTE), record[RAIL_RECORD_STAMP]);
         if (round == 3)
             printf(" %u", (unsigned)value(rail_result(record, RAIL_RECORD), "result"));
     }
+    printf("\n");
+}
+
+/* What a node has for the absence window, byte by byte and in words. */
+static void show_finished(int own, const uint8_t *finished)
+{
+    unsigned marks = four_bytes(finished, FINISHED_MARKS);
+    printf("node %d keeps", own);
+    for (int i = 0; i < FINISHED; i++)
+        printf(" %02x", finished[i]);
+    printf(": run %u was decided with slots", four_bytes(finished, 0));
+    for (unsigned q = 0; q < NODES; q++)
+        if (RAIL_MARKED(marks, q))
+            printf(" %u", q);
     printf("\n");
 }
 
@@ -148,7 +192,7 @@ static void show_split(unsigned plan)
 int main(void)
 {
     static const uint16_t plans[HONEST] = {5, 6, 7};
-    uint8_t records[HONEST][RAIL_RECORD];
+    uint8_t records[HONEST][RAIL_RECORD], finished[HONEST][FINISHED] = {{0}};
     show_least();
     value(rail_accept(CREW), "accept");
     for (int own = 0; own < HONEST; own++)
@@ -160,8 +204,10 @@ int main(void)
             show_message(records[0]);
         if (round == 0)
             show_residue(records[0]);
-        whole_round(records);
+        whole_round(records, finished);
     }
+    show_finished(0, finished[0]);
+    show_finished(2, finished[2]);
     show_split((unsigned)value(rail_result(records[0], RAIL_RECORD), "result"));
     return 0;
 }

@@ -104,6 +104,9 @@ extern "C" {
 #define RAIL_LEAST_N(value) ((unsigned)((value) >> 8))
 #define RAIL_LEAST_D(value) ((unsigned)((value) & 255))
 
+/* The value of rail_marks is a number of 32 bits. Whether slot q, 0 to 31, is marked there: 1 or 0. */
+#define RAIL_MARKED(value, q) ((unsigned)((value) >> (q) & 1))
+
 /* How far a split goes: so many shuttles, and these amounts in mA. */
 #define RAIL_MOST_SHUTTLES 64
 #define RAIL_MOST_DEMAND 100000
@@ -132,6 +135,11 @@ uint64_t rail_take(uint8_t *record, size_t record_length, const uint8_t *inbox, 
 
 /* Asks for the coming selection. The value is a plan, RAIL_NONE or RAIL_ANY. Refuses 25, 7, 8, 14. */
 uint64_t rail_ask(const uint8_t *record, size_t record_length, const uint8_t *inbox, size_t inbox_length);
+
+/* Tells which slots count in the coming round. The value has the bit of weight 2^q set where slot q counts, and none
+ * beyond the crew's n; RAIL_MARKED takes it apart. Call it before rail_take, with the same record and inbox: where that
+ * take decides, these are the slots that counted in the round that decided. Refuses 25, 7, 8, 14. */
+uint64_t rail_marks(const uint8_t *record, size_t record_length, const uint8_t *inbox, size_t inbox_length);
 
 /* The record's standing result. The value is the plan, 0 before there is one. Refuses 25, 7. */
 uint64_t rail_result(const uint8_t *record, size_t record_length);

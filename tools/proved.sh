@@ -1,7 +1,7 @@
-# What the commands share that run a proved program, ./drill, ./least and ./split. Such a command sets `here`, the
-# folder of the tree, `name`, its own, `crate`, that of its program, and `takes`, how long it takes to prove, and takes
-# this file in. `build_if_needed` proves and builds the program, on first use and where a crate has changed since;
-# `$program` is where it stands then. What is said here goes to standard error.
+# What the commands share that run a proved program, ./drill, ./least, ./split and ./absence. Such a command sets
+# `here`, the folder of the tree, `name`, its own, `crate`, that of its program, and `takes`, how long it takes to
+# prove, and takes this file in. `build_if_needed` proves and builds the program, on first use and where a crate has
+# changed since; `$program` is where it stands then. What is said here goes to standard error.
 program=$here/target/bin/$crate
 built=$here/target/$name.built
 log=$here/target/$name.log

@@ -21,7 +21,7 @@ use Rattle.message.specs.Bounds.{entriesOk}
 use Rattle.message.specs.Encoding.{entryBytes, encode}
 use Rattle.message.specs.Reading.{entriesIn, bodyAt, tested, frontOf, allZero, readOf}
 use Rattle.wire.specs.Entry.{entriesFrom}
-use Rattle.ballot.specs.Count.{tally, countIf, holds, gather}
+use Rattle.ballot.specs.Count.{tally, countIf, gather}
 use Rattle.ballot.specs.Ballot.{Ballot, lists, sameBallot}
 use Rattle.ballot.specs.Least.{least, leastOf}
 use Rattle.ballot.specs.Selection.{possible, backed, backing, enough, selection, leading, mostVoted, anyPlan, taken}
@@ -35,7 +35,7 @@ use Rattle.node.specs.Record.{begun}
 use Rattle.node.specs.Soundness.{emptyFrom, sound}
 use Rattle.node.specs.Starting.{startOf}
 use Rattle.node.specs.Sending.{comingOf, writeComingOf}
-use Rattle.inbox.specs.Inbox.{slotAt, ballotAt}
+use Rattle.inbox.specs.Inbox.{slotAt, ballotAt, counts}
 use Rattle.rounds.specs.Taking.{afterRound, takeOf}
 use Rattle.agreement.specs.Statement.{Start, Call, write, ask, take-round, Event, Execution}
 use Rattle.agreement.specs.Statement.{made, honest, recordOf}
@@ -122,7 +122,7 @@ module _ (p j : ℕ) where
 
   -- the slots of nodes 0, 1 and 2 count for it
   abbrev countsOk : ℕ → Bool
-  countsOk q = holds (λ m. true) (ballotAt (recordAt drill p j) (box j) q)
+  countsOk q = counts (recordAt drill p j) (box j) q
 
   unfoldable roundOk : Bool
   roundOk = takesOk && wroteOk && wholeOk && everyBelow countsOk 3

@@ -1,3 +1,4 @@
 pub mod Verdicts
 pub mod Decoding
 pub mod Asked
+pub mod Marked

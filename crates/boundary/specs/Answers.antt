@@ -21,6 +21,7 @@ use Rattle.node.specs.Starting.{startOf}
 use Rattle.node.specs.Sending.{writeComingOf, comingBytes}
 use Rattle.rounds.specs.Taking.{takeOf}
 use Rattle.rounds.specs.Asking.{askOf}
+use Rattle.rounds.specs.Marking.{markingOf}
 use Rattle.image.specs.Layout.{imageFits, imageOf, recordIn}
 
 -- An answer is one number of eight bytes: a value below 2^56, or 2^56 times the number of a refusal, its top byte.
@@ -99,6 +100,10 @@ takeFrom image inbox = onImage image (takeOf (recordIn image) inbox)
 
 abbrev pub askFrom : List ℕ → List ℕ → Outcome Choice
 askFrom image inbox = onImage image (askOf (recordIn image) inbox)
+
+-- the marks of the slots that count in the coming round
+abbrev pub marksFrom : List ℕ → List ℕ → Outcome ℕ
+marksFrom image inbox = onImage image (markingOf (recordIn image) inbox)
 
 -- the standing result of a sound record; 7 where it is not sound
 abbrev pub resultFrom : List ℕ → Outcome ℕ

@@ -16,6 +16,7 @@ use node::Sending;
 use node::StartRefusal;
 use node::Starting;
 use rounds::Asking;
+use rounds::Marking;
 use rounds::Taking;
 use wire::PLAN_SIZE;
 use wire::Plan;
@@ -34,6 +35,7 @@ ghost use Rattle.node.specs.Starting.{startNumber};
 ghost use Rattle.node.specs.Sending.{sendNumber, sendAnswer};
 ghost use Rattle.rounds.specs.Taking.{takeNumber};
 ghost use Rattle.rounds.specs.Asking.{askAnswer};
+ghost use Rattle.rounds.specs.Marking.{markingAnswer};
 ghost use Rattle.boundary.specs.Answers.{
   refusalUnit,
   done,
@@ -49,6 +51,7 @@ ghost use Rattle.boundary.specs.Answers.{
   bufferFrom,
   takeFrom,
   askFrom,
+  marksFrom,
   resultFrom,
   fieldsSize,
   fieldBytes,
@@ -91,7 +94,7 @@ const LENGTH: u64 = 12;
 
 const BOUND: u64 = 13;
 
-// Taking a round, or asking for the coming selection: unsound and spent as well.
+// Taking a round, asking for the coming selection or telling the slots that count: unsound and spent as well.
 const INBOX: u64 = 14;
 
 // Looking a least crew up.
@@ -360,6 +363,28 @@ pub extern "C" fn rail_ask(image: &[u8], inbox: &[u8]) -> u64
         let asked = rounds::ask(loaded.node, inbox);
         let answer = asked.answer;
         return asking_answer(answer);
+    }
+    refusal(WRONG_IMAGE)
+}
+
+// What telling the slots that count answers, as a number: their marks.
+fn marking_answer(answer: Marking) -> u64
+    ensures { λ r. ⌜ Answered itself (markingAnswer answer) r ⌝ }
+{
+    match answer {
+        Marking::Marks(marks) => marks as u64,
+        Marking::Refused(why) => refusal(round_number(why)),
+    }
+}
+
+// Tells the slots that count in the coming round.
+#[no_mangle]
+pub extern "C" fn rail_marks(image: &[u8], inbox: &[u8]) -> u64
+    ensures { λ r. ⌜ Answered itself (marksFrom (now (image .entry)) (now (inbox .entry))) r ⌝ }
+{
+    let loaded = image::load(image);
+    if loaded.fits {
+        return marking_answer(rounds::marks(loaded.node, inbox));
     }
     refusal(WRONG_IMAGE)
 }

@@ -1,7 +1,9 @@
--- An inbox as columns: the ballots of the columns that its slots were read into are the ballots that count.
-use mathlib.Core.Path.{_≡_, ap, _∙_}
+-- An inbox as columns: the slots that are present in the columns that it was read into are those that count, and their
+-- ballots are the ballots that count.
+use mathlib.Core.Path.{_≡_, refl, ap, _∙_}
+use mathlib.Core.Bool.{Bool, true, false, cond}
 use mathlib.Core.List.{List}
-use mathlib.Core.Option.{Option}
+use mathlib.Core.Option.{Option, none, some}
 use Prim.Native.Nat.{ℕ, suc, _*_, _/_, _≤_, _<_}
 use native.Mathlib.Nat.{mul-le-mul-left}
 use native.Mathlib.Omega.{arith}
@@ -14,8 +16,9 @@ use Rattle.crew.specs.declared.Crew.{Crew}
 use Rattle.crew.specs.Parts.{mostNodes}
 use Rattle.message.specs.Layout.{slotSize}
 use Rattle.message.specs.declared.Header.{Header}
+use Rattle.ballot.specs.Count.{holds}
 use Rattle.ballot.specs.Ballot.{Ballot}
-use Rattle.inbox.specs.Inbox.{slotAt, ballotIn, ballotsFor}
+use Rattle.inbox.specs.Inbox.{slotAt, ballotIn, countsIn, ballotsFor}
 use Rattle.inbox.specs.Columns.{
   Columns,
   empty,
@@ -26,6 +29,7 @@ use Rattle.inbox.specs.Columns.{
   ReadInto,
   entriesOf,
   listedIn,
+  ballotFrom,
   slotOf,
   polled,
 }
@@ -46,6 +50,11 @@ row-clear places width q place less =
     ∙ getD-drop (width * q) (replicate places 0) place 0
     ∙ same-everywhere places _ 0
 
+-- a slot of the columns says something where it is present
+present-told : (here : Bool) (m : Ballot) → here ≡ holds (λ k. true) (cond here (some m) none)
+present-told true m = refl
+present-told false m = refl
+
 -- Columns that a crew's inbox was read into, with an array that had so many places, all 0.
 module _ (crew : Crew) (coming : Header) (bytes : List ℕ) (places : ℕ) (read : Columns) (histories : List ℕ)
     (room : crew .n ≤ mostNodes) (long : length bytes ≡ slotSize * crew .n)
@@ -53,23 +62,43 @@ module _ (crew : Crew) (coming : Header) (bytes : List ℕ) (places : ℕ) (read
   abbrev slots : ℕ → Option Ballot
   slots q = ballotIn (coming .run) (coming .phase) (coming .kind) bytes q
 
+  abbrev Presence : Type 0
+  Presence = (q : ℕ) → q < crew .n
+      → getD (read .present) q false ≡ countsIn (coming .run) (coming .phase) (coming .kind) bytes q
+
   abbrev Polls : (ℕ → List Entry) → Type 0
   Polls lists =
       polled read lists (crew .n) ≡ ballotsFor crew (coming .run) (coming .phase) (coming .kind) bytes
 
-  -- their ballots are those that count, where each slot that counts is taken with the history that it lists
-  polled-with : (lists : ℕ → List Entry) → AreHistories lists slots (crew .n) → Polls lists
-  polled-with lists are =
+  -- what they say of each slot is its ballot, where a slot that counts is taken with the history that it lists
+  says-slot : (lists : ℕ → List Entry) → AreHistories lists slots (crew .n) → (q : ℕ) → q < crew .n
+      → slotOf read lists q ≡ slots q
+  says-slot lists are q less =
       let whole : read ≡ filled empty slots (crew .n) =
       is .said ∙ ap (filled empty slots) (slots-in (length bytes) (crew .n) room long) in
-      gather-same (slotOf read lists) slots (crew .n) (λ q less.
-      rw whole (filled-mean slots lists (crew .n) room are q less))
+      rw whole (filled-mean slots lists (crew .n) room are q less)
 
-  -- so with the slots' own histories
-  polled-heard : Polls (λ q. entriesOf (slots q))
-  polled-heard = polled-with (λ q. entriesOf (slots q)) (λ q m less e. ap entriesOf e)
+  -- so a slot is present where it counts; the histories are then the slots' own
+  abbrev own : ℕ → List Entry
+  own q = entriesOf (slots q)
 
-  -- and of selections with those that the array lists, where it has room for the rows
+  are-own : AreHistories own slots (crew .n)
+  are-own q m less e = ap entriesOf e
+
+  present-counts : Presence
+  present-counts q less =
+      present-told (getD (read .present) q false) (ballotFrom read own q)
+      ∙ ap (holds (λ m. true)) (says-slot own are-own q less)
+
+  -- and their ballots are those that count
+  polled-with : (lists : ℕ → List Entry) → AreHistories lists slots (crew .n) → Polls lists
+  polled-with lists are = gather-same (slotOf read lists) slots (crew .n) (says-slot lists are)
+
+  -- with the slots' own histories
+  polled-heard : Polls own
+  polled-heard = polled-with own are-own
+
+  -- and in selections with those that the array lists, where it has room for the rows
   polled-listed : coming .kind ≡ 1 → coming .phase * crew .n ≤ places → Polls (listedIn histories (coming .phase))
   polled-listed first fits =
       let blank : List ℕ = replicate places 0 in
@@ -85,13 +114,15 @@ module _ (crew : Crew) (coming : Header) (bytes : List ℕ) (places : ℕ) (read
       (omega (arith, row-long blank (coming .phase) q inside))
       (row-clear places (coming .phase) q)))
 
-  -- what the columns mean: the ballots that count, in any round with what each slot that counts lists; and in a
-  -- selection with what the array lists, where it has a place for each slot and each phase before the coming one
+  -- what the columns mean: which slots count; the ballots that do, in any round with what each slot that counts lists;
+  -- and in a selection with what the array lists, where it has a place for each slot and each phase before the coming
+  -- one
   pub record Mean : Type 0 where
-    pub heard : Polls (λ q. entriesOf (slots q))
+    pub present : Presence
+    pub heard : Polls own
     pub listed : coming .kind ≡ 1 → coming .phase * crew .n ≤ places → Polls (listedIn histories (coming .phase))
 
   -- The columns mean the slots: read into empty columns and an array of zeros, any inbox of the crew's length gives the
   -- ballots that count for a record with this run, phase and coming round.
   pub columns-mean : Mean
-  columns-mean = record { heard = polled-heard; listed = polled-listed }
+  columns-mean = record { present = present-counts; heard = polled-heard; listed = polled-listed }

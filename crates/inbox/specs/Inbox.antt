@@ -1,6 +1,6 @@
 -- From an inbox's bytes to the ballots that count: document 01, 'Messages'.
 use Prim.Native.Nat.{ℕ, _*_}
-use mathlib.Core.Bool.{Bool, cond, _&&_}
+use mathlib.Core.Bool.{Bool, true, cond, _&&_}
 use mathlib.Core.List.{List, []}
 use mathlib.Core.Option.{Option, none, some}
 use lib.ListN.{take, drop}
@@ -11,6 +11,7 @@ use Rattle.message.specs.Fields.{Body, selection, validation, decision, Message
 use Rattle.message.specs.Encoding.{kindOf}
 use Rattle.message.specs.Reading.{readOf}
 use Rattle.message.specs.Layout.{slotSize}
+use Rattle.ballot.specs.Count.{holds}
 use Rattle.ballot.specs.Ballot.{Ballot, inbox}
 use Rattle.node.specs.declared.Node.{Node}
 
@@ -42,9 +43,16 @@ ballotIn run phase round bytes q = counted run phase round (readOf (slotAt bytes
 abbrev pub ballotsFor : Crew → ℕ → ℕ → ℕ → List ℕ → List Ballot
 ballotsFor crew run phase round bytes = inbox crew (ballotIn run phase round bytes)
 
--- the same for a node's record: slot q, and the n slots
+-- whether slot q says anything to it: whether it counts
+abbrev pub countsIn : ℕ → ℕ → ℕ → List ℕ → ℕ → Bool
+countsIn run phase round bytes q = holds (λ m. true) (ballotIn run phase round bytes q)
+
+-- the same for a node's record: slot q, the n slots, and whether slot q counts
 abbrev pub ballotAt : Node → List ℕ → ℕ → Option Ballot
 ballotAt d bytes q = ballotIn (d .run) (d .phase) (d .round) bytes q
 
 abbrev pub ballots : Node → List ℕ → List Ballot
 ballots d bytes = ballotsFor (d .crew) (d .run) (d .phase) (d .round) bytes
+
+abbrev pub counts : Node → List ℕ → ℕ → Bool
+counts d bytes q = countsIn (d .run) (d .phase) (d .round) bytes q

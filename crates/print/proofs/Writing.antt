@@ -24,6 +24,11 @@ pub within-then : {m k : ℕ} {l xs l′ ys l″ : List ℕ} {at at′ at″ : �
 within-then a b =
     record { wrote = wrote-then (a .wrote) (b .wrote); within = omega (arith, a .within, b .within) }
 
+-- what is written within a bound is within a wider one
+pub within-more : {m k : ℕ} {l text l′ : List ℕ} {at at′ : ℕ} → WroteWithin m l at text l′ at′ → m ≤ k
+    → WroteWithin k l at text l′ at′
+within-more a wider = record { wrote = a .wrote; within = omega (arith, a .within) }
+
 -- what is left of a text after its first part
 pub wrote-rest : {l l′ w : List ℕ} {at at′ e : ℕ} (xs ys : List ℕ)
     → Wrote l at xs l′ at′ → Wrote l at (xs ++ ys) w e → Wrote l′ at′ ys w e

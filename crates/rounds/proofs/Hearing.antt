@@ -1,13 +1,16 @@
--- What a rule says of the columns of an inbox is what it says of the ballots that the node hears.
+-- What a rule says of the columns of an inbox is what it says of the ballots that the node hears, and the slots that
+-- are present there are those that count.
 use mathlib.Core.Path.{_≡_, refl, sym, ap, _∙_, subst}
 use mathlib.Core.Bool.{Bool, true, false}
-use mathlib.Core.List.{List}
+use mathlib.Core.List.{List, []}
 use Prim.Native.Nat.{ℕ, _<_}
 use native.Mathlib.Omega.{arith}
 use lib.Dec.{eqb}
-use lib.ListN.{length, replicate}
+use lib.ListN.{length, getD, replicate}
 use borrow.Author.Tests.{eqb-true, eqb-false}
 use Rattle.wire.specs.Entry.{Entry}
+use Rattle.wire.specs.Marks.{marksOf}
+use Rattle.wire.proofs.Marks.{marks-same}
 use Rattle.crew.specs.Thresholds.{Class, one, two, three, classOf}
 use Rattle.ballot.specs.Ballot.{Ballot}
 use Rattle.inbox.specs.Inbox.{ballotIn}
@@ -15,7 +18,7 @@ use Rattle.inbox.specs.Columns.{Columns, empty, ReadInto, entriesOf, listedIn, 
 use Rattle.inbox.proofs.Inboxes.{Mean, columns-mean}
 use Rattle.tally.specs.Rules.{slotsOf}
 use Rattle.rounds.specs.declared.Round.{Round}
-use Rattle.rounds.specs.Steps.{heardBy, LooksBack, Listed, Walkable}
+use Rattle.rounds.specs.Steps.{heardBy, marksWith, LooksBack, Listed, OwnInbox, Walkable}
 use Rattle.rounds.proofs.Sizes.{number}
 
 module _ {round : Round} {bytes blank : List ℕ} (ready : Walkable round bytes blank) (read : Columns)
@@ -62,3 +65,12 @@ module _ {round : Round} {bytes blank : List ℕ} (ready : Walkable round bytes 
       by-class one is-one = other (not-three one is-one (omega arith))
       by-class two is-two = other (not-three two is-two (omega arith))
       by-class three is-three = by-kind (eqb (round .header .kind) 1) refl is-three
+
+-- the marks of the slots that are present, where there was no room for histories
+pub marks-heard : (round : Round) (bytes : List ℕ) (read : Columns) (histories : List ℕ) → OwnInbox (round .crew) bytes
+    → ReadInto (round .header) bytes empty [] read histories
+    → marksOf (λ q. getD (read .present) q false) (round .crew .n) ≡ marksWith round bytes
+marks-heard round bytes read histories own is =
+    let mean =
+    columns-mean (round .crew) (round .header) bytes 0 read histories (own .places) (own .whole) is in
+    marks-same _ _ (round .crew .n) (mean .present)

@@ -21,7 +21,7 @@ use Rattle.node.specs.declared.Node.{Node}
 use Rattle.node.specs.Soundness.{firstUnselected, sound}
 use Rattle.node.proofs.Facts.{sound-facts}
 use Rattle.rounds.specs.Taking.{afterSelection, afterValidation, afterDecision, afterRound}
-use Rattle.rounds.specs.Steps.{comingRound, planIf, planIn, ruled, Heard, afterPlan}
+use Rattle.rounds.specs.Steps.{comingRound, planIf, planIn, ruled, OwnInbox, Heard, afterPlan}
 
 -- the classes by number, which tells them apart
 abbrev pub number : Class → ℕ
@@ -39,7 +39,13 @@ three-is crew from to is = go (eqb (crew .class) 1) refl (eqb (crew .class) 2) r
     go false e true f is = absurd (omega arith)
     go false e false f is = omega (arith, eqb-false (crew .class) 1 e, eqb-false (crew .class) 2 f)
 
--- a sound record that is not spent, with an inbox of its own
+-- a sound record with an inbox of its own
+pub sound-own : (d : Node) (bytes : List ℕ) → sound d ≡ true → length bytes ≡ slotSize * d .crew .n
+    → OwnInbox (d .crew) bytes
+sound-own d bytes ok whole =
+    record { places = accepts (d .crew) (sound-facts d ok .crew) .size-to; whole = whole }
+
+-- and where the record is not spent
 pub sound-heard : (d : Node) (asked : Bool) (bytes : List ℕ) (fill : ℕ) → sound d ≡ true → d .phase < spentPhase
     → length bytes ≡ slotSize * d .crew .n → fill ≡ getD (d .history) lastPhase 0
     → Heard (comingRound d asked) bytes fill
@@ -47,7 +53,7 @@ sound-heard d asked bytes fill ok early whole is =
     let facts = sound-facts d ok in
     let crew = accepts (d .crew) (facts .crew) in
     record {
-      own = record { places = crew .size-to; whole = whole };
+      own = sound-own d bytes ok whole;
       class-from = crew .class-from;
       class-to = crew .class-to;
       early = early;

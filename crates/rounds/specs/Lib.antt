@@ -1,3 +1,4 @@
 pub mod Taking
 pub mod Asking
+pub mod Marking
 pub mod Steps

@@ -8,6 +8,7 @@ use lib.ListN.{length, replicate}
 use lib.Dec.{eqb}
 use Rattle.wire.specs.Entry.{Entry}
 use Rattle.wire.specs.Sizes.{spentPhase, historySize}
+use Rattle.wire.specs.Marks.{marksOf}
 use Rattle.crew.specs.declared.Crew.{Crew}
 use Rattle.crew.specs.Parts.{mostNodes}
 use Rattle.crew.specs.Thresholds.{three, classOf}
@@ -17,7 +18,7 @@ use Rattle.ballot.specs.Selection.{Choice, plan, any, nothing, selection, taken
 use Rattle.ballot.specs.Validation.{validated}
 use Rattle.ballot.specs.Decision.{decision}
 use Rattle.node.specs.declared.Node.{Node}
-use Rattle.inbox.specs.Inbox.{ballotsFor}
+use Rattle.inbox.specs.Inbox.{ballotsFor, countsIn}
 use Rattle.inbox.specs.Columns.{listedIn}
 use Rattle.rounds.specs.declared.Round.{Round}
 use Rattle.rounds.specs.declared.TakeRefusal.{TakeRefusal}
@@ -39,6 +40,11 @@ comingRound d asked = record {
 abbrev pub heardBy : Round → List ℕ → List Ballot
 heardBy round bytes =
     ballotsFor (round .crew) (round .header .run) (round .header .phase) (round .header .kind) bytes
+
+-- the marks of the slots that count with this round
+abbrev pub marksWith : Round → List ℕ → ℕ
+marksWith round bytes =
+    marksOf (countsIn (round .header .run) (round .header .phase) (round .header .kind) bytes) (round .crew .n)
 
 -- a plan as an answer of selection, 0 as none; and the plan of an answer
 abbrev pub planIf : ℕ → Choice

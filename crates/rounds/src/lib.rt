@@ -1,7 +1,8 @@
-// Asking for the coming selection, and taking a round: from an inbox's bytes to the next record.
-// What each answers stands in specs/Asking.antt and specs/Taking.antt, what private functions ask and promise in
-// specs/Steps.antt. Crate inbox walks the inbox into columns, crate tally runs the rules over these: what is behind the
-// walk has no inbox in its hands.
+// Asking for the coming selection, telling the slots that count, and taking a round: from an inbox's bytes to the next
+// record.
+// What each answers stands in specs/Asking.antt, specs/Marking.antt and specs/Taking.antt, what private functions ask
+// and promise in specs/Steps.antt. Crate inbox walks the inbox into columns, crate tally runs the rules over these:
+// what is behind the walk has no inbox in its hands.
 use crew::Crew;
 use crew::MOST_NODES;
 use message::Header;
@@ -12,12 +13,15 @@ use wire::LAST_PHASE;
 use wire::PHASES;
 use wire::Plan;
 ghost use mathlib.Core.Path.{_≡_};
+ghost use mathlib.Core.Bool.{false, cond};
 ghost use mathlib.Core.List.{List};
-ghost use Prim.Native.Nat.{ℕ, _<_};
+ghost use Prim.Native.Nat.{ℕ, _^_, _<_, _≤_};
 ghost use lib.ListN.{getD};
 ghost use Rattle.wire.specs.Entry.{Entry};
 ghost use Rattle.wire.specs.Sizes.{lastPhase, spentPhase};
 ghost use Rattle.wire.specs.Outcome.{accepted};
+ghost use Rattle.wire.specs.Marks.{marksOf};
+ghost use Rattle.crew.specs.Parts.{mostNodes};
 ghost use Rattle.node.specs.Place.{roundAfter};
 ghost use Rattle.inbox.specs.Columns.{columns, polled};
 ghost use Rattle.tally.specs.Rules.{slotsOf, choiceAs};
@@ -28,6 +32,7 @@ ghost use Rattle.rounds.specs.Taking.{
   TakenFrom,
 };
 ghost use Rattle.rounds.specs.Steps.{
+  OwnInbox,
   Walkable,
   WithFew,
   WithAll,
@@ -37,6 +42,7 @@ ghost use Rattle.rounds.specs.Steps.{
   comingRound,
   ruled,
   outcomeOf,
+  marksWith,
   planIf,
   planIn,
   afterPlan,
@@ -44,6 +50,7 @@ ghost use Rattle.rounds.specs.Steps.{
   refusedAsk,
 };
 ghost use Rattle.rounds.specs.Asking.{askAnswer, AskedFrom};
+ghost use Rattle.rounds.specs.Marking.{markingAnswer, markingOf};
 
 // How many places the flat array of histories has: one for each slot and phase; or few, which are enough for a small
 // crew or an early phase, and are sooner cleared.
@@ -76,6 +83,12 @@ pub enum Asking {
     Plan(Plan),
     Any,
     Nothing,
+    Refused(TakeRefusal),
+}
+
+// What telling the slots that count answers: their marks, slot q its bit of weight 2 to the q.
+pub enum Marking {
+    Marks(u32),
     Refused(TakeRefusal),
 }
 
@@ -374,4 +387,67 @@ pub fn ask(node: Node, inbox: &[u8]) -> Asked
         return refuse_ask(node, TakeRefusal::Spent);
     }
     refuse_ask(node, TakeRefusal::Unsound)
+}
+
+// What slot q adds to the marks: the weight of its bit where it counts, else nothing.
+fn mark_if(counts: bool, q: usize) -> u32
+    requires { ⌜ q < mostNodes ⌝ }
+    ensures { λ r. ⌜ r ≡ cond counts (2 ^ q) 0 ⌝ }
+{
+    let weight: u32 = 1 << q;
+    if counts { weight } else { 0 }
+}
+
+// The marks of the first n slots, by the column of presence.
+fn marks_in(present: &[bool; MOST_NODES], n: usize) -> u32
+    requires { ⌜ n ≤ mostNodes ⌝ }
+    ensures { λ r. ⌜ r ≡ marksOf (λ q. getD (now (present .entry)) q false) n ⌝ }
+{
+    let mut marks: u32 = 0;
+    let mut q = 0;
+    while q < n {
+        marks = marks + mark_if(present[q], q);
+        q = q + 1;
+    }
+    marks
+}
+
+// The marks of a round's slots. The inbox is walked as for taking the round, but with no room for histories: nobody
+// looks at them here.
+fn marks_with(round: Round, inbox: &[u8]) -> u32
+    requires { ⌜ OwnInbox (round .crew) (now inbox) ⌝ }
+    ensures { λ r. ⌜ r ≡ marksWith round (now (inbox .entry)) ⌝ }
+{
+    let mut present = [false; MOST_NODES];
+    let mut votes = [Node::NO_PLAN; MOST_NODES];
+    let mut stamps = [Node::UNSTAMPED; MOST_NODES];
+    let mut none = [Node::NO_PLAN; 1];
+    let header = round.header;
+    let n = round.crew.n as usize;
+    inbox::read_slots(
+        inbox,
+        header,
+        &mut present,
+        &mut votes,
+        &mut stamps,
+        &mut none[..0],
+    );
+    marks_in(&present, n)
+}
+
+// Tells which slots count in the coming round with this inbox. Refused as taking it is.
+pub fn marks(node: Node, inbox: &[u8]) -> Marking
+    ensures { λ r. ⌜ markingAnswer r ≡ markingOf node (now (inbox .entry)) ⌝ }
+{
+    if node.is_sound() {
+        if node.phase < Node::SPENT {
+            let n = node.crew.n as usize;
+            if inbox.len() == SLOT * n {
+                return Marking::Marks(marks_with(coming(node, false), inbox));
+            }
+            return Marking::Refused(TakeRefusal::Inbox);
+        }
+        return Marking::Refused(TakeRefusal::Spent);
+    }
+    Marking::Refused(TakeRefusal::Unsound)
 }

@@ -9,11 +9,10 @@ use lib.ListN.{take}
 use lib.Dec.{T}
 use Rattle.wire.specs.Outcome.{accepted, isAccepted}
 use Rattle.wire.specs.Bytes.{AreBytes}
-use Rattle.ballot.specs.Count.{holds}
 use Rattle.ballot.specs.Ballot.{Ballot}
 use Rattle.wire.specs.Below.{everyBelow}
 use Rattle.wire.proofs.Tests.{and-T, T-and, every-below}
-use Rattle.inbox.specs.Inbox.{slotAt, ballotAt}
+use Rattle.inbox.specs.Inbox.{slotAt, ballotAt, counts}
 use Rattle.rounds.specs.Taking.{takeOf}
 use Rattle.agreement.specs.Statement.{Call, write, ask, take-round, Event, Wrote}
 use Rattle.wire.proofs.Numbers.{allBytes, are-bytes}
@@ -33,7 +32,7 @@ module _ (s : Schedule) (n : ℕ) where
   slotOk before p inbox q =
       let so-far = upTo s before in
       let j = roundsTaken so-far p in
-      cond (isHonest s q && holds (λ m. true) (ballotAt (recordAfter so-far p) inbox q))
+      cond (isHonest s q && counts (recordAfter so-far p) inbox q)
       (wroteFront (ownRecord so-far q j) (ownCalls so-far q j) (slotAt inbox q)) true
 
   unfoldable pub takeOk : List Event → ℕ → List ℕ → Bool
@@ -82,14 +81,14 @@ module _ (s : Schedule) (n : ℕ) where
         × OwnWrote (upTo s before) q (roundsTaken (upTo s before) p) written
         × (slotAt inbox q ≡ written ++ rest)
     unfolding slotOk
-    slots-ok q hq below m counts =
+    slots-ok q hq below m says =
         let so-far = upTo s before in
         let j = roundsTaken so-far p in
-        let is-there = holds (λ x. true) (ballotAt (recordAfter so-far p) inbox q) in
+        let is-there = counts (recordAfter so-far p) inbox q in
         let wrote = wroteFront (ownRecord so-far q j) (ownCalls so-far q j) (slotAt inbox q) in
         let each =
         every-below (slotOk before p inbox) n
         (and-T (allBytes inbox) (everyBelow (slotOk before p inbox) n) take-ok .1) in
         wrote-front (ownRecord so-far q j) (ownCalls so-far q j) (slotAt inbox q)
         (if-so (isHonest s q && is-there) wrote (each q below)
-        (T-and (isHonest s q) is-there hq (rw counts tt)))
+        (T-and (isHonest s q) is-there hq (rw says tt)))

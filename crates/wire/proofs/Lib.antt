@@ -4,3 +4,4 @@ pub mod Numbers
 pub mod Stores
 pub mod Arrays
 pub mod Tables
+pub mod Marks

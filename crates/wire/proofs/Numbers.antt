@@ -1,14 +1,14 @@
 -- A number's bytes are read to the number, and the bytes that a number was read from are its bytes: once over the
--- width. Last, lists of bytes.
+-- width. Then numbers in a part of a list, and lists of bytes.
 use mathlib.Core.Path.{_≡_, refl, ap}
 use mathlib.Core.Bool.{Bool, true, _&&_}
 use mathlib.Core.List.{List, [], _∷_, _++_}
 use Prim.Native.Nat.{ℕ, zero, suc, _+_, _*_, _/_, _%_, _^_, _<_, _≤_}
 use native.Mathlib.Omega.{arith}
-use native.Mathlib.Nat.{add-zero}
+use native.Mathlib.Nat.{add-zero, add-assoc}
 use native.Mathlib.Numerals.{add-one}
-use lib.ListN.{length, getD, drop}
-use lib.Seq.{drop-cons}
+use lib.ListN.{length, getD, take, drop}
+use lib.Seq.{drop-cons, getD-take, getD-drop}
 use lib.Dec.{T, ltb, ltb→lt}
 use Rattle.wire.specs.Bytes.{numberAt, bytesOf, AreBytes}
 use Rattle.wire.proofs.Tests.{and-T}
@@ -47,6 +47,20 @@ bytes-of-number (suc width) s place bytes h =
 pub number-small : (width : ℕ) (s : List ℕ) (place : ℕ) → AreBytes s → numberAt width s place < 256 ^ width
 number-small zero s place bytes = omega arith
 number-small (suc width) s place bytes = omega (arith, bytes place, number-small width s (place + 1) bytes)
+
+-- a number in the front of a list, and in what is behind it
+pub number-taken : (width n : ℕ) (s : List ℕ) (place : ℕ) → place + width ≤ n
+    → numberAt width (take n s) place ≡ numberAt width s place
+number-taken zero n s place h = refl
+number-taken (suc width) n s place h =
+    let here : place < n = omega arith in
+    rw (getD-take n s place 0 here, number-taken width n s (place + 1) (omega arith))
+
+pub number-dropped : (width n : ℕ) (s : List ℕ) (place : ℕ)
+    → numberAt width (drop n s) place ≡ numberAt width s (n + place)
+number-dropped zero n s place = refl
+number-dropped (suc width) n s place =
+    rw (getD-drop n s place 0, number-dropped width n s (place + 1), add-assoc n place 1)
 
 -- whether a list holds bytes alone, as a test that computes
 unfoldable pub allBytes : List ℕ → Bool

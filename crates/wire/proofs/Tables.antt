@@ -1,8 +1,9 @@
 -- The list of what the numbers below a bound give, and arrays that a loop has filled with it.
 use mathlib.Core.Path.{_≡_, refl, ap₂, _∙_}
 use mathlib.Core.List.{List, [], _∷_, _++_}
-use Prim.Native.Nat.{ℕ, zero, suc, _<_, _≤_}
+use Prim.Native.Nat.{ℕ, zero, suc, _+_, _<_, _≤_}
 use native.Mathlib.Omega.{arith}
+use native.Mathlib.Numerals.{add-one}
 use lib.ListN.{length, length-append, List·getD-append}
 use lib.Seq.{getD-at}
 use Rattle.wire.specs.Below.{table}
@@ -26,6 +27,12 @@ module _ {A : Type 0} (f : ℕ → A) where
       let before : k < length (table f n) = omega (arith, apart, table-long n) in
       List·getD-append (table f n) (f n ∷ []) other k before
       ∙ table-filled other n k (omega (arith, apart)))
+
+-- a table's first, and the rest
+pub table-first : {A : Type 0} (f : ℕ → A) (n : ℕ) → table f (suc n) ≡ f 0 ∷ table (λ i. f (i + 1)) n
+unfolding table
+table-first f zero = refl
+table-first f (suc n) = rw (table-first f n, add-one n)
 
 -- what gives the same below n gives the same table
 pub table-same : {A : Type 0} (f g : ℕ → A) (n : ℕ) → ((i : ℕ) → i < n → f i ≡ g i) → table f n ≡ table g n

@@ -4,3 +4,4 @@ pub mod Sizes
 pub mod Bytes
 pub mod Plan
 pub mod Below
+pub mod Marks

@@ -19,7 +19,7 @@ use second_engine::{plan, rounds, Node, Refusal, Selection};
 pub enum Boundary {
     /// Slices of other lengths: refused before everything else, and nothing is written.
     Lengths,
-    /// Starting, writing, asking and taking on images, with every byte that may not be written.
+    /// Starting, writing, asking, taking and telling marks on images, with every byte that may not be written.
     Images,
     /// The standing result.
     Results,
@@ -117,6 +117,7 @@ fn compare_lengths(random: &mut Random) -> Result<(), String> {
     same(&("start", crew, length), start, unchanged.clone())?;
     same(&("take", &good), lent.after(|record| rail::take(record, &inbox)), unchanged.clone())?;
     same(&("ask", &good), rail::ask(&good, &inbox), unchanged.0)?;
+    same(&("marks", &good), rail::marks(&good, &inbox), unchanged.0)?;
     same(&("result", &good), rail::result(&good), unchanged.0)?;
     let size = random.below(SLOT + 28);
     let bytes = random.bytes(size);
@@ -165,6 +166,10 @@ fn compare_images(random: &mut Random) -> Result<(), String> {
         Selection::None => 0,
     });
     let (found, expected) = (rail::ask(&image, &inbox), answer(asked));
+    if found != expected {
+        same(&case(), found, expected)?;
+    }
+    let (found, expected) = (rail::marks(&image, &inbox), answer(rounds::marks(&node, &inbox).map(u64::from)));
     if found != expected {
         same(&case(), found, expected)?;
     }

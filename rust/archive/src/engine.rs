@@ -1,4 +1,5 @@
-//! The proved engine, as a comparison calls it: the archive's functions on images, and the proved drill program.
+//! The proved engine, as a comparison calls it: the archive's functions on images, and the proved programs, the drill
+//! and the one that tells absences.
 //! An answer that no operation may give ends the comparison with a panic that tells it.
 
 use crate::image;
@@ -7,14 +8,17 @@ use rail::{Refused, FIELDS, RECORD};
 use second_engine::message::{ENTRY, SELECTION_LENGTH};
 use second_engine::{Crew, LeastCrew, Message, Node, Plan, Refusal, Selection};
 use std::io::Write;
-use std::path::PathBuf;
-use std::process::{Command, Stdio};
+use std::path::{Path, PathBuf};
+use std::process::{Command, Output, Stdio};
+use std::thread;
 
-/// The proved engine.
-#[derive(Clone, Debug)]
+/// The proved engine. Where a program is not called, its path may be empty.
+#[derive(Clone, Debug, Default)]
 pub struct Archive {
     /// The drill program.
     pub drill: PathBuf,
+    /// The program that tells absences.
+    pub absence: PathBuf,
 }
 
 /// The five numbers of a crew, in the order of a call.
@@ -32,6 +36,22 @@ fn done(answer: rail::Answer) -> Result<(), Refusal> {
     let value = answer.map_err(refusal)?;
     assert_eq!(value, 0, "the value of a call that has none");
     Ok(())
+}
+
+/// How many bytes a program is fed at once: too few for what it asks for, and not a whole number of records.
+const PIECE: usize = 1_001;
+
+/// What a program gives for this input. It is fed piece by piece, as a pipe may well bring its bytes, and while its
+/// output is read: it may print before it has read all.
+pub fn output_of(program: &Path, input: &[u8]) -> Output {
+    let start = Command::new(program).stdin(Stdio::piped()).stdout(Stdio::piped()).spawn();
+    let mut child = start.unwrap_or_else(|failure| panic!("{}: {failure}", program.display()));
+    let mut standard_input = child.stdin.take().expect("standard input is piped");
+    thread::scope(|scope| {
+        // A program that has read enough may close its end; what it printed is compared all the same.
+        scope.spawn(move || input.chunks(PIECE).try_for_each(|piece| standard_input.write_all(piece)));
+        child.wait_with_output().expect("the program's output is read")
+    })
 }
 
 impl Engine for Archive {
@@ -94,17 +114,22 @@ impl Engine for Archive {
         answer
     }
 
+    fn marks(&self, node: &mut Node, inbox: &[u8]) -> Result<u32, Refusal> {
+        let value = rail::marks(&image::of(node), inbox).map_err(refusal)?;
+        Ok(u32::try_from(value).unwrap_or_else(|_| panic!("the archive tells the marks {value}")))
+    }
+
     fn drill(&self, input: &[u8]) -> Vec<u8> {
-        let start = Command::new(&self.drill).stdin(Stdio::piped()).stdout(Stdio::piped()).spawn();
-        let mut child = start.unwrap_or_else(|failure| panic!("{}: {failure}", self.drill.display()));
-        let mut standard_input = child.stdin.take().expect("standard input is piped");
-        // A program that has read enough may close its end; what it printed is compared all the same.
-        let _ = standard_input.write_all(input);
-        drop(standard_input);
-        child.wait_with_output().expect("the drill's output is read").stdout
+        output_of(&self.drill, input).stdout
     }
 
     fn split(&self, demands: &[u32], budget: u32, shares: &mut [u32]) -> Result<(), Refusal> {
         done(rail::split(demands, budget, shares))
+    }
+
+    fn absence(&self, input: &[u8]) -> Vec<u8> {
+        let output = output_of(&self.absence, input);
+        assert!(output.status.success(), "{}: {}", self.absence.display(), output.status);
+        output.stdout
     }
 }

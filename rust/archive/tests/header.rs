@@ -96,6 +96,8 @@ fn limits_are_the_same() {
     }
 }
 
+/// Every refusal that a function of the archive answers. 23 is not among them: the window over finished runs is no part
+/// of the archive, and the program over it prints no numbers of refusals.
 fn refusals() -> [(&'static str, u8); 21] {
     [
         ("RAIL_CLASS", Refusal::Class.number()),
@@ -128,4 +130,11 @@ fn refusals_have_their_numbers() {
     for (name, number) in refusals() {
         assert_eq!(numbers[name], usize::from(number), "{name}");
     }
+}
+
+/// So no macro has 23, and every other number of the papers has one.
+#[test]
+fn every_number_but_the_windows_has_a_macro() {
+    let has_macro = |refusal: Refusal| refusals().iter().any(|&(_, number)| number == refusal.number());
+    assert!(Refusal::ALL.into_iter().all(|refusal| has_macro(refusal) == (refusal != Refusal::SameRun)));
 }

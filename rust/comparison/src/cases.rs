@@ -2,7 +2,7 @@
 
 use crate::engine::Engine;
 use crate::pair::Pair;
-use crate::{runs, schedules, splits};
+use crate::{absences, runs, schedules, splits};
 use generators::{crews, drills, inboxes, messages, plans, records, Random};
 use second_engine::inbox::SLOT;
 use second_engine::message::{DECISION_LENGTH, ENTRY, HEADER, SELECTION_LENGTH, VALIDATION_LENGTH};
@@ -19,6 +19,8 @@ pub enum Operation {
     Read,
     /// Asking and taking.
     Round,
+    /// Telling the slots that count.
+    Marks,
     /// Splitting the rail's current, with the properties of C-19.
     Split,
     /// Whole runs, with the properties of demand 3.
@@ -26,19 +28,23 @@ pub enum Operation {
     /// Nodes out of step, with the claims of C-17.
     Schedule,
     Drill,
+    /// The program that tells absences, with the properties of C-24.
+    Absence,
 }
 
 impl Operation {
-    pub const ALL: [Operation; 9] = [
+    pub const ALL: [Operation; 11] = [
         Operation::Accept,
         Operation::Start,
         Operation::Write,
         Operation::Read,
         Operation::Round,
+        Operation::Marks,
         Operation::Split,
         Operation::Run,
         Operation::Schedule,
         Operation::Drill,
+        Operation::Absence,
     ];
 }
 
@@ -50,11 +56,15 @@ pub fn compare(operation: Operation, seed: u64, one: &dyn Engine, other: &dyn En
         Operation::Start => compare_start(random, one, other),
         Operation::Write => compare_write(random, one, other),
         Operation::Read => compare_read(random, one, other),
-        Operation::Round => compare_round(random, one, other),
+        Operation::Round => {
+            compare_inbox(random, |node, inbox| (ask_and_take(one, node, inbox), ask_and_take(other, node, inbox)))
+        }
+        Operation::Marks => compare_inbox(random, |node, inbox| (marks(one, node, inbox), marks(other, node, inbox))),
         Operation::Split => splits::drive(random, Pair { engine: one, other: Some(other) }),
         Operation::Run => runs::drive(random, one, Some(other)).map(|_| ()),
         Operation::Schedule => schedules::drive(random, Pair { engine: one, other: Some(other) }).map(|_| ()),
         Operation::Drill => compare_drill(random, one, other),
+        Operation::Absence => absences::drive(random, Pair { engine: one, other: Some(other) }),
     };
     outcome.map_err(|difference| format!("{operation:?}, seed {seed}: {difference}"))
 }
@@ -111,9 +121,13 @@ fn place_of(slice: &[u8], part: &[u8]) -> Option<(usize, Vec<u8>)> {
     (!part.is_empty()).then(|| (offset, part.to_vec()))
 }
 
-fn compare_round(random: &mut Random, one: &dyn Engine, other: &dyn Engine) -> Result<(), String> {
+/// A record and an inbox for it, with the answers of both engines.
+fn compare_inbox<A: PartialEq + Debug>(
+    random: &mut Random,
+    answers: impl Fn(Node, &[u8]) -> (A, A),
+) -> Result<(), String> {
     let (node, inbox) = inboxes::case(random);
-    let answers = |inbox: &[u8]| (ask_and_take(one, node, inbox), ask_and_take(other, node, inbox));
+    let answers = |inbox: &[u8]| answers(node, inbox);
     let whole = answers(&inbox);
     if whole.0 == whole.1 {
         return Ok(());
@@ -132,6 +146,10 @@ fn ask_and_take(engine: &dyn Engine, node: Node, inbox: &[u8]) -> impl PartialEq
     let (mut asked, mut taken) = (node, node);
     let answers = (engine.ask(&mut asked, inbox), engine.take(&mut taken, inbox));
     (answers, asked, taken)
+}
+
+fn marks(engine: &dyn Engine, mut node: Node, inbox: &[u8]) -> impl PartialEq + Debug {
+    (engine.marks(&mut node, inbox), node)
 }
 
 /// Clears slots one by one as long as the difference stays.

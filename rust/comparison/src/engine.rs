@@ -1,6 +1,6 @@
 //! The operations of an engine, as a comparison calls them, and the second engine behind them.
 
-use second_engine::{current, drill, least_crews, message, rounds};
+use second_engine::{absence, current, drill, least_crews, message, rounds};
 use second_engine::{Crew, LeastCrew, Message, Mutation, Node, Plan, Refusal, Selection};
 
 /// An engine. Records and shares are lent to be written, so that a comparison sees where a call should have left them
@@ -16,9 +16,13 @@ pub trait Engine {
     fn entries<'a>(&self, slice: &'a [u8]) -> &'a [u8];
     fn ask(&self, node: &mut Node, inbox: &[u8]) -> Result<Selection, Refusal>;
     fn take(&self, node: &mut Node, inbox: &[u8]) -> Result<(), Refusal>;
+    /// The slots that count in the coming round, slot q its bit of weight 2 to the q.
+    fn marks(&self, node: &mut Node, inbox: &[u8]) -> Result<u32, Refusal>;
     fn drill(&self, input: &[u8]) -> Vec<u8>;
     /// Splits the rail's current.
     fn split(&self, demands: &[u32], budget: u32, shares: &mut [u32]) -> Result<(), Refusal>;
+    /// What the program that tells absences prints for this input.
+    fn absence(&self, input: &[u8]) -> Vec<u8>;
 }
 
 /// The second engine, or a mutant of it.
@@ -60,11 +64,19 @@ impl Engine for Second {
         rounds::take_mutated(node, inbox, self.mutation)
     }
 
+    fn marks(&self, node: &mut Node, inbox: &[u8]) -> Result<u32, Refusal> {
+        rounds::marks_mutated(node, inbox, self.mutation)
+    }
+
     fn drill(&self, input: &[u8]) -> Vec<u8> {
         drill::run_mutated(input, self.mutation)
     }
 
     fn split(&self, demands: &[u32], budget: u32, shares: &mut [u32]) -> Result<(), Refusal> {
         current::split_mutated(demands, budget, shares, self.mutation)
+    }
+
+    fn absence(&self, input: &[u8]) -> Vec<u8> {
+        absence::run_mutated(input, self.mutation)
     }
 }

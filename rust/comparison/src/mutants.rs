@@ -7,7 +7,7 @@ use crate::lookups;
 use crate::pair::Pair;
 use crate::regrouping::{self, Regrouping};
 use crate::{schedules, splits};
-use generators::Random;
+use generators::{absences, Random};
 use second_engine::Mutation;
 
 /// How many cases of each operation that has a wrong rule somewhere.
@@ -15,10 +15,12 @@ use second_engine::Mutation;
 pub struct Cases {
     pub reads: u64,
     pub rounds: u64,
+    pub marks: u64,
     pub runs: u64,
     pub schedules: u64,
     pub drills: u64,
     pub splits: u64,
+    pub absences: u64,
 }
 
 /// All decisions of a run are on one plan, so that these are no change there. Only single rounds tell them.
@@ -32,12 +34,28 @@ pub const IN_REFUSALS: [Mutation; 4] = [
     Mutation::WrittenBeforeRefused,
 ];
 
+/// The mutants of rounds and of reading that are wrong in which slots count, so that marks have to tell them too.
+const IN_COUNTING: [Mutation; 5] = [
+    Mutation::MalformedSlotSpoils,
+    Mutation::DistinctContents,
+    Mutation::ResidueIgnored,
+    Mutation::FirstByteOfResidue,
+    Mutation::ResidueOfDecisions,
+];
+
+/// Wrong only past the limit of records, which no random input comes near. The long input in which all records but the
+/// first are refused has to tell these.
+pub const PAST_THE_LIMIT: [Mutation; 2] = [Mutation::OneRecordTooMany, Mutation::RefusedRecordsNotCounted];
+
 /// Gives the same cases to the engine and to every mutant, and prints how many tell them apart.
 pub fn tell_all(engine: &dyn Engine, cases: Cases) -> Result<(), String> {
     tell_rounds(engine, cases)?;
     tell_reading(engine, cases)?;
+    tell_marks(engine, cases)?;
     tell_lookups(engine)?;
-    tell_splits(engine, cases)
+    tell_splits(engine, cases)?;
+    tell_absences(engine, cases)?;
+    tell_past_the_limit(engine)
 }
 
 /// How many of so many cases of each operation tell the mutant; prints them on one line.
@@ -94,6 +112,16 @@ fn tell_reading(engine: &dyn Engine, cases: Cases) -> Result<(), String> {
     Ok(())
 }
 
+/// The mutants of marks, which show nowhere else, and the others that are wrong in which slots count.
+fn tell_marks(engine: &dyn Engine, cases: Cases) -> Result<(), String> {
+    println!("mutants are told by how many of {} marks:", cases.marks);
+    for mutation in Mutation::MUTANTS_OF_MARKS.into_iter().chain(IN_COUNTING) {
+        let [marks] = told(engine, mutation, [(Operation::Marks, cases.marks)]);
+        check_told(mutation, marks > 0)?;
+    }
+    Ok(())
+}
+
 /// The mutants of lookups. No other case has a lookup in it, so lookups have to tell every one.
 fn tell_lookups(engine: &dyn Engine) -> Result<(), String> {
     println!("mutants are told by how many of {} lookups:", lookups::near_the_table().count());
@@ -119,6 +147,33 @@ fn tell_splits(engine: &dyn Engine, cases: Cases) -> Result<(), String> {
         println!("  {mutation:?}: {told}, {told_small}");
         check_told(mutation, told > 0 && (told_small > 0 || IN_REFUSALS.contains(&mutation)))?;
     }
+    Ok(())
+}
+
+/// The mutants of absence. No other case has a window in it, so random inputs have to tell every one but those that are
+/// wrong past the limit. The engine, which may be a program, prints its lines once for each input.
+fn tell_absences(engine: &dyn Engine, cases: Cases) -> Result<(), String> {
+    println!("mutants are told by how many of {} inputs:", cases.absences);
+    let input = |seed| absences::any(&mut Random::new(seed));
+    let printed: Vec<(Vec<u8>, Vec<u8>)> =
+        (1..=cases.absences).map(input).map(|input| (engine.absence(&input), input)).collect();
+    for mutation in Mutation::MUTANTS_OF_ABSENCE.into_iter().filter(|mutation| !PAST_THE_LIMIT.contains(mutation)) {
+        let mutant = Second { mutation };
+        let told = printed.iter().filter(|(output, input)| mutant.absence(input) != *output).count();
+        println!("  {mutation:?}: {told}");
+        check_told(mutation, told > 0)?;
+    }
+    Ok(())
+}
+
+/// The other mutants of absence, on one long input.
+fn tell_past_the_limit(engine: &dyn Engine) -> Result<(), String> {
+    let input = absences::repeated();
+    let output = engine.absence(&input);
+    for mutation in PAST_THE_LIMIT {
+        check_told(mutation, Second { mutation }.absence(&input) != output)?;
+    }
+    println!("a long input tells {PAST_THE_LIMIT:?}");
     Ok(())
 }
 

@@ -1,6 +1,7 @@
 //! Laws of the operations on generated cases, and that these cases reach every answer.
 
 use comparison::seeds::seeds;
+use comparison::slots::counting_slots;
 use generators::{crews, inboxes, messages, records, Random};
 use second_engine::inbox::{Ballot, SLOT};
 use second_engine::message::{ENTRY, ENTRY_PLAN, LAST_PHASE};
@@ -202,6 +203,44 @@ fn selections_of_class_3_are_of_every_size_and_phase() {
     }
     assert!(sizes.into_iter().eq(1..=Crew::MOST_NODES as u8));
     assert!(phases.into_iter().eq(1..=LAST_PHASE));
+}
+
+/// What is told of the slots that count: they are refused with the take's numbers, else each slot that counts has its
+/// mark and no other has. The slots without one play no part in the answers. All marks come up, in every round of every
+/// class, with no mark and with all of them.
+#[test]
+fn marks_are_those_of_the_slots_that_count() {
+    let (mut numbers, mut rounds_told, mut all) = (BTreeSet::new(), BTreeSet::new(), 0);
+    for seed in seeds("marks_are_those_of_the_slots_that_count", 20_000) {
+        let (node, inbox) = inboxes::case(&mut Random::new(seed));
+        let answers = |inbox: &[u8]| {
+            let mut after = node;
+            (rounds::ask(&node, inbox), rounds::take(&mut after, inbox), after)
+        };
+        match rounds::marks(&node, &inbox) {
+            Ok(marks) => {
+                let counting = counting_slots(node.run, node.phase, node.round, &inbox);
+                let bits = counting.iter().enumerate().map(|(q, slot)| u32::from(slot.is_some()) << q);
+                assert_eq!(marks, bits.sum(), "seed {seed}");
+                let mut marked = inbox.clone();
+                let unmarked = marked.chunks_exact_mut(SLOT).enumerate().filter(|(q, _)| marks & (1 << q) == 0);
+                unmarked.for_each(|(_, slot)| slot.fill(0));
+                assert_eq!(answers(&marked), answers(&inbox), "seed {seed}");
+                assert_eq!(rounds::marks(&node, &marked), Ok(marks), "seed {seed}");
+                let is_full = marks.count_ones() == u32::from(node.crew.n);
+                rounds_told.insert((node.crew.class, node.round, marks == 0, is_full));
+                all |= marks;
+            }
+            Err(refusal) => {
+                assert_eq!(answers(&inbox).1, Err(refusal), "seed {seed}");
+                numbers.insert(refusal.number());
+            }
+        }
+    }
+    assert!(numbers.into_iter().eq([7, 8, 14]));
+    assert_eq!(all, u32::MAX);
+    // Rounds 1 and 3 in class 1, all three in the others; no mark, some or all.
+    assert_eq!(rounds_told.len(), 8 * 3);
 }
 
 /// 01: "Two inboxes with the same counting messages, each in as many slots of one as of the other, give the same

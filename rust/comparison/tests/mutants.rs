@@ -16,7 +16,7 @@ use std::cell::Cell;
 fn the_engine_is_equal_to_itself() {
     for operation in Operation::ALL {
         let cases = match operation {
-            Operation::Run | Operation::Schedule | Operation::Drill => 100,
+            Operation::Run | Operation::Schedule | Operation::Drill | Operation::Absence => 100,
             _ => 2_000,
         };
         for seed in seeds(&format!("{operation:?}"), cases) {
@@ -35,7 +35,16 @@ fn the_engine_is_equal_to_itself() {
 
 #[test]
 fn every_mutant_is_told_from_the_engine() {
-    let cases = Cases { reads: 2_000, rounds: 2_000, runs: 100, schedules: 600, drills: 200, splits: 2_000 };
+    let cases = Cases {
+        reads: 2_000,
+        rounds: 2_000,
+        marks: 2_000,
+        runs: 100,
+        schedules: 600,
+        drills: 200,
+        splits: 2_000,
+        absences: 100,
+    };
     if let Err(failure) = tell_all(&Second::default(), cases) {
         panic!("{failure}");
     }
@@ -123,12 +132,20 @@ impl<F: Fn(&Node) -> bool> Engine for Wrong<F> {
         answer
     }
 
+    fn marks(&self, node: &mut Node, inbox: &[u8]) -> Result<u32, Refusal> {
+        Second::default().marks(node, inbox)
+    }
+
     fn drill(&self, input: &[u8]) -> Vec<u8> {
         Second::default().drill(input)
     }
 
     fn split(&self, demands: &[u32], budget: u32, shares: &mut [u32]) -> Result<(), Refusal> {
         Second::default().split(demands, budget, shares)
+    }
+
+    fn absence(&self, input: &[u8]) -> Vec<u8> {
+        Second::default().absence(input)
     }
 }
 

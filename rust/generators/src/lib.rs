@@ -1,7 +1,8 @@
 //! Generators of test cases, each a function of a seed: crews, records, messages, inboxes, whole runs, schedules, drill
-//! scripts, splits of the rail's current.
+//! scripts, splits of the rail's current, records of finished runs.
 //! Any engine may be fed from them; they use the second engine's types and its reader, never its rules.
 
+pub mod absences;
 pub mod crews;
 pub mod drills;
 pub mod histories;

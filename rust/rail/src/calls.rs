@@ -24,6 +24,7 @@ unsafe extern "C" {
     fn rail_write(record: *const u8, record_length: usize, buffer: *mut u8, buffer_length: usize) -> u64;
     fn rail_take(record: *mut u8, record_length: usize, inbox: *const u8, inbox_length: usize) -> u64;
     fn rail_ask(record: *const u8, record_length: usize, inbox: *const u8, inbox_length: usize) -> u64;
+    fn rail_marks(record: *const u8, record_length: usize, inbox: *const u8, inbox_length: usize) -> u64;
     fn rail_result(record: *const u8, record_length: usize) -> u64;
     fn rail_read(bytes: *const u8, bytes_length: usize, fields: *mut u8, fields_length: usize) -> u64;
     fn rail_entry(bytes: *const u8, bytes_length: usize, i: usize) -> u64;
@@ -64,6 +65,11 @@ pub fn take(record: &mut [u8], inbox: &[u8]) -> u64 {
 pub fn ask(record: &[u8], inbox: &[u8]) -> u64 {
     // SAFETY: each pointer and length are those of a slice; nothing is written.
     unsafe { rail_ask(record.as_ptr(), record.len(), inbox.as_ptr(), inbox.len()) }
+}
+
+pub fn marks(record: &[u8], inbox: &[u8]) -> u64 {
+    // SAFETY: each pointer and length are those of a slice; nothing is written.
+    unsafe { rail_marks(record.as_ptr(), record.len(), inbox.as_ptr(), inbox.len()) }
 }
 
 pub fn result(record: &[u8]) -> u64 {

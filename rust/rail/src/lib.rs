@@ -78,6 +78,13 @@ pub fn ask(record: &[u8], inbox: &[u8]) -> Answer {
     answer(calls::ask(record, inbox))
 }
 
+/// The slots that count in the coming round, whichever it is, as one number of 32 bits: slot q its bit of weight 2 to
+/// the q. Told with the inbox of the round that decided, before that is taken, it is the marks of the run's record,
+/// from which absences are counted.
+pub fn marks(record: &[u8], inbox: &[u8]) -> Answer {
+    answer(calls::marks(record, inbox))
+}
+
 /// The record's standing result, 0 before it has one.
 pub fn result(record: &[u8]) -> Answer {
     answer(calls::result(record))

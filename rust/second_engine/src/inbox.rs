@@ -99,6 +99,56 @@ pub fn counting<'a>(node: &Node, inbox: &'a [u8], mutation: Mutation) -> Countin
     counting
 }
 
+/// The slots that count, as one number: slot q its bit of weight 2 to the q, as the marks of a record have it (02,
+/// C-24). Each slot is read on its own, and no ballot is laid out for it.
+pub fn marks(node: &Node, inbox: &[u8], mutation: Mutation) -> u32 {
+    let mut marks = 0;
+    for (q, slot) in inbox.chunks_exact(SLOT).enumerate() {
+        if is_marked(node, slot, mutation) {
+            marks |= 1 << q;
+        }
+    }
+    match mutation {
+        Mutation::MalformedSlotSpoils if inbox.chunks_exact(SLOT).any(is_malformed) => 0,
+        Mutation::DistinctContents => without_repeated(marks, inbox),
+        Mutation::MarksOneSlotLate => marks << 1,
+        Mutation::MarksFromTheLastSlot => marks.reverse_bits() >> (Crew::MOST_NODES - inbox.len() / SLOT),
+        _ => marks,
+    }
+}
+
+/// Whether the slot counts, but for the mutants.
+fn is_marked(node: &Node, slot: &[u8], mutation: Mutation) -> bool {
+    let read = match mutation {
+        Mutation::RefusedSlotMarked => message::parse(slot).map(|(message, _)| message),
+        _ => message::read_mutated(slot, mutation),
+    };
+    let Ok(message) = read else { return false };
+    let is_of_run = message.run == node.run || mutation == Mutation::AnotherRunMarked;
+    let is_of_kind = message.kind() == node.round || mutation == Mutation::AnotherKindMarked;
+    let is_of_phase = message.phase == node.phase || mutation == Mutation::AnotherPhaseMarked;
+    is_of_run && is_of_kind && is_of_phase
+}
+
+/// A mutant's rule: of marked slots with the same content only the first stays so. What counts has one encoding, so
+/// that equal contents are equal bytes.
+fn without_repeated(marks: u32, inbox: &[u8]) -> u32 {
+    let mut seen = Vec::new();
+    let mut left = 0;
+    for (q, slot) in inbox.chunks_exact(SLOT).enumerate().filter(|(q, _)| marks & (1 << q) != 0) {
+        if !seen.contains(&slot) {
+            seen.push(slot);
+            left |= 1 << q;
+        }
+    }
+    left
+}
+
+/// Whether reading refuses the slot though something begins there.
+fn is_malformed(slot: &[u8]) -> bool {
+    message::read(slot).is_err() && slot[..2] != [0, 0]
+}
+
 fn is_of_coming_round(node: &Node, message: &Message) -> bool {
     message.run == node.run && message.kind() == node.round && message.phase == node.phase
 }

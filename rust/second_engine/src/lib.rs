@@ -1,6 +1,7 @@
 //! The second engine: the rules of the scope paper (01) and of the change requests (02) in plain Rust, byte exact.
 //! It is written from the papers' sentences alone; comparison tests hold it against the proved engine.
 
+pub mod absence;
 pub mod crew;
 pub mod current;
 pub mod drill;

@@ -101,6 +101,54 @@ pub enum Mutation {
     LargestDemandRefused,
     /// or the shares are cleared where 19 is answered.
     WrittenBeforeRefused,
+    /// Against 01: "A slot counts when reading it succeeds and its run, kind and phase are those of the node's coming
+    /// round". Where the slots that count are told (02, C-24: "32 marks for the slots that counted"), one of another
+    /// run has its mark,
+    AnotherRunMarked,
+    /// or one of another kind,
+    AnotherKindMarked,
+    /// or one of another phase,
+    AnotherPhaseMarked,
+    /// or one that reading refuses for a bound or for residue.
+    RefusedSlotMarked,
+    /// Against "node q its bit of weight 2 to the q". The marks stand one bit too high,
+    MarksOneSlotLate,
+    /// or the last slot has the bit of weight 1 and the first the highest.
+    MarksFromTheLastSlot,
+    /// Marks are told in round 1 alone, as a selection is asked for, and refused with 7 in the others.
+    MarksInRoundOneAlone,
+    /// Against 02 (C-24): "The window holds the newest 100". It holds one fewer,
+    NinetyNineHeld,
+    /// or one more.
+    HundredAndOneHeld,
+    /// Against "Adding to a full window drops the oldest". It keeps what it has and loses the new one.
+    NewestDropped,
+    /// Against "for each node, how many of them miss it". Those are counted that have it.
+    PresenceCounted,
+    /// Against "It refuses with 23 a record whose run number is that of the newest held, leaving the window unchanged."
+    /// The number of any record held is refused,
+    AnyHeldRunRefused,
+    /// or that of the oldest held,
+    OldestRunCompared,
+    /// or 0 where nothing is held,
+    EmptyWindowRefusesRunZero,
+    /// or a refused record is added all the same.
+    RefusedRecordAdded,
+    /// Against "prints the 32 counts after each, refused ones too". A refused record prints nothing.
+    NoLineForRefused,
+    /// Against "8 bytes each (run, then marks as one number, node q its bit of weight 2 to the q; a remnant is
+    /// dropped)". The numbers' first byte is the highest,
+    BigEndianRecords,
+    /// or the marks stand before the run,
+    MarksBeforeRun,
+    /// or node q has the bit of weight 2 to the 31 - q,
+    MarksReadFromTheOtherEnd,
+    /// or a remnant is filled up with zeros and taken.
+    RemnantTaken,
+    /// Against "the first 1,000,000 at most". It takes one more,
+    OneRecordTooMany,
+    /// or refused ones are not among them.
+    RefusedRecordsNotCounted,
 }
 
 impl Mutation {
@@ -151,6 +199,7 @@ impl Mutation {
         // This one shows in reading alone: under either number the slot is absent.
         Mutation::ResidueFirst,
     ];
+
     /// Every mutant with a wrong rule in splitting the rail's current, which shows nowhere else.
     pub const MUTANTS_OF_SPLITS: [Mutation; 11] = [
         Mutation::RoundedUp,
@@ -164,5 +213,38 @@ impl Mutation {
         Mutation::LongerBufferTaken,
         Mutation::LargestDemandRefused,
         Mutation::WrittenBeforeRefused,
+    ];
+
+    /// Every mutant with a wrong rule in telling the slots that count, which shows nowhere else. Some mutants of rounds
+    /// and of reading show there too.
+    pub const MUTANTS_OF_MARKS: [Mutation; 7] = [
+        Mutation::AnotherRunMarked,
+        Mutation::AnotherKindMarked,
+        Mutation::AnotherPhaseMarked,
+        Mutation::RefusedSlotMarked,
+        Mutation::MarksOneSlotLate,
+        Mutation::MarksFromTheLastSlot,
+        Mutation::MarksInRoundOneAlone,
+    ];
+
+    /// Every mutant with a wrong rule in the window over finished runs or in the program over it, which shows nowhere
+    /// else.
+    pub const MUTANTS_OF_ABSENCE: [Mutation; 15] = [
+        Mutation::NinetyNineHeld,
+        Mutation::HundredAndOneHeld,
+        Mutation::NewestDropped,
+        Mutation::PresenceCounted,
+        Mutation::AnyHeldRunRefused,
+        Mutation::OldestRunCompared,
+        Mutation::EmptyWindowRefusesRunZero,
+        Mutation::RefusedRecordAdded,
+        Mutation::NoLineForRefused,
+        Mutation::BigEndianRecords,
+        Mutation::MarksBeforeRun,
+        Mutation::MarksReadFromTheOtherEnd,
+        Mutation::RemnantTaken,
+        // These two show only where an input passes the limit.
+        Mutation::OneRecordTooMany,
+        Mutation::RefusedRecordsNotCounted,
     ];
 }

@@ -40,11 +40,14 @@ pub enum Refusal {
     Count = 18,
     /// and "then with 19 a number out of range, writing nothing."
     Amount = 19,
+    /// 02 (C-24): "It refuses with 23 a record whose run number is that of the newest held, leaving the window
+    /// unchanged."
+    SameRun = 23,
 }
 
 impl Refusal {
     /// Every refusal, in the order of the numbers.
-    pub const ALL: [Refusal; 18] = [
+    pub const ALL: [Refusal; 19] = [
         Refusal::Class,
         Refusal::Nodes,
         Refusal::DecisionOutOfReach,
@@ -63,9 +66,10 @@ impl Refusal {
         Refusal::Residue,
         Refusal::Count,
         Refusal::Amount,
+        Refusal::SameRun,
     ];
 
-    /// The paper's number: 1 to 14 are 01's, 15, 16, 18 and 19 are 02's. No refusal here has 17.
+    /// The paper's number: 1 to 14 are 01's, 15, 16, 18, 19 and 23 are 02's. No refusal here has 17 or 20 to 22.
     pub const fn number(self) -> u8 {
         self as u8
     }

@@ -1,4 +1,5 @@
-//! The three rounds: asking for the selection and taking a round (01, 'The three rounds'). Builds on nodes and inboxes.
+//! The three rounds: asking for the selection and taking a round (01, 'The three rounds'), and telling which slots
+//! count in it (for the records of 02, C-24). Builds on nodes and inboxes.
 //! Every rule takes the mutation that makes it wrong; the public operations pass none.
 
 use crate::crew::Crew;
@@ -66,6 +67,21 @@ pub fn take_mutated(node: &mut Node, inbox: &[u8], mutation: Mutation) -> Result
         _ => take_decision(node, counting.ballots(), mutation),
     }
     Ok(())
+}
+
+/// Only tells which slots count in the coming round, whichever it is, as one number: slot q its bit of weight 2 to the
+/// q. The papers name no refusals for it: they are those of taking the round.
+pub fn marks(node: &Node, inbox: &[u8]) -> Result<u32, Refusal> {
+    marks_mutated(node, inbox, Mutation::Unmutated)
+}
+
+/// As `marks`, with a wrong rule.
+pub fn marks_mutated(node: &Node, inbox: &[u8], mutation: Mutation) -> Result<u32, Refusal> {
+    if mutation == Mutation::MarksInRoundOneAlone && node.round != node::SELECTION {
+        return Err(Refusal::NotSound);
+    }
+    check(node, inbox)?;
+    Ok(inbox::marks(node, inbox, mutation))
 }
 
 /// 01: "Taking a round, or only asking for the coming selection: 7; 8; 14 inbox length not 202n."

@@ -199,6 +199,8 @@ fn asking_and_taking() {
         let mut taken = node;
         let numbers = (number(rounds::ask(&node, inbox)), number(rounds::take(&mut taken, inbox)));
         assert!(numbers.1 == 0 || taken == node);
+        // What counts in a round is told wherever the round is taken.
+        assert_eq!(number(rounds::marks(&node, inbox)), numbers.1);
         numbers
     };
     assert_eq!(refused(Node { vote: 0, phase: 64, ..node() }, &[]), (7, 7));
@@ -214,8 +216,8 @@ fn asking_and_taking() {
 
 #[test]
 fn numbers_and_refusals() {
-    // No refusal has 17.
-    assert!((1..=16).chain(18..=19).eq(Refusal::ALL.into_iter().map(Refusal::number)));
+    // No refusal has 17 or 20 to 22.
+    assert!((1..=16).chain(18..=19).chain([23]).eq(Refusal::ALL.into_iter().map(Refusal::number)));
     for refusal in Refusal::ALL {
         assert_eq!(Refusal::from_number(refusal.number()), Some(refusal));
     }
@@ -223,5 +225,6 @@ fn numbers_and_refusals() {
     assert_eq!(Refusal::from_number(16), Some(Refusal::Residue));
     assert_eq!(Refusal::from_number(18), Some(Refusal::Count));
     assert_eq!(Refusal::from_number(19), Some(Refusal::Amount));
-    assert_eq!([0, 17, 20, 255].map(Refusal::from_number), [None; 4]);
+    assert_eq!(Refusal::from_number(23), Some(Refusal::SameRun));
+    assert_eq!([0, 17, 20, 22, 24, 255].map(Refusal::from_number), [None; 6]);
 }

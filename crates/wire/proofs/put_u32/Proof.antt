@@ -1,6 +1,6 @@
 -- `put_u32` meets its contract.
-use mathlib.Core.Path.{_≡_, sym, _∙_}
-use Prim.Native.Nat.{ℕ, suc, _+_, _≤_}
+use mathlib.Core.Path.{sym, _∙_}
+use Prim.Native.Nat.{_+_, _≤_}
 use native.Mathlib.Omega.{arith}
 use native.Mathlib.Numerals.{add-one}
 use denote.Ref.{now}
@@ -8,15 +8,9 @@ use lib.ListN.{length, length-set}
 use borrow.Author.Needs.{needs}
 use borrow.Author.Tests.{leb-true}
 use Rattle.wire.specs.Bytes.{laid}
+use Rattle.wire.proofs.Stores.{add-two, add-three}
 use Rattle.wire.proofs.put_u32.Statement.{statement}
 use Rattle.wire.proofs.put_u32.Tie as tie
-
--- the places of the third and the fourth byte
-add-two : (n : ℕ) → n + 2 ≡ suc (suc n)
-add-two n = omega arith
-
-add-three : (n : ℕ) → n + 3 ≡ suc (suc (suc n))
-add-three n = omega arith
 
 -- the bytes have room where the test passed
 room : (c : tie.Then1)

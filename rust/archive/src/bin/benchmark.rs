@@ -1,15 +1,17 @@
 //! Times the proved engine's archive against the second engine, both in this one run, on the same inboxes and splits,
-//! in turn, and the proved drill program against the second engine's, `second_drill`, which is expected beside this
-//! program.
-//! docs/BENCHMARK.md says what is measured. Usage: benchmark DRILL [REPETITIONS]; it prints the summary that the page
-//! holds, then the whole tables.
+//! in turn; the proved drill program against the second engine's, `second_drill`; and the proved program that tells
+//! absences against a plain one, `plain_absence`. These two, `second_drill` and `plain_absence`, are expected beside
+//! this program.
+//! docs/BENCHMARK.md says what is measured. Usage: benchmark DRILL ABSENCE [REPETITIONS]; it prints the summary that
+//! the page holds, then the whole tables.
 
-use archive::engine::numbers;
+use archive::engine::{numbers, output_of};
 use archive::{image, Archive};
 use comparison::Engine;
 use generators::messages::Fields;
 use generators::{drills, Random};
 use rail::RECORD;
+use second_engine::absence::{Record, MOST_RECORDS, NODES};
 use second_engine::current::{self, MOST_BUDGET, MOST_DEMAND, MOST_SHUTTLES};
 use second_engine::inbox::SLOT;
 use second_engine::message::LAST_PHASE;
@@ -81,9 +83,9 @@ struct Times {
 
 fn main() {
     let arguments: Vec<String> = std::env::args().skip(1).collect();
-    let (drill, repetitions) = match arguments.as_slice() {
-        [drill] => (drill, 31),
-        [drill, repetitions] => (drill, repetitions.parse().unwrap_or_else(|_| usage())),
+    let (drill, absence, repetitions) = match arguments.as_slice() {
+        [drill, absence] => (drill, absence, 31),
+        [drill, absence, repetitions] => (drill, absence, repetitions.parse().unwrap_or_else(|_| usage())),
         _ => usage(),
     };
     let mut rows = Vec::new();
@@ -105,11 +107,12 @@ fn main() {
     print_growth(&rows);
     print_image(repetitions);
     print_splits(repetitions);
-    print_drill(repetitions, drill.into());
+    print_drill(repetitions, drill.as_ref());
+    print_absence(repetitions, absence.as_ref());
 }
 
 fn usage() -> ! {
-    eprintln!("usage: benchmark DRILL [REPETITIONS]");
+    eprintln!("usage: benchmark DRILL ABSENCE [REPETITIONS]");
     exit(2);
 }
 
@@ -202,7 +205,7 @@ fn measure(repetitions: usize, operation: Operation, node: &Node, votes: Votes) 
 
 /// What is timed is accepted, and both engines answer it alike.
 fn check(operation: Operation, node: &Node, inbox: &[u8]) {
-    let archive = Archive { drill: Default::default() };
+    let archive = Archive::default();
     let (mut one, mut other) = (*node, *node);
     match operation {
         Operation::Ask => assert_eq!(archive.ask(&mut one, inbox), Ok(rounds::ask(&other, inbox).expect("asked"))),
@@ -214,7 +217,7 @@ fn check(operation: Operation, node: &Node, inbox: &[u8]) {
     assert_eq!(one, other);
 }
 
-/// For each of the calls how many nanoseconds it takes, once for each repetition; a repetition times the calls in turn.
+/// For each of the calls how many nanoseconds it takes, once for each repetition.
 fn time<const N: usize>(repetitions: usize, calls: [&dyn Fn(); N]) -> [Vec<f64>; N] {
     // As many of each as take about a fifth of a millisecond.
     let counts = calls.map(|call| {
@@ -222,6 +225,11 @@ fn time<const N: usize>(repetitions: usize, calls: [&dyn Fn(); N]) -> [Vec<f64>;
         (0..64).for_each(|_| call());
         (64 * 200_000 / start.elapsed().as_nanos().max(1) as usize).max(1)
     });
+    time_each(repetitions, counts, calls)
+}
+
+/// The same with so many of each call in a repetition; a repetition times the calls in turn.
+fn time_each<const N: usize>(repetitions: usize, counts: [usize; N], calls: [&dyn Fn(); N]) -> [Vec<f64>; N] {
     let mut times: [Vec<f64>; N] = std::array::from_fn(|_| Vec::new());
     for _ in 0..repetitions {
         for ((call, count), times) in calls.iter().zip(counts).zip(&mut times) {
@@ -391,18 +399,22 @@ fn print_splits(repetitions: usize) {
 
 /// What is timed is accepted, and both engines answer it alike.
 fn check_split(demands: &[u32], budget: u32) {
-    let archive = Archive { drill: Default::default() };
+    let archive = Archive::default();
     let (mut one, mut other) = (vec![0; demands.len()], vec![1; demands.len()]);
     current::split(demands, budget, &mut other).expect("the second engine splits the budget");
     archive.split(demands, budget, &mut one).expect("the engine splits the budget");
     assert_eq!(one, other);
 }
 
+/// The program of this name, which was built with this one.
+fn beside_this(name: &str) -> PathBuf {
+    std::env::current_exe().expect("this program has a path").with_file_name(name)
+}
+
 /// The drill programs, each from its start to its end: on the longest script, and on one that has the same first lines
 /// and no round, which is what starting a program costs.
-fn print_drill(repetitions: usize, engine: PathBuf) {
-    let this = std::env::current_exe().expect("this program has a path");
-    let second = this.with_file_name("second_drill");
+fn print_drill(repetitions: usize, engine: &Path) {
+    let second = beside_this("second_drill");
     let longest = drills::longest();
     let without_a_go: Vec<u8> = longest.split_inclusive(|&byte| byte == b'\n').take(2).flatten().copied().collect();
     println!("## Drill");
@@ -412,27 +424,69 @@ fn print_drill(repetitions: usize, engine: PathBuf) {
     println!("| script | engine | second | ratio |");
     println!("|---|---|---|---|");
     for (name, script) in [("the longest: 189 rounds", longest), ("without a go", without_a_go)] {
-        let [engine, second] = time_drills(repetitions, [&engine, &second], &script);
+        let [engine, second] = time_programs([engine, &second], &script, |calls| time(repetitions, calls));
         let ratio = median_ratio(&engine, &second);
         println!("| {name} | {:.2} | {:.2} | {ratio:.2} |", median(engine) / 1e6, median(second) / 1e6);
     }
     println!();
 }
 
-/// Both programs on the script, in turn. It stands in a file, so that they read it and nobody has to feed them.
-fn time_drills(repetitions: usize, programs: [&PathBuf; 2], script: &[u8]) -> [Vec<f64>; 2] {
-    let [engine, second] = programs.map(|program| Archive { drill: program.clone() }.drill(script));
-    assert_eq!(String::from_utf8_lossy(&engine), String::from_utf8_lossy(&second), "the outputs differ");
-    let file = std::env::temp_dir().join(format!("script_of_benchmark_{}", id()));
-    fs::write(&file, script).expect("the script is written");
-    let [engine, second] = programs.map(|program| || run_drill(program, &file));
-    let times = time(repetitions, [&engine, &second]);
-    fs::remove_file(&file).expect("the script is removed");
+/// The programs that tell absences, each from its start to its end, on as many records as are taken.
+fn print_absence(repetitions: usize, engine: &Path) {
+    let plain = beside_this("plain_absence");
+    println!("## Absence");
+    println!();
+    println!(
+        "Millions of records a second, of a process that takes {MOST_RECORDS} of them. The ratio is of the times."
+    );
+    println!();
+    println!("| marks | engine | plain | ratio |");
+    println!("|---|---|---|---|");
+    for (name, input) in finished_runs() {
+        // A process takes so long that one is enough for a repetition.
+        let [engine, plain] = time_programs([engine, &plain], &input, |calls| time_each(repetitions, [1; 2], calls));
+        let ratio = median_ratio(&engine, &plain);
+        let rate = |times| MOST_RECORDS as f64 * 1e3 / median(times);
+        println!("| {name} | {:.1} | {:.1} | {ratio:.2} |", rate(engine), rate(plain));
+    }
+    println!();
+}
+
+/// As many records as are taken, by the name of their marks: counts of two digits, mostly of one, and of three.
+fn finished_runs() -> [(&'static str, Vec<u8>); 3] {
+    let random = &mut Random::new(1);
+    let mut input = |marks: fn(&mut Random) -> u32| -> Vec<u8> {
+        (0..MOST_RECORDS as u32).flat_map(|run| Record { run, marks: marks(random) }.to_bytes()).collect()
+    };
+    let nearly_all = |random: &mut Random| match random.below(8) {
+        0 => !(1 << random.below(NODES)),
+        _ => u32::MAX,
+    };
+    [
+        ("random", input(|random| random.number() as u32)),
+        ("nearly all set", input(nearly_all)),
+        ("none set", input(|_| 0)),
+    ]
+}
+
+/// Both programs on the input, in turn. It stands in a file, so that they read it and nobody has to feed them.
+fn time_programs(
+    programs: [&Path; 2],
+    input: &[u8],
+    time: impl FnOnce([&dyn Fn(); 2]) -> [Vec<f64>; 2],
+) -> [Vec<f64>; 2] {
+    let [engine, second] = programs.map(|program| output_of(program, input).stdout);
+    assert!(engine == second, "the outputs of {programs:?} differ");
+    let file = std::env::temp_dir().join(format!("input_of_benchmark_{}", id()));
+    fs::write(&file, input).expect("the input is written");
+    let [engine, second] = programs.map(|program| || run_program(program, &file));
+    let times = time([&engine, &second]);
+    fs::remove_file(&file).expect("the input is removed");
     times
 }
 
-fn run_drill(program: &Path, script: &Path) {
-    let input = File::open(script).expect("the script is there");
+fn run_program(program: &Path, input: &Path) {
+    let input = File::open(input).expect("the input is there");
     let status = Command::new(program).stdin(input).stdout(Stdio::null()).status();
-    assert!(status.expect("the drill is started").success(), "{} failed", program.display());
+    assert!(status.expect("the program is started").success(), "{} failed", program.display());
 }

@@ -1,27 +1,29 @@
-//! Holds the proved engine's archive and drill against the second engine: all small crews, all lookups, all small
-//! splits, the longest drill, random cases of every operation and of the boundary, and every mutant, which has to be
-//! told from the archive.
-//! Usage: compare DRILL [MINUTES]. Without MINUTES each operation gets its number of cases once; with MINUTES it gets
-//! them again and again, with new seeds, until the time is over. SEED sets the first seed.
+//! Holds the proved engine's archive and programs against the second engine: all small crews, all lookups, all small
+//! splits, the longest drill, the long inputs of absences, random cases of every operation and of the boundary, and
+//! every mutant, which has to be told from the archive.
+//! Usage: compare DRILL ABSENCE [MINUTES]. Without MINUTES each operation gets its number of cases once; with MINUTES
+//! it gets them again and again, with new seeds, until the time is over. SEED sets the first seed.
 
 use archive::{boundary, Archive, Boundary};
 use comparison::cases::same;
 use comparison::mutants::{tell_all, Cases};
 use comparison::pair::Pair;
-use comparison::{compare, lookups, splits, Engine, Operation, Second};
+use comparison::{absences, compare, lookups, splits, Engine, Operation, Second};
 use generators::{crews, drills};
 use std::panic::{catch_unwind, AssertUnwindSafe};
 use std::process::exit;
 use std::time::{Duration, Instant, SystemTime, UNIX_EPOCH};
 
-/// How many cases of an operation are made in one go. Together they take about a minute on one core.
+/// How many cases of an operation are made in one go. Together they take about a minute and a half on one core.
 fn cases_of(operation: Operation) -> u64 {
     match operation {
         Operation::Accept | Operation::Start | Operation::Write | Operation::Read | Operation::Round => 1_000_000,
         Operation::Split => 1_000_000,
+        Operation::Marks => 500_000,
         Operation::Run => 5_000,
         Operation::Schedule => 6_000,
         Operation::Drill => 3_000,
+        Operation::Absence => 600,
     }
 }
 
@@ -35,12 +37,12 @@ fn cases_of_boundary(boundary: Boundary) -> u64 {
 
 fn main() {
     let arguments: Vec<String> = std::env::args().skip(1).collect();
-    let (drill, minutes) = match arguments.as_slice() {
-        [drill] => (drill, None),
-        [drill, minutes] => (drill, Some(minutes.parse::<u64>().unwrap_or_else(|_| usage()))),
+    let (drill, absence, minutes) = match arguments.as_slice() {
+        [drill, absence] => (drill, absence, None),
+        [drill, absence, minutes] => (drill, absence, Some(minutes.parse::<u64>().unwrap_or_else(|_| usage()))),
         _ => usage(),
     };
-    let archive = Archive { drill: drill.into() };
+    let archive = Archive { drill: drill.into(), absence: absence.into() };
     let start = Instant::now();
     let first = first_seed(minutes.is_some());
     let outcome = match minutes {
@@ -56,7 +58,7 @@ fn main() {
 }
 
 fn usage() -> ! {
-    eprintln!("usage: compare DRILL [MINUTES]");
+    eprintln!("usage: compare DRILL ABSENCE [MINUTES]");
     exit(2);
 }
 
@@ -74,8 +76,21 @@ fn compare_once(archive: &Archive, first: u64) -> Result<(), String> {
     lookups::compare_all(lookups::every(), archive, &Second::default())?;
     splits::check_small(Pair { engine: archive, other: Some(&Second::default()) })?;
     compare_longest_drill(archive)?;
+    absences::compare_long(first, archive, &Second::default())?;
     compare_all(archive, first, 1)?;
-    tell_all(archive, Cases { reads: 2_000, rounds: 2_000, runs: 100, schedules: 400, drills: 100, splits: 2_000 })
+    tell_all(
+        archive,
+        Cases {
+            reads: 2_000,
+            rounds: 2_000,
+            marks: 2_000,
+            runs: 100,
+            schedules: 400,
+            drills: 100,
+            splits: 2_000,
+            absences: 100,
+        },
+    )
 }
 
 fn compare_for(archive: &Archive, first: u64, time: Duration) -> Result<(), String> {

@@ -1,0 +1,4 @@
+pub mod Held
+pub mod Ring
+pub mod Lines
+pub mod Promises
