@@ -1,8 +1,8 @@
 /*
- * A crew of four agrees on a plan, though one of the four is Byzantine: crew 3,4,1,0,3, nodes 0 to 2 honest with plans
- * 5, 6 and 7, while node 3 tells each of them something else. In phase 1 it keeps them apart; in phase 2 they decide.
- * Then two of them show which slots counted when they decided, and the budget of the decided plan is split among three
- * shuttles.
+ * A crew of four agrees on a plan, though one of the four is Byzantine: crew 3,4,1,0,3,4, nodes 0 to 2 honest with
+ * plans 5, 6 and 7, while node 3 tells each of them something else. In phase 1 it keeps them apart; in phase 2 they
+ * decide. Then two of them show which slots counted when they decided, and the budget of the decided plan is split
+ * among three shuttles. At the end another crew, of five, shows who speaks where three nodes validate in turn.
  * Every answer is checked. examples/check builds and runs it.
  */
 #include "rail.h"
@@ -13,8 +13,8 @@
 
 enum { NODES = 4, HONEST = 3, BYZANTINE = 3, RUN = 1 };
 
-/* The crew's numbers, as the calls take them. */
-#define CREW 3, NODES, 1, 0, 3
+/* The crew's numbers, as the calls take them: class, n, b, f, D, c. All nodes validate in every phase. */
+#define CREW 3, NODES, 1, 0, 3, NODES
 
 /* The value of an answer that has to be accepted. */
 static uint64_t value(uint64_t answer, const char *what)
@@ -189,6 +189,25 @@ static void show_split(unsigned plan)
            RAIL_REFUSED(rail_split(demands, SHUTTLES, budgets[plan], shares, SHUTTLES + 1)));
 }
 
+/* Five nodes, of which three validate in a phase. All begin with plan 5 and hear each other in round 1. In round 2 a
+ * node whose turn it is not answers silence, a length of 0 and no refusal: it has nothing to send. */
+static void show_turns(void)
+{
+    enum { FIVE = 5, GROUP = 3 };
+    uint8_t records[FIVE][RAIL_RECORD], inbox[FIVE * RAIL_SLOT] = {0}, message[RAIL_SLOT];
+    for (int own = 0; own < FIVE; own++) {
+        value(rail_start(2, FIVE, 1, 0, 4, GROUP, (uint8_t)own, RUN, 5, records[own], RAIL_RECORD), "start");
+        value(rail_write(records[own], RAIL_RECORD, inbox + RAIL_SLOT * own, RAIL_SLOT), "write");
+    }
+    for (int own = 0; own < FIVE; own++)
+        value(rail_take(records[own], RAIL_RECORD, inbox, sizeof inbox), "take");
+    printf("where %d of %d validate, the nodes send in round 2 of phase 1 bytes:", GROUP, FIVE);
+    for (int own = 0; own < FIVE; own++)
+        printf(" %u", (unsigned)value(rail_write(records[own], RAIL_RECORD, message, sizeof message), "write"));
+    printf("\na group of one, who may be a liar, is refused with %u\n",
+           RAIL_REFUSED(rail_accept(2, FIVE, 1, 0, 4, 1)));
+}
+
 int main(void)
 {
     static const uint16_t plans[HONEST] = {5, 6, 7};
@@ -209,5 +228,6 @@ int main(void)
     show_finished(0, finished[0]);
     show_finished(2, finished[2]);
     show_split((unsigned)value(rail_result(records[0], RAIL_RECORD), "result"));
+    show_turns();
     return 0;
 }

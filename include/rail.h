@@ -41,6 +41,7 @@ extern "C" {
 #define RAIL_INBOX 14          /* inbox not 202 times n bytes long */
 #define RAIL_RANGE 15          /* a lookup outside the table: class not 1 to 3, b above 10 or f above 15 */
 #define RAIL_RESIDUE 16        /* a byte that is not 0 after the message */
+#define RAIL_GROUP 17          /* c above n or too low for the class; in class 1 other than n */
 #define RAIL_COUNT 18          /* not 1 to 64 demands, or not as many shares as demands */
 #define RAIL_AMOUNT 19         /* a demand above 100,000 mA or a budget above 1,000,000 mA */
 #define RAIL_WRONG_RECORD 25   /* record not RAIL_RECORD bytes long */
@@ -52,22 +53,23 @@ extern "C" {
  * not said has one byte. Numbers of two and four bytes are little-endian, here and in messages. Any bytes of this
  * length are the image of one record, and a record has one image: they may be stored, copied and compared as they are.
  */
-#define RAIL_RECORD 149
+#define RAIL_RECORD 150
 #define RAIL_RECORD_CLASS 0
 #define RAIL_RECORD_N 1
 #define RAIL_RECORD_B 2
 #define RAIL_RECORD_F 3
 #define RAIL_RECORD_D 4
-#define RAIL_RECORD_OWN 5      /* own number */
-#define RAIL_RECORD_RUN 6      /* 4 bytes */
-#define RAIL_RECORD_PHASE 10   /* 1 to 63; 64 means spent */
-#define RAIL_RECORD_ROUND 11   /* the coming round: 1 selection, 2 validation, 3 decision */
-#define RAIL_RECORD_VOTE 12    /* 2 bytes */
-#define RAIL_RECORD_BASE 14    /* 2 bytes */
-#define RAIL_RECORD_STAMP 16
-#define RAIL_RECORD_SELECT 17  /* 2 bytes */
-#define RAIL_RECORD_RESULT 19  /* 2 bytes */
-#define RAIL_RECORD_HISTORY 21 /* 64 times 2 bytes, phase 0 first */
+#define RAIL_RECORD_C 5        /* the group size: how many validate in a phase */
+#define RAIL_RECORD_OWN 6      /* own number */
+#define RAIL_RECORD_RUN 7      /* 4 bytes */
+#define RAIL_RECORD_PHASE 11   /* 1 to 63; 64 means spent */
+#define RAIL_RECORD_ROUND 12   /* the coming round: 1 selection, 2 validation, 3 decision */
+#define RAIL_RECORD_VOTE 13    /* 2 bytes */
+#define RAIL_RECORD_BASE 15    /* 2 bytes */
+#define RAIL_RECORD_STAMP 17
+#define RAIL_RECORD_SELECT 18  /* 2 bytes */
+#define RAIL_RECORD_RESULT 20  /* 2 bytes */
+#define RAIL_RECORD_HISTORY 22 /* 64 times 2 bytes, phase 0 first */
 
 /* An inbox has n slots of so many bytes; slot q belongs to port q. A buffer of a slot's length fits every message. */
 #define RAIL_SLOT 202
@@ -112,8 +114,9 @@ extern "C" {
 #define RAIL_MOST_DEMAND 100000
 #define RAIL_MOST_BUDGET 1000000
 
-/* Accepts a crew. The value is 0. Refuses 1 to 4. */
-uint64_t rail_accept(uint8_t class_, uint8_t n, uint8_t b, uint8_t f, uint8_t d);
+/* Accepts a crew. In a phase c of the n nodes validate; in class 1, which has no validation, c is n. The value is 0.
+ * Refuses 1 to 4, 17. */
+uint64_t rail_accept(uint8_t class_, uint8_t n, uint8_t b, uint8_t f, uint8_t d, uint8_t c);
 
 /* The smallest crew of a class, b and f: the least n that any D lets be accepted, and the least D for that n; both 0
  * where n would pass 32. RAIL_LEAST_N and RAIL_LEAST_D take the value apart. docs/PLANNING.md has the table. Refuses
@@ -121,13 +124,14 @@ uint64_t rail_accept(uint8_t class_, uint8_t n, uint8_t b, uint8_t f, uint8_t d)
 uint64_t rail_least(uint8_t class_, uint8_t b, uint8_t f);
 
 /* Starts a node and writes its record. All nodes of a crew have the same crew and run, each its own number from 0 on.
- * The value is 0. Refuses 25, 1 to 6. */
-uint64_t rail_start(uint8_t class_, uint8_t n, uint8_t b, uint8_t f, uint8_t d, uint8_t own, uint32_t run,
+ * The value is 0. Refuses 25, 1 to 4, 17, 5, 6. */
+uint64_t rail_start(uint8_t class_, uint8_t n, uint8_t b, uint8_t f, uint8_t d, uint8_t c, uint8_t own, uint32_t run,
                     uint16_t plan, uint8_t *record, size_t record_length);
 
-/* Writes the coming message to the buffer's front. The value is its length, 0 for silence. Bytes after the message keep
- * their values: send no more than the message, or clear the buffer before each write, the first too. A slot with
- * anything but zeros after its message is absent (RAIL_RESIDUE). Refuses 25, 7 to 9. */
+/* Writes the coming message to the buffer's front. The value is its length, 0 for silence: in round 2 a node is silent
+ * that selected nothing, or that does not validate in this phase. Bytes after the message keep their values: send no
+ * more than the message, or clear the buffer before each write, the first too. A slot with anything but zeros after its
+ * message is absent (RAIL_RESIDUE). Refuses 25, 7 to 9. */
 uint64_t rail_write(const uint8_t *record, size_t record_length, uint8_t *buffer, size_t buffer_length);
 
 /* Takes the coming round: the record becomes the next one. The value is 0. Refuses 25, 7, 8, 14. */
@@ -137,8 +141,9 @@ uint64_t rail_take(uint8_t *record, size_t record_length, const uint8_t *inbox, 
 uint64_t rail_ask(const uint8_t *record, size_t record_length, const uint8_t *inbox, size_t inbox_length);
 
 /* Tells which slots count in the coming round. The value has the bit of weight 2^q set where slot q counts, and none
- * beyond the crew's n; RAIL_MARKED takes it apart. Call it before rail_take, with the same record and inbox: where that
- * take decides, these are the slots that counted in the round that decided. Refuses 25, 7, 8, 14. */
+ * beyond the crew's n; RAIL_MARKED takes it apart. In round 2 only slots of nodes that validate in this phase count.
+ * Call it before rail_take, with the same record and inbox: where that take decides, these are the slots that counted
+ * in the round that decided. Refuses 25, 7, 8, 14. */
 uint64_t rail_marks(const uint8_t *record, size_t record_length, const uint8_t *inbox, size_t inbox_length);
 
 /* The record's standing result. The value is the plan, 0 before there is one. Refuses 25, 7. */

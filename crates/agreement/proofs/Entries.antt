@@ -9,10 +9,10 @@ use borrow.Author.Tests.{eqb-true, eqb-false}
 use Rattle.wire.specs.Entry.{entriesFrom}
 use Rattle.crew.specs.declared.Crew.{Crew}
 use Rattle.crew.specs.Thresholds.{one, two, three, classOf}
-use Rattle.crew.proofs.Facts.{Accepts}
+use Rattle.crew.proofs.Facts.{Quorum}
 use Rattle.model.proofs.Voter.{entriesSaid}
 
-pub listed-said : (crew : Crew) → Accepts crew → (history : List ℕ) (phase : ℕ)
+pub listed-said : (crew : Crew) → Quorum crew → (history : List ℕ) (phase : ℕ)
     → entriesFrom history 0 (cond (eqb (crew .class) 3) phase 0) ≡ entriesSaid (classOf crew) history phase
 unfolding entriesFrom
 listed-said crew a history phase = go (eqb (crew .class) 1) (eqb (crew .class) 2) (eqb (crew .class) 3) refl refl refl

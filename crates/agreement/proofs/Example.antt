@@ -4,7 +4,7 @@ use mathlib.Core.Path.{_≡_, refl, sym, ap, _∙_, subst}
 use mathlib.Core.Bool.{Bool, true, false, not, _&&_}
 use mathlib.Core.List.{List, [], _∷_, _++_}
 use mathlib.Core.Option.{Option, none, some, Option·some-injective}
-use Prim.Native.Nat.{ℕ, zero, suc, _+_, _≤_, _<_}
+use Prim.Native.Nat.{ℕ, zero, suc, _+_, _*_, _≤_, _<_}
 use native.Mathlib.Omega.{arith}
 use native.Mathlib.Decide.{decLt}
 use lib.ListN.{length, drop, replicate}
@@ -16,6 +16,7 @@ use Rattle.wire.specs.Bytes.{AreBytes}
 use Rattle.crew.specs.declared.Crew.{Crew}
 use Rattle.crew.specs.Parts.{crewOf}
 use Rattle.crew.specs.Acceptance.{acceptOf}
+use Rattle.crew.specs.Group.{among, validates}
 use Rattle.message.specs.Layout.{slotSize}
 use Rattle.message.specs.Bounds.{entriesOk}
 use Rattle.message.specs.Encoding.{entryBytes, encode}
@@ -47,7 +48,7 @@ use Rattle.agreement.proofs.Checking.{onlyAsks, isWhole, whole-is}
 use Rattle.agreement.proofs.Demand.{demand3}
 
 abbrev pub crew : Crew
-crew = crewOf 3 4 1 0 3
+crew = crewOf 3 4 1 0 3 4
 
 -- The messages of the three rounds of phase 1, byte by byte: all three nodes write the same.
 
@@ -139,7 +140,7 @@ unfolding
     acceptOf startOf begun made recordOf callsOf recordAt afterCalls takenInbox
     takeOf sound emptyFrom afterRound readOf frontOf allZero tested bodyAt entriesIn entriesOk countIf gather
     lists least leastOf possible backed backing enough selection leading mostVoted anyPlan taken
-    valid validated decides decision comingOf writeComingOf encode entryBytes entriesFrom
+    among validates valid validated decides decision comingOf writeComingOf encode entryBytes entriesFrom
     sameBytes everyBelow wroteFront onlyAsks isWhole roundOk resultsOk
 all-ok = tt
 
@@ -279,10 +280,15 @@ circle-wide : 4 ≤ tally circle 4 + 1 + 0
 unfolding tally
 circle-wide = omega arith
 
+circle-validates : 5 < 2 * tally (λ q. circle q && validates crew 1 q) 4
+unfolding tally validates among
+circle-validates = omega arith
+
 pub drill-good : Good drill crew 1 circle
 drill-good = record {
   inside = λ p k. circle-honest p (ltb→lt p 3 k);
   wide = circle-wide;
+  group = λ later. circle-validates;
   complete = λ j e. omega arith;
   equal = λ j p q e first kp kq m.
       let start : 0 ≡ j = omega arith in

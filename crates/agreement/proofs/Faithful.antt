@@ -1,6 +1,6 @@
--- If an honest node's slot counts for an honest node, it says what the abstract engine's node says; so the run of a
--- list meets what the engine's theorems suppose.
-use mathlib.Core.Path.{_≡_, sym, ap, _∙_}
+-- If an honest node's slot counts for an honest node, it says what the abstract engine's node says, and in round 2 only
+-- validators' slots count; so the run of a list meets what the engine's theorems suppose.
+use mathlib.Core.Path.{_≡_, sym, ap, _∙_, subst}
 use mathlib.Core.List.{List}
 use mathlib.Core.Logic.{_≢_}
 use mathlib.Core.Option.{Option, none, some, Option·none-ne-some}
@@ -9,7 +9,10 @@ use native.Mathlib.Omega.{arith}
 use lib.Dec.{T}
 use Rattle.crew.specs.declared.Crew.{Crew}
 use Rattle.crew.specs.Thresholds.{classOf}
+use Rattle.crew.specs.Group.{speaks}
 use Rattle.ballot.specs.Ballot.{Ballot}
+use Rattle.ballot.proofs.Tests.{said-turn}
+use Rattle.model.proofs.Voter.{roundNumber}
 use Rattle.model.proofs.Engine.{State, saying, Faithful, state, Held, Admissible}
 use Rattle.node.specs.declared.Node.{Node}
 use Rattle.inbox.specs.Inbox.{ballotAt}
@@ -41,6 +44,13 @@ module _ (l : Execution) (crew : Crew) (run : ℕ) (pre : Premises l crew run) w
       said = λ p lp hp q lq hq m e.
           let t = took l crew run pre p j hp held in
           spoken p q hp hq (t .bytes) m (t .taken) (sym (ap (λ o. slotIn (recordAt l p j) o q) (t .taken)) ∙ e);
+      in-turn = λ validating p lp hp q lq m e.
+          let t = took l crew run pre p j hp held in
+          let is = follows l crew run pre p j hp (omega (arith, held .0)) .is in
+          let counts = subst (λ (d : Node). ballotAt d (t .bytes) q ≡ some m) is
+          (sym (ap (λ o. slotIn (recordAt l p j) o q) (t .taken)) ∙ e) in
+          subst (λ round. T (speaks crew (now .phase) (roundNumber round) q)) validating
+          (said-turn (speaks crew (now .phase) (roundNumber (now .round)) q) counts .0);
     }
 
   -- no slot votes for 0

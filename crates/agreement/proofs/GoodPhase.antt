@@ -5,9 +5,10 @@ use mathlib.Core.Option.{none, Option·none-ne-some}
 use Prim.Native.Nat.{ℕ, _≤_, _<_}
 use native.Mathlib.Omega.{arith}
 use lib.Dec.{T}
+use borrow.Author.Tests.{eq-eqb}
 use Rattle.wire.specs.Sizes.{spentPhase}
 use Rattle.crew.specs.declared.Crew.{Crew}
-use Rattle.crew.specs.Thresholds.{classOf}
+use Rattle.crew.specs.Thresholds.{one, classOf}
 use Rattle.ballot.specs.Count.{countIf}
 use Rattle.ballot.specs.Ballot.{Ballot, inbox, sameBallot}
 use Rattle.model.proofs.Voter.{roundNumber}
@@ -22,6 +23,10 @@ use Rattle.agreement.proofs.Simulation.{slotIn, said, runOf, crew-is, h
 use Rattle.agreement.proofs.Simulation.{coming-is}
 use Rattle.agreement.proofs.Faithful.{admissible}
 use Rattle.agreement.proofs.Decisions.{decides-wins}
+
+-- class 1 by its number
+class-one : (crew : Crew) → crew .class ≡ 1 → classOf crew ≡ one
+class-one crew first = rw (eq-eqb (crew .class) 1 first)
 
 module _ (l : Execution) (crew : Crew) (run : ℕ) (pre : Premises l crew run) (phase : ℕ) (early : phase < spentPhase)
     (circle : ℕ → Bool) (good : Good l crew phase circle) where
@@ -55,6 +60,7 @@ module _ (l : Execution) (crew : Crew) (run : ℕ) (pre : Premises l crew run) (
   good-run = record {
     inside = λ q lq kq. good .inside q kq;
     wide = good .wide;
+    group = λ later. good .group (λ first. later (class-one crew first));
     complete = λ j e. held j e .0;
     equal = λ j e first p lp kp q lq kq m.
         ap (countIf (sameBallot m)) (sym (same-heard j p e kp))

@@ -221,4 +221,4 @@ module _ (l : Execution) (crew : Crew) (run : ℕ) (pre : Premises l crew run) w
   coming-is q j h inside =
       let s = state (runOf l crew) j in
       ap (λ (d : Node). forward (comingOf d)) (follows q j h inside .is)
-      ∙ coming-said crew run q (s .phase) (s .round) (s .node q) (accepts crew (pre .crew-accepted))
+      ∙ coming-said crew run q (s .phase) (s .round) (s .node q) (accepts crew (pre .crew-accepted) .quorum)

@@ -2,7 +2,7 @@
 -- that puts forward what the abstract engine's node says. That it counts is nowhere supposed of what a node wrote.
 -- Builds on law 3, in crate node.
 use mathlib.Core.Path.{_≡_, refl, sym, ap, _∙_}
-use mathlib.Core.Bool.{Bool, true, false, cond}
+use mathlib.Core.Bool.{Bool, true, false, cond, _&&_}
 use mathlib.Core.List.{List, _++_}
 use mathlib.Core.Option.{Option, none, some}
 use Prim.Native.Nat.{ℕ}
@@ -10,12 +10,14 @@ use native.Mathlib.Omega.{arith}
 use lib.ListN.{length}
 use lib.Dec.{leb}
 use borrow.Author.Tests.{leb-true, leb-false, eq-eqb, ne-eqb}
+use Rattle.wire.specs.Plan.{ifPlan}
 use Rattle.wire.specs.Outcome.{accepted}
 use Rattle.wire.proofs.Outcomes.{passed, same-value}
 use Rattle.crew.specs.declared.Crew.{Crew}
 use Rattle.crew.specs.Thresholds.{classOf}
-use Rattle.crew.proofs.Facts.{Accepts}
-use Rattle.message.specs.Fields.{Message}
+use Rattle.crew.specs.Group.{validates}
+use Rattle.crew.proofs.Facts.{Quorum}
+use Rattle.message.specs.Fields.{validation, Message}
 use Rattle.message.specs.Reading.{allZero, readOf}
 use Rattle.writer.specs.Writing.{validationOf}
 use Rattle.ballot.specs.Ballot.{Ballot}
@@ -27,7 +29,7 @@ use Rattle.node.proofs.Coming.{Says}
 use Rattle.node.proofs.SendLaws.{write-accepted}
 use Rattle.node.proofs.ReadBack.{read-back}
 use Rattle.inbox.specs.Inbox.{slotAt, ballotOf, isOf, ballotAt}
-use Rattle.inbox.proofs.Counted.{counted-message}
+use Rattle.inbox.proofs.Counted.{heard-message}
 use Rattle.agreement.specs.Statement.{write, Puts}
 use Rattle.agreement.proofs.Record.{asRecord}
 use Rattle.agreement.proofs.Entries.{listed-said}
@@ -55,7 +57,7 @@ slot-heard d reader inbox buffer written rest q m typed puts slot counts = go (c
         let made = write-accepted d buffer (length written) (puts .0) in
         let back = read-back d typed (made .0) (made .1) k coming in
         let read = ap readOf (slot ∙ ap (λ part. part ++ rest) (sym bytes)) ∙ back .2 rest in
-        let c = counted-message (reader .run) (reader .phase) (reader .round) (slotAt inbox q) m counts in
+        let c = heard-message reader inbox q m counts in
         let same : c .message ≡ k = sym (same-value (passed (allZero rest) 16 (accepted k) (sym read ∙ c .read) .1)) in
         record {
           message = k;
@@ -71,17 +73,18 @@ forward none = none
 forward (some m) = some (ballotOf (m .body))
 
 -- a record's coming message puts forward what the engine's node says, and is silence where that node is silent
-pub coming-said : (crew : Crew) (run q phase : ℕ) (round : Round) (a : Voter) → Accepts crew
+pub coming-said : (crew : Crew) (run q phase : ℕ) (round : Round) (a : Voter) → Quorum crew
     → forward (comingOf (asRecord crew run q phase round a)) ≡ say (classOf crew) crew phase round q a
 unfolding comingOf
-coming-said crew run q phase selecting a accepts =
+coming-said crew run q phase selecting a facts =
     ap (λ entries. some (record { vote = a .vote; stamp = a .stamp; entries = entries }))
-    (listed-said crew accepts (a .history) phase)
-coming-said crew run q phase validating a accepts = go (leb 1 (a .select)) refl
+    (listed-said crew facts (a .history) phase)
+coming-said crew run q phase validating a facts = go (validates crew phase q) (leb 1 (a .select)) refl
   where
-    go : (chosen : Bool) → leb 1 (a .select) ≡ chosen
-        → forward (cond chosen (some (validationOf run phase (a .select))) none)
-        ≡ say (classOf crew) crew phase validating q a
-    go true plan = simp (ne-eqb (a .select) 0 (λ z. omega (arith, leb-true 1 (a .select) plan)))
-    go false silent = simp (eq-eqb (a .select) 0 (omega (arith, leb-false 1 (a .select) silent)))
-coming-said crew run q phase deciding a accepts = refl
+    go : (turn chosen : Bool) → leb 1 (a .select) ≡ chosen
+        → forward (cond (turn && chosen) (some (validationOf run phase (a .select))) none)
+        ≡ cond turn (ifPlan (a .select) (some (ballotOf (validation (a .select)))) none) none
+    go true true plan = simp (ne-eqb (a .select) 0 (λ z. omega (arith, leb-true 1 (a .select) plan)))
+    go true false silent = simp (eq-eqb (a .select) 0 (omega (arith, leb-false 1 (a .select) silent)))
+    go false chosen any = refl
+coming-said crew run q phase deciding a facts = refl

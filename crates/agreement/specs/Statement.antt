@@ -1,6 +1,7 @@
 -- Demand 3: one statement on a whole list of start, write, ask and take calls on bytes (document 01, 'The list in
--- demand 3'). This is the page that a reader has to believe: definitions only. What a call answers and leaves behind is
--- startOf, writeComingOf, comingBufferOf, askOf and takeOf: the very definitions that the functions' contracts cite.
+-- demand 3', and 02, C-13). This is the page that a reader has to believe: definitions only. What a call answers and
+-- leaves behind is startOf, writeComingOf, comingBufferOf, askOf and takeOf: the very definitions that the functions'
+-- contracts cite.
 -- proofs/Demand.antt proves it; proofs/Example.antt has a list that meets the premises.
 use mathlib.Core.Path.{_≡_}
 use mathlib.Core.Bool.{Bool, true, false, not, cond, _&&_}
@@ -16,6 +17,7 @@ use Rattle.wire.specs.Bytes.{AreBytes}
 use Rattle.crew.specs.declared.Crew.{Crew}
 use Rattle.crew.specs.Acceptance.{acceptOf}
 use Rattle.crew.specs.Thresholds.{classOf}
+use Rattle.crew.specs.Group.{validates}
 use Rattle.message.specs.Layout.{slotSize}
 use Rattle.ballot.specs.Count.{tally, countIf, holds}
 use Rattle.ballot.specs.Ballot.{Ballot, votes, sameBallot}
@@ -270,7 +272,8 @@ ballotsIn d (some inbox) = ballots d inbox
 abbrev pub heard : Execution → ℕ → ℕ → List Ballot
 heard l p j = ballotsIn (recordAt l p j) (inboxAt l p j)
 
--- Nothing is to be written. A node whose writes are all refused is not silent by that.
+-- Nothing is to be written: in round 2 by a node that selected no plan, or whose turn it is not. A node whose writes
+-- are all refused is not silent by that.
 abbrev pub Silent : Execution → ℕ → ℕ → Type 0
 Silent l q j = comingOf (recordAt l q j) ≡ none
 
@@ -279,6 +282,10 @@ pub record Good (l : Execution) (crew : Crew) (phase : ℕ) (circle : ℕ → Bo
   -- 01: "there is a circle of at least n − b − f honest nodes"
   pub inside : (p : ℕ) → T (circle p) → T (honest l p)
   pub wide : crew .n ≤ tally circle (crew .n) + crew .b + crew .f
+  -- 02: "In a good phase only the circle's validators need count in round 2, and besides twice their number must exceed
+  -- c + b (class 1 excepted)." Which of them do count is below: the others are silent there.
+  pub group : crew .class ≢ 1
+      → crew .c + crew .b < 2 * tally (λ q. circle q && validates crew phase q) (crew .n)
   -- 01: "A good phase has all its rounds in the list."
   pub complete : (j : ℕ) → phaseAt crew j ≡ phase → j < length (l .rounds)
   -- 01: "In round 1 all of them have the same counting messages, each in as many slots of one inbox as of another"

@@ -43,6 +43,10 @@ infix 20 _gives_
 abbrev Holds : List Example → Type 0
 Holds table = map (λ e. reply (e .question)) table ≡ map (λ e. e .answer) table
 
+-- a crew of 01, in which every node validates
+abbrev whole : ℕ → ℕ → ℕ → ℕ → ℕ → Crew
+whole class n b f d = crewOf class n b f d n
+
 -- the answers in 01's words
 abbrev acceptance : Answer
 acceptance = answers (accepted tt)
@@ -79,19 +83,19 @@ phase2 entries = full 5 1 (entry 0 5 ∷ entry 1 5 ∷ []) ∷ full 6 0 entries 
 -- 01, 'Board examples (p = to be proved)': those marked p
 abbrev board : List Example
 board =
-    (accept (crewOf 3 4 1 0 3) gives acceptance)
-    ∷ (accept (crewOf 3 4 1 0 2) gives refusal 4)
-    ∷ (accept (crewOf 3 4 1 0 4) gives refusal 3)
-    ∷ (accept (crewOf 1 6 1 0 5) gives acceptance)
-    ∷ (accept (crewOf 1 5 1 0 4) gives refusal 4)
-    ∷ (accept (crewOf 2 5 1 0 4) gives acceptance)
-    ∷ (select (crewOf 1 6 1 0 5) (map bare (7 ∷ 7 ∷ 7 ∷ 9 ∷ 9 ∷ [])) gives thePlan 7)
-    ∷ (select (crewOf 1 6 1 0 5) (map bare (7 ∷ 7 ∷ 9 ∷ 9 ∷ [])) gives noPlan)
-    ∷ (select (crewOf 1 6 1 0 5) (map bare (7 ∷ 7 ∷ 9 ∷ 9 ∷ 8 ∷ [])) gives anyTakenAs 7)
-    ∷ (select (crewOf 3 4 1 0 3) (map bare (5 ∷ 5 ∷ 6 ∷ [])) gives anyTakenAs 5)
-    ∷ (select (crewOf 3 4 1 0 3) (phase2 (entry 0 6 ∷ entry 1 5 ∷ [])) gives thePlan 5)
-    ∷ (select (crewOf 3 4 1 0 3) (phase2 (entry 0 6 ∷ [])) gives noPlan)
-    ∷ (select (crewOf 2 5 1 0 4) (at 5 1 ∷ at 6 0 ∷ at 6 0 ∷ at 5 1 ∷ []) gives thePlan 5)
+    (accept (whole 3 4 1 0 3) gives acceptance)
+    ∷ (accept (whole 3 4 1 0 2) gives refusal 4)
+    ∷ (accept (whole 3 4 1 0 4) gives refusal 3)
+    ∷ (accept (whole 1 6 1 0 5) gives acceptance)
+    ∷ (accept (whole 1 5 1 0 4) gives refusal 4)
+    ∷ (accept (whole 2 5 1 0 4) gives acceptance)
+    ∷ (select (whole 1 6 1 0 5) (map bare (7 ∷ 7 ∷ 7 ∷ 9 ∷ 9 ∷ [])) gives thePlan 7)
+    ∷ (select (whole 1 6 1 0 5) (map bare (7 ∷ 7 ∷ 9 ∷ 9 ∷ [])) gives noPlan)
+    ∷ (select (whole 1 6 1 0 5) (map bare (7 ∷ 7 ∷ 9 ∷ 9 ∷ 8 ∷ [])) gives anyTakenAs 7)
+    ∷ (select (whole 3 4 1 0 3) (map bare (5 ∷ 5 ∷ 6 ∷ [])) gives anyTakenAs 5)
+    ∷ (select (whole 3 4 1 0 3) (phase2 (entry 0 6 ∷ entry 1 5 ∷ [])) gives thePlan 5)
+    ∷ (select (whole 3 4 1 0 3) (phase2 (entry 0 6 ∷ [])) gives noPlan)
+    ∷ (select (whole 2 5 1 0 4) (at 5 1 ∷ at 6 0 ∷ at 6 0 ∷ at 5 1 ∷ []) gives thePlan 5)
     ∷ []
 
 board-holds : Holds board
@@ -102,7 +106,7 @@ board-holds = refl
 -- The laws of this crate hold for any sense of what a ballot lists. This says that an entry counts by its phase and its
 -- plan together: the second ballot has 5 at another phase and another plan at phase 1, and so does not list 5 at 1.
 abbrev listings : List Example
-listings = (select (crewOf 3 4 1 0 3) (phase2 (entry 0 5 ∷ entry 1 6 ∷ [])) gives noPlan) ∷ []
+listings = (select (whole 3 4 1 0 3) (phase2 (entry 0 5 ∷ entry 1 6 ∷ [])) gives noPlan) ∷ []
 
 listings-hold : Holds listings
 unfolding countIf lists least possible backed backing enough selection taken

@@ -75,6 +75,21 @@ tally-same a b zero same = refl
 tally-same a b (suc n) same =
     ap₂ (λ x y. bit x + y) (same n (omega arith)) (tally-same a b n (λ q less. same q (omega arith)))
 
+-- a count in two parts
+pub tally-parts : (p : ℕ → Bool) (a b : ℕ) → tally p (a + b) ≡ tally p a + tally (λ i. p (a + i)) b
+unfolding tally
+tally-parts p a zero = let e : a + 0 ≡ a = omega arith in omega (arith, ap (tally p) e)
+tally-parts p a (suc b) =
+    let e : a + suc b ≡ suc (a + b) = omega arith in
+    omega (arith, ap (tally p) e, tally-parts p a b)
+
+-- two tests that no number passes both, and a third that passes with either
+pub tally-sum : (p a b : ℕ → Bool) (n : ℕ) → ((q : ℕ) → q < n → bit (p q) ≡ bit (a q) + bit (b q))
+    → tally p n ≡ tally a n + tally b n
+unfolding tally
+tally-sum p a b zero h = refl
+tally-sum p a b (suc n) h = omega (arith, h n (omega arith), tally-sum p a b n (λ q l. h q (omega arith)))
+
 -- what passes p or r passes u, and what passes both passes x: the counts of p and r make at most those of u and x
 pub tally-meet : (p r u x : ℕ → Bool) (n : ℕ) → Implies n p u → Implies n r u
     → ((q : ℕ) → q < n → T (p q) → T (r q) → T (x q)) → tally p n + tally r n ≤ tally u n + tally x n

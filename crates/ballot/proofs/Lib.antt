@@ -5,6 +5,7 @@ pub mod Least
 pub mod AnyPlan
 pub mod Selection
 pub mod Rivals
+pub mod Turns
 pub mod Slots
 pub mod Validation
 pub mod Decision

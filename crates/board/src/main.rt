@@ -51,33 +51,36 @@ fn show_plan(plan: Plan) {
     }
 }
 
-// A crew in 01's order of its numbers.
-fn crew_of(class: u8, n: u8, b: u8, f: u8, d: u8) -> Crew {
+// A crew in the papers' order of its numbers.
+fn crew_of(class: u8, n: u8, b: u8, f: u8, d: u8, c: u8) -> Crew {
     Crew {
         class: class,
         n: n,
         b: b,
         f: f,
         d: d,
+        c: c,
     }
 }
 
-// The start of a line: a crew as 01 writes it.
+// The start of a line: a crew as 01 writes it, and behind that the size of its group.
 fn show_crew(crew: Crew) {
     show_number(b"crew ", crew.class as u64);
     show_number(b",", crew.n as u64);
     show_number(b",", crew.b as u64);
     show_number(b",", crew.f as u64);
     show_number(b",", crew.d as u64);
+    show_number(b",", crew.c as u64);
 }
 
-// 01's number of a refusal.
+// The papers' number of a refusal.
 fn number_of(why: AcceptRefusal) -> u64 {
     match why {
         AcceptRefusal::Class => boundary::CLASS,
         AcceptRefusal::Size => boundary::SIZE,
         AcceptRefusal::QuorumTooHigh => boundary::QUORUM_TOO_HIGH,
         AcceptRefusal::QuorumTooLow => boundary::QUORUM_TOO_LOW,
+        AcceptRefusal::Group => boundary::GROUP,
     }
 }
 
@@ -309,12 +312,29 @@ fn decide(crew: Crew, phase: u8, votes: &[Plan], stamps: &[u8]) {
     show_taken(taken, taken.node.result);
 }
 
-// 01's board, but for what is proved.
+// 01's board, but for what is proved. All nodes are the group.
 fn show_board() {
-    accept(crew_of(1, 4, 0, 1, 3));
-    accept(crew_of(9, 0, 0, 0, 0));
-    select(crew_of(3, 4, 1, 0, 3), &[5, 5]);
-    select_stamped(crew_of(2, 5, 1, 0, 4), &[5, 6, 6], &[1, 0, 0]);
+    accept(crew_of(1, 4, 0, 1, 3, 4));
+    accept(crew_of(9, 0, 0, 0, 0, 0));
+    select(crew_of(3, 4, 1, 0, 3, 4), &[5, 5]);
+    select_stamped(crew_of(2, 5, 1, 0, 4, 5), &[5, 6, 6], &[1, 0, 0]);
+}
+
+// The bounds of a group, from both sides.
+fn show_groups() {
+    // Class 1: all nodes and nothing else.
+    accept(crew_of(1, 4, 0, 1, 3, 3));
+    accept(crew_of(1, 4, 0, 1, 3, 5));
+    // Class 2: b nodes are too few, one more is enough; no more than n.
+    accept(crew_of(2, 5, 1, 0, 4, 1));
+    accept(crew_of(2, 5, 1, 0, 4, 2));
+    accept(crew_of(2, 5, 1, 0, 4, 6));
+    // Class 3: 3b + 2f nodes are too few, one more is enough; no more than n.
+    accept(crew_of(3, 7, 1, 1, 4, 5));
+    accept(crew_of(3, 7, 1, 1, 4, 6));
+    accept(crew_of(3, 7, 1, 1, 4, 8));
+    // D comes first.
+    accept(crew_of(2, 5, 1, 0, 3, 1));
 }
 
 // The bounds of selection, from both sides. E is 2 in each of these crews.
@@ -348,11 +368,15 @@ fn show_selections(one: Crew, two: Crew, three: Crew) {
     );
 }
 
-// 2c must pass n + b, whatever came.
+// Twice the count must pass c + b, whatever came.
 fn show_validations(two: Crew, three: Crew) {
     validate(two, &[5, 5, 5]);
     validate(two, &[5, 5, 5, 5, 6]);
     validate(three, &[6, 5, 5, 5]);
+    // In phase 1 a group of 3 is nodes 3, 4 and 0: all of them are enough, two are not, whatever the others say.
+    let in_turn = crew_of(2, 5, 1, 0, 4, 3);
+    validate(in_turn, &[5, 6, 6, 5, 5]);
+    validate(in_turn, &[5, 5, 5, 5, 6]);
 }
 
 // D slots, in class 1 with any stamp, in classes 2 and 3 with the phase as stamp; the least of several.
@@ -362,14 +386,15 @@ fn show_decisions(one: Crew, two: Crew, three: Crew) {
     decide(two, 2, &[5, 5, 5, 5], &[2, 2, 2, 1]);
     decide(three, 2, &[5, 5, 5], &[2, 2, 1]);
     decide(three, 2, &[5, 5, 5, 5], &[2, 2, 2, 1]);
-    decide(crew_of(3, 32, 0, 0, 1), 1, &[9, 5, 6], &[1, 1, 1]);
+    decide(crew_of(3, 32, 0, 0, 1, 32), 1, &[9, 5, 6], &[1, 1, 1]);
 }
 
 fn main() {
     show_board();
-    let one = crew_of(1, 6, 1, 0, 5);
-    let two = crew_of(2, 5, 1, 0, 4);
-    let three = crew_of(3, 4, 1, 0, 3);
+    show_groups();
+    let one = crew_of(1, 6, 1, 0, 5, 6);
+    let two = crew_of(2, 5, 1, 0, 4, 5);
+    let three = crew_of(3, 4, 1, 0, 3, 4);
     show_selections(one, two, three);
     show_validations(two, three);
     show_decisions(one, two, three);

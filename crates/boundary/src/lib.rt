@@ -103,6 +103,9 @@ const RANGE: u64 = 15;
 // Reading, after its other numbers.
 const RESIDUE: u64 = 16;
 
+// Accepting a crew, after its other numbers.
+pub const GROUP: u64 = 17;
+
 // Splitting a budget.
 const COUNT: u64 = 18;
 
@@ -164,6 +167,7 @@ fn crew_number(why: crew::AcceptRefusal) -> u64
         crew::AcceptRefusal::Size => SIZE,
         crew::AcceptRefusal::QuorumTooHigh => QUORUM_TOO_HIGH,
         crew::AcceptRefusal::QuorumTooLow => QUORUM_TOO_LOW,
+        crew::AcceptRefusal::Group => GROUP,
     }
 }
 
@@ -227,19 +231,26 @@ fn accepting_answer(answer: Acceptance) -> u64
     }
 }
 
-// The crew of the five bytes that a call from C hands over.
-fn crew_of(class: u8, n: u8, b: u8, f: u8, d: u8) -> Crew
-    ensures { λ r. ⌜ r ≡ crewOf class n b f d ⌝ }
+// The crew of the six bytes that a call from C hands over.
+fn crew_of(class: u8, n: u8, b: u8, f: u8, d: u8, c: u8) -> Crew
+    ensures { λ r. ⌜ r ≡ crewOf class n b f d c ⌝ }
 {
-    Crew { class, n, b, f, d }
+    Crew {
+        class,
+        n,
+        b,
+        f,
+        d,
+        c,
+    }
 }
 
 // Accepts a crew.
 #[no_mangle]
-pub extern "C" fn rail_accept(class: u8, n: u8, b: u8, f: u8, d: u8) -> u64
-    ensures { λ r. ⌜ Answered done (acceptOf (crewOf class n b f d)) r ⌝ }
+pub extern "C" fn rail_accept(class: u8, n: u8, b: u8, f: u8, d: u8, c: u8) -> u64
+    ensures { λ r. ⌜ Answered done (acceptOf (crewOf class n b f d c)) r ⌝ }
 {
-    accepting_answer(crew::accept(crew_of(class, n, b, f, d)))
+    accepting_answer(crew::accept(crew_of(class, n, b, f, d, c)))
 }
 
 // What looking a least crew up answers, as a number: 256 times n, plus D.
@@ -268,16 +279,17 @@ pub extern "C" fn rail_start(
     b: u8,
     f: u8,
     d: u8,
+    c: u8,
     own: u8,
     run: u32,
     plan: Plan,
     image: &mut [u8],
 ) -> u64
-    ensures { λ r. ⌜ Leaves done (startInto (now (image .entry)) (crewOf class n b f d) own run plan)
+    ensures { λ r. ⌜ Leaves done (startInto (now (image .entry)) (crewOf class n b f d c) own run plan)
         (recordAfter (now (image .entry))) r (now (image .exit)) ⌝ }
 {
     if image::fits(image) {
-        let started = Node::start(crew_of(class, n, b, f, d), own, run, plan);
+        let started = Node::start(crew_of(class, n, b, f, d, c), own, run, plan);
         let answer = started.answer;
         match answer {
             Starting::Accepted => {

@@ -1,3 +1,5 @@
 pub mod Parts
 pub mod Acceptance
 pub mod Thresholds
+pub mod Group
+pub mod Promises

@@ -23,4 +23,4 @@ anyAbove three crew = E crew
 
 -- validation asks that twice the count passes this: `valid` in ballot/specs/Validation
 abbrev pub validAbove : Crew → ℕ
-validAbove crew = crew .n + crew .b
+validAbove crew = crew .c + crew .b

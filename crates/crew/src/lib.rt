@@ -1,9 +1,22 @@
-// A crew: how many nodes agree, how many of them may lie or be out of reach, and how many votes decide.
-// Accepting one is the ground of every other promise; specs/Acceptance.antt says when, proofs/Facts.antt what follows.
+// A crew: how many nodes agree, how many of them may lie or be out of reach, how many votes decide, and how many nodes
+// validate in a phase. Accepting one is the ground of every other promise; specs/Acceptance.antt says when,
+// proofs/Facts.antt what follows. Which nodes validate stands in specs/Group.antt.
 ghost use mathlib.Core.Path.{_≡_};
+ghost use Prim.Native.Nat.{_*_, _%_, _<_};
 ghost use Rattle.wire.specs.Outcome.{isAccepted};
 ghost use Rattle.crew.specs.Parts.{blankCrew};
-ghost use Rattle.crew.specs.Acceptance.{acceptOf, acceptAnswer, classKnown, sizeKnown, reachable, highEnough};
+ghost use Rattle.crew.specs.Acceptance.{
+  classKnown,
+  sizeKnown,
+  reachable,
+  highEnough,
+  groupKnown,
+  quorumOf,
+  acceptOf,
+  acceptAnswer,
+};
+ghost use Rattle.crew.specs.Group.{validates, ValidatorsAmong};
+ghost use Rattle.crew.specs.Promises.{inRow};
 
 // No aisle has more controllers: columns and tables have a place for each of so many.
 pub const MOST_NODES: usize = 32;
@@ -20,14 +33,18 @@ pub struct Crew {
     pub f: u8,
     // 01's D: how many votes decide.
     pub d: u8,
+    // How many nodes validate in each phase, in turn.
+    pub c: u8,
 }
 
-// Why a crew is turned down; `acceptNumber` in specs/Acceptance.antt has 01's numbers.
+// Why a crew is turned down; `acceptNumber` in specs/Acceptance.antt has the papers' numbers.
 pub enum AcceptRefusal {
     Class,
     Size,
     QuorumTooHigh,
     QuorumTooLow,
+    // The crew has fewer nodes than the group, or the class asks for a larger group.
+    Group,
 }
 
 pub enum Acceptance {
@@ -61,6 +78,7 @@ pub fn blank_crew() -> Crew
         b: 0,
         f: 0,
         d: 0,
+        c: 0,
     }
 }
 
@@ -99,9 +117,25 @@ fn is_high_enough(crew: Crew) -> bool
     2 * b + f < d
 }
 
-// Accepts a crew, or says why not: the first of 01's four conditions that fails.
-pub fn accept(crew: Crew) -> Acceptance
-    ensures { λ r. ⌜ acceptAnswer r ≡ acceptOf crew ⌝ }
+// The group is large enough for the class, and no larger than the crew. Class 1 has no validation: there all nodes are
+// the group.
+fn is_group(crew: Crew) -> bool
+    ensures { λ r. ⌜ r ≡ groupKnown crew ⌝ }
+{
+    let b = wide(crew.b);
+    let f = wide(crew.f);
+    if crew.class == Crew::CLASS_ONE {
+        return crew.c == crew.n;
+    }
+    if crew.class == Crew::CLASS_TWO {
+        return (crew.c <= crew.n) & (crew.b < crew.c);
+    }
+    (crew.c <= crew.n) & (3 * b + 2 * f < wide(crew.c))
+}
+
+// Accepts all of a crew but its group, or says why not: the first of 01's four conditions that fails.
+fn accept_quorum(crew: Crew) -> Acceptance
+    ensures { λ r. ⌜ acceptAnswer r ≡ quorumOf crew ⌝ }
 {
     if is_class(crew) {
         if is_size(crew) {
@@ -118,6 +152,21 @@ pub fn accept(crew: Crew) -> Acceptance
     Acceptance::Refused(AcceptRefusal::Class)
 }
 
+// Accepts a crew, or says why not: the first of the papers' conditions that fails. The group comes last.
+pub fn accept(crew: Crew) -> Acceptance
+    ensures { λ r. ⌜ acceptAnswer r ≡ acceptOf crew ⌝ }
+{
+    match accept_quorum(crew) {
+        Acceptance::Refused(why) => Acceptance::Refused(why),
+        Acceptance::Accepted => {
+            if is_group(crew) {
+                return Acceptance::Accepted;
+            }
+            Acceptance::Refused(AcceptRefusal::Group)
+        }
+    }
+}
+
 // Whether a crew is accepted, where it does not matter why not.
 pub fn is_accepted(crew: Crew) -> bool
     ensures { λ r. ⌜ r ≡ isAccepted (acceptOf crew) ⌝ }
@@ -126,4 +175,46 @@ pub fn is_accepted(crew: Crew) -> bool
         Acceptance::Accepted => true,
         Acceptance::Refused(_) => false,
     }
+}
+
+// The first node of a phase's group.
+fn first_validator(crew: Crew, phase: u8) -> u8
+    ensures { λ r. ⌜ (0 < crew .n → r ≡ phase * crew .c % crew .n) ⌝ }
+{
+    if crew.n == 0 {
+        return 0;
+    }
+    (wide(phase) * wide(crew.c) % wide(crew.n)) as u8
+}
+
+// Whether node q is one of the c nodes from the first on, round the end of the crew.
+fn is_in_row(crew: Crew, first: u8, q: u8) -> bool
+    ensures { λ r. ⌜ r ≡ inRow crew first q ⌝ }
+{
+    let end = wide(first) + wide(crew.c);
+    let reached = (first <= q) & (wide(q) < end);
+    let reached_round_the_end = wide(q) + wide(crew.n) < end;
+    (q < crew.n) & (reached | reached_round_the_end)
+}
+
+// Whether node q validates in a phase.
+pub fn is_validator(crew: Crew, phase: u8, q: u8) -> bool
+    ensures { λ r. ⌜ r ≡ validates crew phase q ⌝ }
+{
+    let first = first_validator(crew, phase);
+    is_in_row(crew, first, q)
+}
+
+// Of the nodes that are marked, those that validate in a phase.
+pub fn validators_among(crew: Crew, phase: u8, marks: [bool; MOST_NODES]) -> [bool; MOST_NODES]
+    ensures { λ r. ⌜ ValidatorsAmong crew phase marks r ⌝ }
+{
+    let first = first_validator(crew, phase);
+    let mut kept = marks;
+    let mut q: usize = 0;
+    while q < MOST_NODES {
+        kept[q] = kept[q] & is_in_row(crew, first, q as u8);
+        q = q + 1;
+    }
+    kept
 }

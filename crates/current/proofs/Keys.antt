@@ -1,6 +1,6 @@
 -- The order in which the mA left over are given out, as one number: a shuttle goes before another where its key is
 -- higher. The code compares keys of base 64, its priorities; the laws of shares those of base n.
-use mathlib.Core.Path.{_≡_, refl, ap}
+use mathlib.Core.Path.{_≡_, ap}
 use mathlib.Core.Bool.{Bool, true, false, _&&_}
 use mathlib.Core.Logic.{_⊎_, inl, inr}
 use Prim.Native.Nat.{ℕ, suc, _+_, _-_, _*_, _≤_, _<_}
@@ -8,19 +8,12 @@ use native.Mathlib.Omega.{arith}
 use native.Mathlib.Nat.{mul-suc, mul-le-mul-left}
 use native.Mathlib.Decide.{decLt}
 use lib.Dec.{T, ltb, eqb}
-use Rattle.wire.proofs.Tests.{tests, and-T, T-and, or-T, T-or-l, T-or-r}
+use Rattle.wire.proofs.Tests.{tests, same-test, and-T, T-and, or-T, T-or-l, T-or-r}
 use Rattle.ballot.specs.Count.{tally}
 use Rattle.ballot.proofs.Counting.{tally-same}
 use Rattle.current.specs.Shares.{aheadOf}
 use Rattle.current.specs.Promises.{key}
 use Rattle.current.proofs.Ranks.{Distinct, aboveIt}
-
--- two tests that go with each other are the same
-same-test : (a b : Bool) → (T a → T b) → (T b → T a) → a ≡ b
-same-test true true f g = refl
-same-test true false f g = absurd (f tt)
-same-test false true f g = absurd (g tt)
-same-test false false f g = refl
 
 -- shuttle i's key
 abbrev pub keyIn : ℕ → (ℕ → ℕ) → ℕ → ℕ

@@ -6,6 +6,7 @@ use Prim.Native.Nat.{ℕ}
 use Prim.Native.Char.{code}
 use Prim.Native.String.{String, [] as noText, _∷_ as _then_}
 use Rattle.crew.specs.Acceptance.{acceptOf}
+use Rattle.crew.specs.Group.{among, validates}
 use Rattle.writer.specs.Writing.{writeMessageOf}
 use Rattle.wire.specs.Entry.{entriesFrom}
 use Rattle.message.specs.Reading.{entriesIn, bodyAt, tested, frontOf, allZero, readOf}
@@ -48,23 +49,26 @@ _prints_ script output = record { script = script; output = output }
 infix 20 _prints_
 abbrev examples : List Example
 examples =
-    -- 01: "Input `3 4 1 0 3`, `5 5 5 0`, three `go`. Whole output:"
-    ("3 4 1 0 3\n5 5 5 0\ngo\ngo\ngo\n" prints "1 1 0 0 0 -\n1 2 0 0 0 -\n1 3 5 5 5 -\nend\n")
-    -- bad lines: no input, line 2 missing, an empty line 3, a go that is not ended, a say from node 0, an honest one
+    -- 01: "Input `3 4 1 0 3`, `5 5 5 0`, three `go`. Whole output:". All nodes are the group.
+    ("3 4 1 0 3 4\n5 5 5 0\ngo\ngo\ngo\n" prints "1 1 0 0 0 -\n1 2 0 0 0 -\n1 3 5 5 5 -\nend\n")
+    -- bad lines: no input, a crew without its group, one whose group is too small, line 2 missing, an empty line 3, a
+    -- go that is not ended, a say from node 0, an honest one
     ∷ ("" prints "bad 1\n")
-    ∷ ("3 4 1 0 3\n" prints "bad 2\n")
-    ∷ ("3 4 1 0 3\n5 5 5 0\n\n" prints "bad 3\n")
-    ∷ ("3 4 1 0 3\n5 5 5 0\ngo" prints "bad 3\n")
-    ∷ ("3 4 1 0 3\n5 5 5 0\nsay 0 1 6 0\n" prints "bad 3\n")
+    ∷ ("3 4 1 0 3\n5 5 5 0\n" prints "bad 1\n")
+    ∷ ("3 4 1 0 3 3\n5 5 5 0\n" prints "bad 1\n")
+    ∷ ("3 4 1 0 3 4\n" prints "bad 2\n")
+    ∷ ("3 4 1 0 3 4\n5 5 5 0\n\n" prints "bad 3\n")
+    ∷ ("3 4 1 0 3 4\n5 5 5 0\ngo" prints "bad 3\n")
+    ∷ ("3 4 1 0 3 4\n5 5 5 0\nsay 0 1 6 0\n" prints "bad 3\n")
     ∷ []
 
 -- every script of the table prints what stands beside it
 pub examples-hold : map (λ e. drillOf (bytes (e .script))) examples ≡ map (λ e. bytes (e .output)) examples
 unfolding
-    acceptOf writeMessageOf entriesFrom entriesIn bodyAt tested frontOf allZero readOf entryBytes encode entriesOk
-    decides decision tally countIf gather valid validated lists possible backed backing enough selection leading
-    mostVoted anyPlan taken least leastOf emptyFrom sound begun blank startOf comingOf writeComingOf afterRound takeOf
-    lineOf until onto split valueFrom numberOf numbersFrom starts decimalOf fieldOf fieldsFrom resultLine badLine
-    nothing withCut withSay waitingFrom follow second first drillOf begunOf table sayBuffer slotsOf slotFrom nodeAfter
-    resultsOf goOf
+    acceptOf among validates writeMessageOf entriesFrom entriesIn bodyAt tested frontOf allZero readOf entryBytes
+    encode entriesOk decides decision tally countIf gather valid validated lists possible backed backing enough
+    selection leading mostVoted anyPlan taken least leastOf emptyFrom sound begun blank startOf comingOf writeComingOf
+    afterRound takeOf lineOf until onto split valueFrom numberOf numbersFrom starts decimalOf fieldOf fieldsFrom
+    resultLine badLine nothing withCut withSay waitingFrom follow second first drillOf begunOf table sayBuffer slotsOf
+    slotFrom nodeAfter resultsOf goOf
 examples-hold = refl

@@ -72,7 +72,7 @@ pub record Right (input : List ℕ) (c : Cursor) (come : List ℕ) (turn : Turn)
 
 -- an accepted crew has no more nodes than the largest
 crew-small : (crew : Crew) → isAccepted (acceptOf crew) ≡ true → crew .n ≤ mostNodes
-crew-small crew e = accepts crew (accepted-is (acceptOf crew) e) .size-to
+crew-small crew e = accepts crew (accepted-is (acceptOf crew) e) .quorum .size-to
 
 begun-small : (crew : Crew) (plans : List ℕ) → crew .n ≤ mostNodes → begunOf crew plans .setup .crew .n ≤ mostNodes
 unfolding begunOf

@@ -1,4 +1,4 @@
--- Every record has one image, and every 149 bytes are the image of one record: reading and writing an image undo each
+-- Every record has one image, and every 150 bytes are the image of one record: reading and writing an image undo each
 -- other, both ways.
 use mathlib.Core.Path.{_≡_, refl, ap, sym, _∙_}
 use mathlib.Core.List.{List, [], _∷_, _++_}
@@ -81,20 +81,20 @@ history-of-plans s place zero bytes end =
 history-of-plans s place (suc count) bytes end =
     number-front planSize s place bytes (omega arith) (history-of-plans s (place + planSize) count bytes (omega arith))
 
--- 149 bytes are the image of the record that is read from them
+-- 150 bytes are the image of the record that is read from them
 pub image-of-record : (s : List ℕ) → AreBytes s → length s ≡ imageSize → imageOf (recordIn s) ≡ s
 image-of-record s bytes long =
     byte-front s crewPlace (omega arith) (byte-front s (crewPlace + 1) (omega arith)
     (byte-front s (crewPlace + 2) (omega arith) (byte-front s (crewPlace + 3) (omega arith)
-    (byte-front s (crewPlace + 4) (omega arith) (byte-front s ownPlace (omega arith)
-    (number-front runSize s runPlace bytes (omega arith)
+    (byte-front s (crewPlace + 4) (omega arith) (byte-front s (crewPlace + 5) (omega arith)
+    (byte-front s ownPlace (omega arith) (number-front runSize s runPlace bytes (omega arith)
     (byte-front s phasePlace (omega arith) (byte-front s roundPlace (omega arith)
     (number-front planSize s votePlace bytes (omega arith) (number-front planSize s basePlace bytes (omega arith)
     (byte-front s stampPlace (omega arith) (number-front planSize s selectPlace bytes (omega arith)
     (number-front planSize s resultPlace bytes (omega arith)
-    (history-of-plans s historyPlace historySize bytes (omega arith)))))))))))))))
+    (history-of-plans s historyPlace historySize bytes (omega arith))))))))))))))))
 
--- The premises of both are met: bytes hold a record whose fields have their types, and a record's image has 149 bytes.
+-- The premises of both are met: bytes hold a record whose fields have their types, and a record's image has 150 bytes.
 plans-small : (s : List ℕ) (place count : ℕ) → AreBytes s → (i : ℕ) → getD (plansIn s place count) i 0 < planLimit
 unfolding plansIn
 plans-small s place zero bytes i = omega arith
@@ -116,5 +116,5 @@ pub image-length : (d : Node) → Typed d → length (imageOf d) ≡ imageSize
 image-length d typed = omega (arith, history-bytes-length (d .history), typed .long)
 
 -- what the sum of the layout comes to
-image-size : imageSize ≡ 149
+image-size : imageSize ≡ 150
 image-size = refl

@@ -1,8 +1,8 @@
--- The image of a node record: 149 bytes, each field at a fixed place, numbers little-endian as in messages.
+-- The image of a node record: 150 bytes, each field at a fixed place, numbers little-endian as in messages.
 --
---   place 0      1  2  3  4  5    6    10     11     12    14    16     17      19      21
---   field class  n  b  f  D  own  run  phase  round  vote  base  stamp  select  result  history
---   bytes 1      1  1  1  1  1    4    1      1      2     2     1      2       2       64 times 2, from phase 0 on
+--   place 0      1  2  3  4  5  6    7    11     12     13    15    17     18      20      22
+--   field class  n  b  f  D  c  own  run  phase  round  vote  base  stamp  select  result  history
+--   bytes 1      1  1  1  1  1  1    4    1      1      2     2     1      2       2       64 times 2, from phase 0 on
 use Prim.Native.Nat.{ℕ, zero, suc, _+_, _*_}
 use mathlib.Core.Path.{_≡_}
 use mathlib.Core.Bool.{Bool, cond}
@@ -21,9 +21,9 @@ use Rattle.image.specs.declared.Loaded.{Loaded}
 abbrev pub crewPlace : ℕ
 crewPlace = 0
 
--- class, n, b, f and D
+-- class, n, b, f, D and c
 abbrev pub crewSize : ℕ
-crewSize = 5
+crewSize = 6
 
 abbrev pub ownPlace : ℕ
 ownPlace = crewPlace + crewSize
@@ -59,7 +59,7 @@ abbrev pub imageSize : ℕ
 imageSize = historyPlace + planSize * historySize
 
 abbrev pub crewBytes : Crew → List ℕ
-crewBytes c = c .class ∷ c .n ∷ c .b ∷ c .f ∷ c .d ∷ []
+crewBytes crew = crew .class ∷ crew .n ∷ crew .b ∷ crew .f ∷ crew .d ∷ crew .c ∷ []
 
 -- own number, run and coming round
 abbrev pub placeBytes : Node → List ℕ
@@ -92,7 +92,7 @@ plansIn s place (suc count) = numberAt planSize s place ∷ plansIn s (place + p
 abbrev pub crewIn : List ℕ → Crew
 crewIn s =
     crewOf (getD s crewPlace 0) (getD s (crewPlace + 1) 0) (getD s (crewPlace + 2) 0) (getD s (crewPlace + 3) 0)
-    (getD s (crewPlace + 4) 0)
+    (getD s (crewPlace + 4) 0) (getD s (crewPlace + 5) 0)
 
 -- the record that stands in an image
 abbrev pub recordIn : List ℕ → Node

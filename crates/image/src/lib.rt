@@ -1,5 +1,5 @@
 // A node record as bytes of fixed layout, for programs in other languages, which keep records as bytes.
-// specs/Layout.antt has the layout. Every 149 bytes are the image of one record and every record has one image:
+// specs/Layout.antt has the layout. Every 150 bytes are the image of one record and every record has one image:
 // proofs/RoundTrip.antt.
 use crew::Crew;
 use node::Node;
@@ -33,10 +33,10 @@ ghost use Rattle.image.specs.Layout.{
 };
 ghost use Rattle.image.specs.Promises.{HistoryLaid};
 
-// Where the fields stand: each where the one before it ends. A crew is five bytes.
+// Where the fields stand: each where the one before it ends. A crew is six bytes.
 const CREW_AT: usize = 0;
 
-const CREW_SIZE: usize = 5;
+const CREW_SIZE: usize = 6;
 
 const OWN_AT: usize = CREW_AT + CREW_SIZE;
 
@@ -85,6 +85,7 @@ fn crew_in(s: &[u8]) -> Crew
         b: s[CREW_AT + 2],
         f: s[CREW_AT + 3],
         d: s[CREW_AT + 4],
+        c: s[CREW_AT + 5],
     }
 }
 
@@ -109,7 +110,7 @@ pub fn fits(s: &[u8]) -> bool
     s.len() == LENGTH
 }
 
-// The record that 149 bytes are the image of.
+// The record that 150 bytes are the image of.
 fn record_in(s: &[u8]) -> Node
     requires { ⌜ imageSize ≤ length (now s) ⌝ }
     ensures { λ r. ⌜ r ≡ recordIn (now (s .entry)) ⌝ }
@@ -160,6 +161,7 @@ fn put_crew(image: &mut [u8], crew: Crew)
     image[CREW_AT + 2] = crew.b;
     image[CREW_AT + 3] = crew.f;
     image[CREW_AT + 4] = crew.d;
+    image[CREW_AT + 5] = crew.c;
 }
 
 // The own number, the run and the coming round.

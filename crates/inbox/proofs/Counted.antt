@@ -11,7 +11,10 @@ use Rattle.message.specs.Reading.{readOf}
 use Rattle.message.specs.Laying.{bears, expectedIn}
 use Rattle.message.specs.declared.Header.{Header}
 use Rattle.ballot.specs.Ballot.{Ballot}
-use Rattle.inbox.specs.Inbox.{isOf, ballotOf, counted}
+use Rattle.ballot.proofs.Tests.{said-turn}
+use Rattle.crew.specs.Group.{speaks}
+use Rattle.node.specs.declared.Node.{Node}
+use Rattle.inbox.specs.Inbox.{slotAt, isOf, ballotOf, counted, ballotAt}
 use Rattle.inbox.specs.Columns.{ballotIf}
 
 pub record Counted (run phase round : ℕ) (slot : List ℕ) (m : Ballot) : Type 0 where
@@ -34,6 +37,13 @@ counted-message run phase round slot m e = by-reading (readOf slot) refl e
         → Counted run phase round slot m
     by-reading (accepted k) read e = by-coming k read (isOf run phase round k) refl e
     by-reading (refused number) read e = absurd (Option·none-ne-some _ e)
+
+-- a slot that counts for a record says what its message puts forward
+pub heard-message : (d : Node) (bytes : List ℕ) (q : ℕ) (m : Ballot) → ballotAt d bytes q ≡ some m
+    → Counted (d .run) (d .phase) (d .round) (slotAt bytes q) m
+heard-message d bytes q m e =
+    counted-message (d .run) (d .phase) (d .round) (slotAt bytes q) m
+    (said-turn (speaks (d .crew) (d .phase) (d .round) q) e .1)
 
 -- where a message of the coming round is expected, what is found is what counts
 pub expected-counts : (coming : Header) (o : Outcome Message)

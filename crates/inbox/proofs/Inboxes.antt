@@ -1,7 +1,7 @@
--- An inbox as columns: the slots that are present in the columns that it was read into are those that count, and their
--- ballots are the ballots that count.
+-- An inbox as columns: the slots that are present in the columns that it was read into, and whose nodes speak in the
+-- round, are those that count, and their ballots are the ballots that count.
 use mathlib.Core.Path.{_≡_, refl, ap, _∙_}
-use mathlib.Core.Bool.{Bool, true, false, cond}
+use mathlib.Core.Bool.{Bool, true, false, cond, _&&_}
 use mathlib.Core.List.{List}
 use mathlib.Core.Option.{Option, none, some}
 use Prim.Native.Nat.{ℕ, suc, _*_, _/_, _≤_, _<_}
@@ -14,19 +14,22 @@ use Rattle.wire.specs.Entry.{Entry}
 use Rattle.wire.proofs.Arrays.{same-everywhere}
 use Rattle.crew.specs.declared.Crew.{Crew}
 use Rattle.crew.specs.Parts.{mostNodes}
+use Rattle.crew.specs.Group.{speaks}
 use Rattle.message.specs.Layout.{slotSize}
 use Rattle.message.specs.declared.Header.{Header}
 use Rattle.ballot.specs.Count.{holds}
 use Rattle.ballot.specs.Ballot.{Ballot}
-use Rattle.inbox.specs.Inbox.{slotAt, ballotIn, countsIn, ballotsFor}
+use Rattle.inbox.specs.Inbox.{slotAt, ballotIn, heardIn, countsIn, ballotsFor}
 use Rattle.inbox.specs.Columns.{
   Columns,
+  columns,
   empty,
   slotsIn,
   filled,
   rowAt,
   historiesAfter,
   ReadInto,
+  Spoken,
   entriesOf,
   listedIn,
   ballotFrom,
@@ -55,20 +58,36 @@ present-told : (here : Bool) (m : Ballot) → here ≡ holds (λ k. true) (cond 
 present-told true m = refl
 present-told false m = refl
 
--- Columns that a crew's inbox was read into, with an array that had so many places, all 0.
+-- one that is present and whose node speaks says what it says, any other nothing
+spoken-told : (here speaks : Bool) (m : Ballot)
+    → cond (here && speaks) (some m) none ≡ cond speaks (cond here (some m) none) none
+spoken-told true true m = refl
+spoken-told true false m = refl
+spoken-told false true m = refl
+spoken-told false false m = refl
+
+-- Columns that a crew's inbox was read into, with an array that had so many places, all 0; then only those who speak
+-- were kept.
 module _ (crew : Crew) (coming : Header) (bytes : List ℕ) (places : ℕ) (read : Columns) (histories : List ℕ)
-    (room : crew .n ≤ mostNodes) (long : length bytes ≡ slotSize * crew .n)
-    (is : ReadInto coming bytes empty (replicate places 0) read histories) where
+    (kept : List Bool) (room : crew .n ≤ mostNodes) (long : length bytes ≡ slotSize * crew .n)
+    (is : ReadInto coming bytes empty (replicate places 0) read histories)
+    (keeps : Spoken crew coming (read .present) kept) where
   abbrev slots : ℕ → Option Ballot
   slots q = ballotIn (coming .run) (coming .phase) (coming .kind) bytes q
 
+  abbrev heard : ℕ → Option Ballot
+  heard q = heardIn crew (coming .run) (coming .phase) (coming .kind) bytes q
+
+  abbrev spoken : Columns
+  spoken = columns kept (read .votes) (read .stamps)
+
   abbrev Presence : Type 0
   Presence = (q : ℕ) → q < crew .n
-      → getD (read .present) q false ≡ countsIn (coming .run) (coming .phase) (coming .kind) bytes q
+      → getD kept q false ≡ countsIn crew (coming .run) (coming .phase) (coming .kind) bytes q
 
   abbrev Polls : (ℕ → List Entry) → Type 0
   Polls lists =
-      polled read lists (crew .n) ≡ ballotsFor crew (coming .run) (coming .phase) (coming .kind) bytes
+      polled spoken lists (crew .n) ≡ ballotsFor crew (coming .run) (coming .phase) (coming .kind) bytes
 
   -- what they say of each slot is its ballot, where a slot that counts is taken with the history that it lists
   says-slot : (lists : ℕ → List Entry) → AreHistories lists slots (crew .n) → (q : ℕ) → q < crew .n
@@ -78,7 +97,14 @@ module _ (crew : Crew) (coming : Header) (bytes : List ℕ) (places : ℕ) (read
       is .said ∙ ap (filled empty slots) (slots-in (length bytes) (crew .n) room long) in
       rw whole (filled-mean slots lists (crew .n) room are q less)
 
-  -- so a slot is present where it counts; the histories are then the slots' own
+  says-heard : (lists : ℕ → List Entry) → AreHistories lists slots (crew .n) → (q : ℕ) → q < crew .n
+      → slotOf spoken lists q ≡ heard q
+  says-heard lists are q less =
+      let speaking = speaks crew (coming .phase) (coming .kind) q in
+      rw (keeps q (omega arith)) (spoken-told (getD (read .present) q false) speaking (ballotFrom read lists q))
+      ∙ ap (λ slot. cond speaking slot none) (says-slot lists are q less)
+
+  -- so a slot is kept where it counts; the histories are then the slots' own
   abbrev own : ℕ → List Entry
   own q = entriesOf (slots q)
 
@@ -87,12 +113,12 @@ module _ (crew : Crew) (coming : Header) (bytes : List ℕ) (places : ℕ) (read
 
   present-counts : Presence
   present-counts q less =
-      present-told (getD (read .present) q false) (ballotFrom read own q)
-      ∙ ap (holds (λ m. true)) (says-slot own are-own q less)
+      present-told (getD kept q false) (ballotFrom spoken own q)
+      ∙ ap (holds (λ m. true)) (says-heard own are-own q less)
 
   -- and their ballots are those that count
   polled-with : (lists : ℕ → List Entry) → AreHistories lists slots (crew .n) → Polls lists
-  polled-with lists are = gather-same (slotOf read lists) slots (crew .n) (says-slot lists are)
+  polled-with lists are = gather-same (slotOf spoken lists) heard (crew .n) (says-heard lists are)
 
   -- with the slots' own histories
   polled-heard : Polls own
@@ -119,10 +145,10 @@ module _ (crew : Crew) (coming : Header) (bytes : List ℕ) (places : ℕ) (read
   -- one
   pub record Mean : Type 0 where
     pub present : Presence
-    pub heard : Polls own
+    pub polls : Polls own
     pub listed : coming .kind ≡ 1 → coming .phase * crew .n ≤ places → Polls (listedIn histories (coming .phase))
 
   -- The columns mean the slots: read into empty columns and an array of zeros, any inbox of the crew's length gives the
   -- ballots that count for a record with this run, phase and coming round.
   pub columns-mean : Mean
-  columns-mean = record { present = present-counts; heard = polled-heard; listed = polled-listed }
+  columns-mean = record { present = present-counts; polls = polled-heard; listed = polled-listed }

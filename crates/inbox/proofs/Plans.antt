@@ -27,7 +27,7 @@ use Rattle.ballot.proofs.Counting.{count-le}
 use Rattle.ballot.proofs.Least.{Voted}
 use Rattle.ballot.proofs.Slots.{no-slot-counts}
 use Rattle.node.specs.declared.Node.{Node}
-use Rattle.inbox.proofs.Counted.{counted-message}
+use Rattle.inbox.proofs.Counted.{heard-message}
 use Rattle.inbox.specs.Inbox.{slotAt, ballotOf, counted, ballotAt, ballots}
 
 -- what a message within the bounds votes for is a plan
@@ -47,7 +47,7 @@ body-fits (decision vote stamp) fits = fits
 
 pub slot-plan : (d : Node) (inbox : List ℕ) (q : ℕ) (m : Ballot) → ballotAt d inbox q ≡ some m → 1 ≤ m .vote
 slot-plan d inbox q m e =
-    let c = counted-message (d .run) (d .phase) (d .round) (slotAt inbox q) m e in
+    let c = heard-message d inbox q m e in
     let k = c .message in
     let bounds = read-passes (slotAt inbox q) k (c .read) .in-bounds in
     subst (λ (x : Ballot). 1 ≤ x .vote) (c .says)
@@ -65,7 +65,7 @@ part-bytes s from size bytes place = elim (decLt place size) [
 slot-fits : (d : Node) (inbox : List ℕ) → AreBytes inbox → (q : ℕ) (m : Ballot) → ballotAt d inbox q ≡ some m
     → m .vote < planLimit
 slot-fits d inbox bytes q m e =
-    let c = counted-message (d .run) (d .phase) (d .round) (slotAt inbox q) m e in
+    let c = heard-message d inbox q m e in
     let slot-bytes = part-bytes inbox (slotSize * q) slotSize bytes in
     let fits = padded-of-read (slotAt inbox q) (c .message) slot-bytes (c .read) .2 in
     subst (λ (x : Ballot). x .vote < planLimit) (c .says) (body-fits (c .message .body) (fits .1))

@@ -2,15 +2,17 @@
 -- A column of presence, one of votes and one of stamps; and the histories as one flat array with a place for each slot
 -- and phase, which the one rule that looks at histories asks for.
 -- What the crates below rounds promise each other: no public contract of rounds cites this file.
-use Prim.Native.Nat.{ℕ, zero, suc, _*_, _/_, min}
+use Prim.Native.Nat.{ℕ, zero, suc, _*_, _/_, _<_, min}
 use mathlib.Core.Path.{_≡_}
-use mathlib.Core.Bool.{Bool, true, false, cond}
+use mathlib.Core.Bool.{Bool, true, false, cond, _&&_}
 use mathlib.Core.List.{List, [], _++_}
 use mathlib.Core.Option.{Option, none, some}
 use lib.Dec.{leb}
 use lib.ListN.{length, getD, set, replicate, take, drop}
 use Rattle.wire.specs.Entry.{Entry, entriesFrom}
+use Rattle.crew.specs.declared.Crew.{Crew}
 use Rattle.crew.specs.Parts.{mostNodes}
+use Rattle.crew.specs.Group.{speaks}
 use Rattle.message.specs.Fields.{Body}
 use Rattle.message.specs.Laying.{rowAfter}
 use Rattle.message.specs.Layout.{slotSize}
@@ -79,6 +81,11 @@ pub record ReadInto (coming : Header) (bytes : List ℕ) (before : Columns) (len
   pub listed : histories
       ≡ historiesAfter coming bytes lent (rowWidth (coming .phase) (slotsIn (length bytes)) (length lent))
       (slotsIn (length bytes))
+
+-- of the slots that are present, those are kept whose nodes speak in the coming round
+abbrev pub Spoken : Crew → Header → List Bool → List Bool → Type 0
+Spoken crew coming present kept =
+    (q : ℕ) → q < mostNodes → getD kept q false ≡ (getD present q false && speaks crew (coming .phase) (coming .kind) q)
 
 -- what a slot lists, where it counts
 abbrev pub entriesOf : Option Ballot → List Entry

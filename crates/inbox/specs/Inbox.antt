@@ -1,4 +1,4 @@
--- From an inbox's bytes to the ballots that count: document 01, 'Messages'.
+-- From an inbox's bytes to the ballots that count: document 01, 'Messages', and 02, C-13.
 use Prim.Native.Nat.{ℕ, _*_}
 use mathlib.Core.Bool.{Bool, true, cond, _&&_}
 use mathlib.Core.List.{List, []}
@@ -7,6 +7,7 @@ use lib.ListN.{take, drop}
 use lib.Dec.{eqb}
 use Rattle.wire.specs.Outcome.{Outcome, accepted, refused}
 use Rattle.crew.specs.declared.Crew.{Crew}
+use Rattle.crew.specs.Group.{speaks}
 use Rattle.message.specs.Fields.{Body, selection, validation, decision, Message}
 use Rattle.message.specs.Encoding.{kindOf}
 use Rattle.message.specs.Reading.{readOf}
@@ -35,24 +36,29 @@ abbrev pub counted : ℕ → ℕ → ℕ → Outcome Message → Option Ballot
 counted run phase round (accepted m) = cond (isOf run phase round m) (some (ballotOf (m .body))) none
 counted run phase round (refused number) = none
 
--- what slot q says to a node whose coming round is this one
+-- what slot q says by its bytes, in a round with this run, phase and number
 abbrev pub ballotIn : ℕ → ℕ → ℕ → List ℕ → ℕ → Option Ballot
 ballotIn run phase round bytes q = counted run phase round (readOf (slotAt bytes q))
 
+-- What it says to a node of this crew: nothing where its own node does not speak in the round.
+-- 02: "others are silent in round 2 and their slots there don't count"
+abbrev pub heardIn : Crew → ℕ → ℕ → ℕ → List ℕ → ℕ → Option Ballot
+heardIn crew run phase round bytes q = cond (speaks crew phase round q) (ballotIn run phase round bytes q) none
+
 -- what its n slots say
 abbrev pub ballotsFor : Crew → ℕ → ℕ → ℕ → List ℕ → List Ballot
-ballotsFor crew run phase round bytes = inbox crew (ballotIn run phase round bytes)
+ballotsFor crew run phase round bytes = inbox crew (heardIn crew run phase round bytes)
 
 -- whether slot q says anything to it: whether it counts
-abbrev pub countsIn : ℕ → ℕ → ℕ → List ℕ → ℕ → Bool
-countsIn run phase round bytes q = holds (λ m. true) (ballotIn run phase round bytes q)
+abbrev pub countsIn : Crew → ℕ → ℕ → ℕ → List ℕ → ℕ → Bool
+countsIn crew run phase round bytes q = holds (λ m. true) (heardIn crew run phase round bytes q)
 
 -- the same for a node's record: slot q, the n slots, and whether slot q counts
 abbrev pub ballotAt : Node → List ℕ → ℕ → Option Ballot
-ballotAt d bytes q = ballotIn (d .run) (d .phase) (d .round) bytes q
+ballotAt d bytes q = heardIn (d .crew) (d .run) (d .phase) (d .round) bytes q
 
 abbrev pub ballots : Node → List ℕ → List Ballot
 ballots d bytes = ballotsFor (d .crew) (d .run) (d .phase) (d .round) bytes
 
 abbrev pub counts : Node → List ℕ → ℕ → Bool
-counts d bytes q = countsIn (d .run) (d .phase) (d .round) bytes q
+counts d bytes q = countsIn (d .crew) (d .run) (d .phase) (d .round) bytes q

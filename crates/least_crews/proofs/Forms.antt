@@ -10,7 +10,7 @@ use Rattle.crew.specs.declared.Crew.{Crew}
 use Rattle.crew.specs.Parts.{mostNodes}
 use Rattle.crew.specs.Acceptance.{acceptOf}
 use Rattle.crew.specs.Thresholds.{Class, one, two, three, classOf}
-use Rattle.crew.proofs.Facts.{High, Accepts, accepts, accepted-from}
+use Rattle.crew.proofs.Facts.{High, Quorum, accepts, accepted-from, whole-group}
 use Rattle.least_crews.specs.declared.Least.{Least}
 use Rattle.least_crews.specs.Search.{crewWith, noCrew, leastCrew}
 use Rattle.least_crews.specs.Entries.{AcceptedWith, IsLeast}
@@ -59,7 +59,7 @@ module _ (class b f : ℕ) where
   bounds : (crew : Crew) → AcceptedWith class b f crew
       → (nodes class b f ≤ crew .n) × (crew .n ≤ mostNodes) × (crew .n ≡ nodes class b f → votes class b f ≤ crew .d)
   bounds crew a =
-      let facts : Accepts crew = accepts crew (a .is-accepted) in
+      let facts : Quorum crew = accepts crew (a .is-accepted) .quorum in
       let low = rw (a .its-class, a .its-b, a .its-f) at (lowest (classOf crew) crew (facts .high) (facts .reach)) in
       (low .0, facts .size-to, low .1)
 
@@ -67,15 +67,17 @@ module _ (class b f : ℕ) where
     form-accepted : nodes class b f ≤ mostNodes
         → acceptOf (crewWith class b f (nodes class b f) (votes class b f)) ≡ accepted tt
     form-accepted small =
+        let crew = crewWith class b f (nodes class b f) (votes class b f) in
         let has = enough (kind class) class b f in
-        accepted-from _ (record {
+        let facts : Quorum crew = record {
           class-from = from;
           class-to = to;
           size-from = has .2;
           size-to = small;
           reach = has .0;
           high = has .1;
-        })
+        } in
+        accepted-from crew (record { quorum = facts; group = whole-group facts refl })
 
     -- the law: the closed form is the least crew
     pub form-least : IsLeast class b f (closedForm class b f)

@@ -10,7 +10,7 @@ use Rattle.wire.proofs.Outcomes.{accepted-is}
 use Rattle.wire.proofs.Tests.{by-equality}
 use Rattle.crew.specs.declared.Crew.{Crew}
 use Rattle.crew.specs.Acceptance.{acceptOf}
-use Rattle.crew.proofs.Facts.{Accepts, accepts}
+use Rattle.crew.proofs.Facts.{Quorum, accepts}
 use Rattle.least_crews.specs.declared.Least.{Least}
 use Rattle.least_crews.specs.Search.{firstFrom, byteValues, isFound, crewWith, fits, leastD, leastN, leastCrew}
 use Rattle.least_crews.specs.Entries.{AcceptedWith, IsLeast}
@@ -58,8 +58,8 @@ module _ (class b f : ℕ) where
       abbrev crew : Crew
       crew = crewWith class b f (least .n) (least .d)
 
-      facts : Accepts crew
-      facts = accepts crew (is .itself some-n)
+      facts : Quorum crew
+      facts = accepts crew (is .itself some-n) .quorum
 
       -- its D is the first for its n
       d-found : leastD class b f (least .n) ≡ some (least .d)

@@ -9,7 +9,7 @@ use Rattle.wire.specs.Outcome.{accepted}
 use Rattle.wire.proofs.Tests.{both-true}
 use Rattle.crew.specs.declared.Crew.{Crew}
 use Rattle.crew.specs.Acceptance.{acceptOf}
-use Rattle.crew.proofs.Facts.{Accepts, accepts, size-above}
+use Rattle.crew.proofs.Facts.{Quorum, accepts, size-above}
 use Rattle.least_crews.specs.Search.{lastClass, mostB, mostF, inRange}
 use Rattle.least_crews.specs.Entries.{numbers, placeOf}
 
@@ -40,7 +40,7 @@ within class b f e =
 -- A lookup that is refused is about no crew at all: n passes 3b + 2f and is at most 32.
 pub accepted-in-range : (crew : Crew) → acceptOf crew ≡ accepted tt → inRange (crew .class) (crew .b) (crew .f) ≡ true
 accepted-in-range crew e =
-    let a : Accepts crew = accepts crew e in
+    let a : Quorum crew = accepts crew e .quorum in
     let above = size-above a in
     rw (
       le-leb _ _ (a .class-from),

@@ -11,7 +11,7 @@ use Rattle.crew.specs.Acceptance.{acceptOf}
 use Rattle.least_crews.specs.declared.Least.{Least}
 use Rattle.least_crews.specs.Search.{crewWith, lastClass, mostB, mostF, inRange}
 
--- an accepted crew of this class, b and f, whatever its n and D
+-- an accepted crew of this class, b and f, whatever its n, D and c
 pub record AcceptedWith (class b f : ℕ) (crew : Crew) : Type 0 where
   pub its-class : crew .class ≡ class
   pub its-b : crew .b ≡ b

@@ -30,9 +30,9 @@ abbrev pub isFound : Option ℕ → Bool
 isFound none = false
 isFound (some number) = true
 
--- the crew of a lookup that has n nodes and in which D votes decide
+-- the crew of a lookup that has n nodes and in which D votes decide; all nodes are its group, so no lookup is about c
 abbrev pub crewWith : ℕ → ℕ → ℕ → ℕ → ℕ → Crew
-crewWith class b f n d = crewOf class n b f d
+crewWith class b f n d = crewOf class n b f d n
 
 -- whether it is accepted
 abbrev pub fits : ℕ → ℕ → ℕ → ℕ → ℕ → Bool

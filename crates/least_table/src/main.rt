@@ -27,9 +27,17 @@ fn show_number(text: &[u8], number: u64) {
     io::print_decimal(STDOUT_FILENO, number);
 }
 
-// Whether a crew of n nodes of which D decide is accepted.
+// Whether a crew of n nodes of which D decide is accepted. All nodes are its group: then c turns no crew away.
 fn fits(class: u8, b: u8, f: u8, n: u8, d: u8) -> bool {
-    match crew::accept(Crew { class, n, b, f, d }) {
+    let crew = Crew {
+        class,
+        n,
+        b,
+        f,
+        d,
+        c: n,
+    };
+    match crew::accept(crew) {
         Acceptance::Accepted => true,
         Acceptance::Refused(_) => false,
     }

@@ -33,7 +33,7 @@ fn run_named(i: usize) {
 
 // The long script has a crew, its plans, and nothing but cuts.
 fn byte_of_long(i: usize) -> u8 {
-    let head = b"1 4 0 1 3\n100 100 10 10\n";
+    let head = b"1 4 0 1 3 4\n100 100 1 1\n";
     let cut = b"cut 1 2\n";
     if i < HEAD { head[i] } else { cut[i % CUT] }
 }

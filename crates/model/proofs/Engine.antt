@@ -2,16 +2,17 @@
 -- and good phases. A list of calls on bytes is proved to be such a run in crate agreement (proofs/Simulation), whose
 -- Statement has 01's words for all of this. Nothing here has to be believed.
 use mathlib.Core.Path.{_≡_}
-use mathlib.Core.Bool.{Bool, cond, not}
+use mathlib.Core.Bool.{Bool, cond, not, _&&_}
 use mathlib.Core.Logic.{_≢_}
 use mathlib.Core.Option.{Option, none, some}
-use Prim.Native.Nat.{ℕ, zero, suc, _+_, _≤_, _<_}
+use Prim.Native.Nat.{ℕ, zero, suc, _+_, _*_, _≤_, _<_}
 use lib.Dec.{T, ltb}
 use Rattle.wire.specs.Sizes.{spentPhase}
 use Rattle.wire.specs.Outcome.{accepted}
 use Rattle.crew.specs.declared.Crew.{Crew}
 use Rattle.crew.specs.Acceptance.{acceptOf}
-use Rattle.crew.specs.Thresholds.{Class, one, two, three, classOf}
+use Rattle.crew.specs.Thresholds.{Class, one, two, three, classOf, validAbove}
+use Rattle.crew.specs.Group.{validates}
 use Rattle.ballot.specs.Count.{tally, countIf}
 use Rattle.ballot.specs.Ballot.{Ballot, inbox, sameBallot}
 use Rattle.ballot.specs.Validation.{validated}
@@ -65,6 +66,9 @@ pub record Faithful (class : Class) (crew : Crew) (honest : ℕ → Bool) (inbox
   -- what stands in an honest node's slot is what that node says
   pub said : Each crew honest λ p. Each crew honest λ q.
       (m : Ballot) → inboxes p q ≡ some m → saying class crew s q ≡ some m
+  -- in round 2 nobody but the phase's validators has a slot that counts
+  pub in-turn : s .round ≡ validating → Each crew honest λ p.
+      (q : ℕ) → q < crew .n → (m : Ballot) → inboxes p q ≡ some m → T (validates crew (s .phase) q)
 
 -- in this round node p decides v
 abbrev pub Decides : Class → Crew → Inboxes → State → ℕ → ℕ → Type 0
@@ -136,11 +140,16 @@ pub record Admissible (run : Run) : Type 0 where
   pub plans : (j : ℕ) → Held run j → Each (run .crew) (run .honest) λ p.
       (q : ℕ) → q < run .crew .n → (m : Ballot) → run .rounds j p q ≡ some m → m .vote ≢ 0
 
--- The phase is good for this circle of voters: it has enough of them, all of its rounds are in the run, in the first
--- they hear the same, and in each they hear one another.
+-- the circle's nodes that validate in this phase are enough: twice their number passes what validation asks
+abbrev pub CanValidate : Crew → (ℕ → Bool) → ℕ → Type 0
+CanValidate crew circle phase = validAbove crew < 2 * tally (λ q. circle q && validates crew phase q) (crew .n)
+
+-- The phase is good for this circle of voters: it has enough of them, and but in class 1 of those that validate; all of
+-- its rounds are in the run, in the first they hear the same, and in each they hear one another.
 pub record GoodFor (run : Run) (phase : ℕ) (circle : ℕ → Bool) : Type 0 where
   pub inside : Each (run .crew) circle (λ q. T (run .honest q))
   pub wide : run .crew .n ≤ tally circle (run .crew .n) + run .crew .b + run .crew .f
+  pub group : class run ≢ one → CanValidate (run .crew) circle phase
   pub complete : (j : ℕ) → state run j .phase ≡ phase → j < run .total
   pub equal : (j : ℕ) → state run j .phase ≡ phase → state run j .round ≡ selecting
       → Each (run .crew) circle λ p. Each (run .crew) circle λ q. (m : Ballot)

@@ -14,22 +14,23 @@ use Rattle.wire.proofs.Tests.{tests, and-T, T-and}
 use Rattle.wire.specs.Entry.{entriesFrom}
 use Rattle.crew.specs.declared.Crew.{Crew}
 use Rattle.crew.specs.Thresholds.{Class, one, two, three, anyAbove, validAbove}
+use Rattle.crew.specs.Group.{validates}
 use Rattle.ballot.specs.Count.{tally, countIf, holds}
 use Rattle.ballot.specs.Ballot.{Ballot, inbox, votes, lists}
 use Rattle.ballot.specs.Selection.{selection, taken}
-use Rattle.ballot.specs.Validation.{validates, validated}
+use Rattle.ballot.specs.Validation.{validated}
 use Rattle.ballot.specs.Decision.{fresh, decides}
-use Rattle.ballot.proofs.Tests.{T-holds}
+use Rattle.ballot.proofs.Tests.{T-holds, turn-says}
 use Rattle.ballot.proofs.Counting.{count-gather, tally-le, tally-meet, tally-not, tally-some, Same}
 use Rattle.ballot.proofs.Selection.{Answers, taken-plan}
 use Rattle.ballot.proofs.Slots.{same-vote, same-stamp, slot-counts, circle-passes}
-use Rattle.ballot.proofs.Validation.{valid-validated}
+use Rattle.ballot.proofs.Validation.{InTurn, valid-validated}
 use Rattle.ballot.proofs.Decision.{Stamps, stamp-fresh}
 use Rattle.ballot.proofs.Order.{taken-same}
 use Rattle.ballot.proofs.Circle.{circle-counts, answers-one, answers-two, answers-three}
 use Rattle.model.proofs.Voter.{Voter, Round, selecting, validating, deciding, roundNumber}
-use Rattle.model.proofs.Engine.{Each, State, Inboxes, turned, step, saying}
-use Rattle.model.proofs.Voters.{ifPlan-is, turn-says, confirms-is, lists-from}
+use Rattle.model.proofs.Engine.{Each, State, Inboxes, turned, step, saying, CanValidate}
+use Rattle.model.proofs.Voters.{ifPlan-is, confirms-is, lists-from}
 use Rattle.model.proofs.Run.{at}
 use Rattle.model.proofs.Invariant.{Invariant, listers}
 use Rattle.model.proofs.Phases.{Unstamped}
@@ -39,16 +40,6 @@ abbrev pub Strong : Class → Crew → Type 0
 Strong one crew = Unit {0}
 Strong two crew = Unit {0}
 Strong three crew = 4 * crew .b + 2 * crew .f < validAbove crew
-
--- the circle's nodes that validate in this phase are enough: twice their number passes what validation asks
-abbrev CanValidate : Crew → (ℕ → Bool) → ℕ → Type 0
-CanValidate crew circle phase = validAbove crew < 2 * tally (λ q. circle q && validates crew phase q) (crew .n)
-
--- What a class asks of the circle: in classes 2 and 3 that it can validate. Class 1 has no round 2.
-abbrev pub CircleValidates : Class → Crew → (ℕ → Bool) → ℕ → Type 0
-CircleValidates one crew circle phase = Unit {0}
-CircleValidates two crew circle phase = CanValidate crew circle phase
-CircleValidates three crew circle phase = CanValidate crew circle phase
 
 -- each circle node's slot, in each circle node's inbox, holds what that node says
 abbrev pub Hears : Class → Crew → (ℕ → Bool) → Inboxes → State → Type 0
@@ -65,7 +56,7 @@ CircleDecides class crew circle phase i =
     (v : ℕ) × Each crew circle (λ p. T (decides class crew phase (inbox crew (i p)) v))
 
 module _ (crew : Crew) (circle : ℕ → Bool) (wide : crew .n ≤ tally circle (crew .n) + crew .b + crew .f)
-    (quorum : 1 ≤ crew .d) (full : crew .d ≤ crew .n - crew .b - crew .f) where
+    (quorum : 1 ≤ crew .d) (full : crew .d ≤ crew .n - crew .b - crew .f) (small : crew .c ≤ crew .n) where
   -- Selection: the circle takes one plan, where selection answers.
   one-plan : (class : Class) (i : Inboxes) (phase : ℕ) (nodes : ℕ → Voter)
       → Hears class crew circle i (at phase selecting nodes) → Alike crew circle i
@@ -86,15 +77,16 @@ module _ (crew : Crew) (circle : ℕ → Bool) (wide : crew .n ≤ tally circle 
 
   -- Validation: where all of the circle have selected v, and enough of them validate, each of them validates it.
   all-validated : (class : Class) (i : Inboxes) (phase : ℕ) (nodes : ℕ → Voter) (v : ℕ)
-      → CanValidate crew circle phase → v ≢ 0
+      → CanValidate crew circle phase → v ≢ 0 → Each crew circle (λ p. InTurn crew phase (i p))
       → Hears class crew circle i (at phase validating nodes) → Each crew circle (λ q. nodes q .select ≡ v)
       → Each crew circle (λ p. validated crew (inbox crew (i p)) ≡ v)
-  all-validated class i phase nodes v enough plan hears select p lp kp =
+  all-validated class i phase nodes v enough plan in-turn hears select p lp kp =
       let many = tally-le (λ q. circle q && validates crew phase q) (λ q. holds (votes v) (i p q)) (crew .n) λ q lq k.
       let both = and-T (circle q) (validates crew phase q) k in
       let voted : T (eqb (nodes q .select) v) = omega (tests, select q lq (both .0)) in
       T-holds (votes v) (i p q) (spoken q) (says q lq (both .0) (both .1)) voted in
-      valid-validated crew phase (i p) v (omega (arith, count-gather (votes v) (i p) (crew .n)))
+      valid-validated crew small phase (i p) (in-turn p lp kp) v
+      (omega (arith, count-gather (votes v) (i p) (crew .n)))
     where
       spoken : ℕ → Ballot
       spoken q = record { vote = nodes q .select; stamp = 0; entries = [] }
@@ -144,14 +136,14 @@ module _ (crew : Crew) (circle : ℕ → Bool) (wide : crew .n ≤ tally circle 
 
   -- Classes 2 and 3: three rounds, where selection answers.
   three-rounds : (class : Class) → Stamps class → (i e g : Inboxes) (phase : ℕ) (nodes : ℕ → Voter)
-      → CanValidate crew circle phase
+      → CanValidate crew circle phase → Each crew circle (λ p. InTurn crew phase (e p))
       → (let nodes₁ = turned class crew i phase selecting nodes in
       Hears class crew circle i (at phase selecting nodes) → Alike crew circle i
       → Each crew circle (λ p. Answers (selection class crew (inbox crew (i p))))
       → Hears class crew circle e (at phase validating nodes₁)
       → Hears class crew circle g (at phase deciding (turned class crew e phase validating nodes₁))
       → CircleDecides class crew circle phase g)
-  three-rounds class stamps i e g phase nodes enough h alike answers h₂ h₃ =
+  three-rounds class stamps i e g phase nodes enough in-turn h alike answers h₂ h₃ =
       let one = one-plan class i phase nodes h alike answers in
       go (one .0) (one .1) (one .2)
     where
@@ -164,7 +156,7 @@ module _ (crew : Crew) (circle : ℕ → Bool) (wide : crew .n ≤ tally circle 
         v,
         all-decide class g phase (turned class crew e phase validating nodes₁) v h₃ λ q lq kq.
             let x = validated crew (inbox crew (e q)) in
-            let is-v = all-validated class e phase nodes₁ v enough plan h₂ takes q lq kq in
+            let is-v = all-validated class e phase nodes₁ v enough plan in-turn h₂ takes q lq kq in
             elim (confirms-is x phase (nodes₁ q .base) (nodes₁ q .stamp)) [
               | inl z ↦ absurd (plan (omega arith))
               | inr z ↦ (omega arith, stamp-fresh class stamps phase _ (omega arith))
@@ -232,19 +224,19 @@ module _ (crew : Crew) (circle : ℕ → Bool) (wide : crew .n ≤ tally circle 
   pub good-rounds : (class : Class) → Stamps class → (honest : ℕ → Bool) → Each crew circle (λ q. T (honest q))
       → Strong class crew → anyAbove class crew < crew .n - crew .b - crew .f
       → (i e g : Inboxes) (phase : ℕ) (round : Round) (nodes : ℕ → Voter)
-      → CircleValidates class crew circle phase → round ≡ selecting
+      → CanValidate crew circle phase → Each crew circle (λ p. InTurn crew phase (e p)) → round ≡ selecting
       → (let s = at phase round nodes in Invariant crew honest s → Hears class crew circle i s → Alike crew circle i
       → Hears class crew circle e (step class crew i s)
       → Hears class crew circle g (step class crew e (step class crew i s))
       → CircleDecides class crew circle phase g)
-  good-rounds class a honest inside strong above i e g phase validating nodes enough r j h alike h₂ h₃ =
+  good-rounds class a honest inside strong above i e g phase validating nodes enough in-turn r j h alike h₂ h₃ =
       absurd (omega (arith, ap roundNumber r))
-  good-rounds class a honest inside strong above i e g phase deciding nodes enough r j h alike h₂ h₃ =
+  good-rounds class a honest inside strong above i e g phase deciding nodes enough in-turn r j h alike h₂ h₃ =
       absurd (omega (arith, ap roundNumber r))
-  good-rounds one a honest inside strong above i e g phase selecting nodes enough r j h alike h₂ h₃ = absurd a
-  good-rounds two a honest inside strong above i e g phase selecting nodes enough r j h alike h₂ h₃ =
-      three-rounds two a i e g phase nodes enough h alike
+  good-rounds one a honest inside strong above i e g phase selecting nodes enough in-turn r j h alike h₂ h₃ = absurd a
+  good-rounds two a honest inside strong above i e g phase selecting nodes enough in-turn r j h alike h₂ h₃ =
+      three-rounds two a i e g phase nodes enough in-turn h alike
       (λ p lp kp. answers-two crew (i p) circle wide (λ q lq kq. (_, h p lp kp q lq kq)) above) h₂ h₃
-  good-rounds three a honest inside strong above i e g phase selecting nodes enough r j h alike h₂ h₃ =
-      three-rounds three a i e g phase nodes enough h alike
+  good-rounds three a honest inside strong above i e g phase selecting nodes enough in-turn r j h alike h₂ h₃ =
+      three-rounds three a i e g phase nodes enough in-turn h alike
       (highest-answers honest inside strong above phase nodes j i h alike) h₂ h₃

@@ -8,28 +8,34 @@ use native.Mathlib.Omega.{arith}
 use lib.Dec.{T}
 use Rattle.wire.specs.Sizes.{spentPhase}
 use Rattle.crew.specs.Thresholds.{Class, one, two, three}
-use Rattle.crew.proofs.Facts.{Accepts, accepts, quorum-positive, circle-decides, size-above}
-use Rattle.crew.proofs.Facts.{circle-above-any, circle-validates}
+use Rattle.crew.specs.Group.{validates}
+use Rattle.crew.proofs.Facts.{Group, Quorum, Accepts, accepts, quorum-positive, circle-decides}
+use Rattle.crew.proofs.Facts.{circle-above-any, group-small}
 use Rattle.ballot.specs.Count.{tally}
 use Rattle.ballot.specs.Ballot.{Ballot, inbox}
-use Rattle.ballot.specs.Validation.{validates}
-use Rattle.wire.proofs.Tests.{T-and}
-use Rattle.ballot.proofs.Counting.{tally-le}
+use Rattle.ballot.proofs.Validation.{InTurn}
 use Rattle.ballot.proofs.Decision.{Stamps}
 use Rattle.ballot.proofs.Order.{same-inboxes}
-use Rattle.model.proofs.Voter.{selecting, deciding}
-use Rattle.model.proofs.Engine.{Each, step, saying, Run, class, state, Held, DecidesAt, Admissible, GoodFor}
+use Rattle.model.proofs.Voter.{selecting, validating, deciding}
+use Rattle.model.proofs.Engine.{Each, step, saying, Run, class, state, Held, DecidesAt, Admissible}
+use Rattle.model.proofs.Engine.{CanValidate, GoodFor}
 use Rattle.model.proofs.Invariant.{Invariant}
 use Rattle.model.proofs.Phases.{Unstamped, class-cases, Stands, next}
 use Rattle.model.proofs.Phases.{decision-next, validation-next, decision-then, phase-begins}
-use Rattle.model.proofs.GoodPhase.{Strong, CircleValidates, Hears, Alike, CircleDecides}
+use Rattle.model.proofs.GoodPhase.{Strong, Hears, Alike, CircleDecides}
 use Rattle.model.proofs.GoodPhase.{two-rounds, good-rounds}
 use Rattle.model.proofs.Results.{no-zero-votes}
 
 module _ (run : Run) (ok : Admissible run) (phase : ℕ) (early : phase < spentPhase) (circle : ℕ → Bool)
     (good : GoodFor run phase circle) where
-  facts : Accepts (run .crew)
-  facts = accepts (run .crew) (ok .crew-accepted)
+  accepting : Accepts (run .crew)
+  accepting = accepts (run .crew) (ok .crew-accepted)
+
+  facts : Quorum (run .crew)
+  facts = accepting .quorum
+
+  small : run .crew .c ≤ run .crew .n
+  small = group-small accepting
 
   hears : (j : ℕ) → state run j .phase ≡ phase → Hears (class run) (run .crew) circle (run .rounds j) (state run j)
   hears j e p lp kp q lq kq = go (run .rounds j p q) says refl refl
@@ -55,23 +61,23 @@ module _ (run : Run) (ok : Admissible run) (phase : ℕ) (early : phase < spentP
 
   -- What acceptance gives by the class.
 
-  strong : (class : Class) → Strong class (run .crew)
-  strong one = tt
-  strong two = tt
-  strong three = omega (arith, size-above facts)
+  strong : (class : Class) → Group class (run .crew) → Strong class (run .crew)
+  strong one group = tt
+  strong two group = tt
+  strong three group = omega arith
 
-  -- all of the circle validate in any phase, and they are at least n − b − f
-  can-validate : (class : Class) (t : ℕ) → CircleValidates class (run .crew) circle t
-  can-validate class t = go class
-    where
-      all : tally circle (run .crew .n) ≤ tally (λ q. circle q && validates (run .crew) t q) (run .crew .n)
-      all = tally-le circle (λ q. circle q && validates (run .crew) t q) (run .crew .n) λ q lq k.
-          T-and (circle q) (validates (run .crew) t q) k tt
+  -- in classes 2 and 3 the circle can validate
+  can-validate : Stamps (class run) → (t : ℕ) → t ≡ phase → CanValidate (run .crew) circle t
+  can-validate a t e =
+      subst (CanValidate (run .crew) circle) (sym e) (good .group (λ is-one. subst Stamps is-one a))
 
-      go : (class : Class) → CircleValidates class (run .crew) circle t
-      go one = tt
-      go two = omega (arith, circle-validates facts, good .wide, all)
-      go three = omega (arith, circle-validates facts, good .wide, all)
+  -- and hears none but validators in round 2
+  in-turn : (j : ℕ) → Stands run j phase validating → (t : ℕ) → t ≡ phase
+      → Each (run .crew) circle (λ p. InTurn (run .crew) t (run .rounds j p))
+  in-turn j s t e p lp kp q lq m here =
+      let held : Held run j = (good .complete j (s .0), omega (arith, s .0)) in
+      subst (λ x. T (validates (run .crew) x q)) (s .0 ∙ sym e)
+      (ok .faithful j held .in-turn (s .1) p lp (good .inside p lp kp) q lq m here)
 
   -- every node of the circle decides in this phase
   abbrev Decides : Type 0
@@ -109,19 +115,19 @@ module _ (run : Run) (ok : Admissible run) (phase : ℕ) (early : phase < spentP
     good-one : Unstamped (class run) → Decides
     good-one a =
         let s₂ = decision-next run a j phase early s in
-        let d = two-rounds (run .crew) circle (good .wide) (quorum-positive facts) (circle-decides facts) (class run) a
-        (circle-above-any facts) (run .rounds j) (run .rounds (suc j)) (state run j .phase) (state run j .round)
-        (state run j .node) (s .1) (hears j (s .0)) (alike j s) (second j s (s₂ .0)) in
+        let d = two-rounds (run .crew) circle (good .wide) (quorum-positive facts) (circle-decides facts) small
+        (class run) a (circle-above-any facts) (run .rounds j) (run .rounds (suc j)) (state run j .phase)
+        (state run j .round) (state run j .node) (s .1) (hears j (s .0)) (alike j s) (second j s (s₂ .0)) in
         decided (suc j) s₂ (at-phase j (suc j) (s .0) (s₂ .0) d)
 
     good-later : Stamps (class run) → Invariant (run .crew) (run .honest) (state run j) → Decides
     good-later a inv =
         let s₂ = validation-next run a j phase early s in
         let s₃ = decision-then run (suc j) phase early s₂ in
-        let d = good-rounds (run .crew) circle (good .wide) (quorum-positive facts) (circle-decides facts) (class run) a
-        (run .honest) (good .inside) (strong (class run)) (circle-above-any facts)
+        let d = good-rounds (run .crew) circle (good .wide) (quorum-positive facts) (circle-decides facts) small
+        (class run) a (run .honest) (good .inside) (strong (class run) (accepting .group)) (circle-above-any facts)
         (run .rounds j) (run .rounds (suc j)) (run .rounds (suc (suc j))) (state run j .phase) (state run j .round)
-        (state run j .node) (can-validate (class run) (state run j .phase)) (s .1) inv
+        (state run j .node) (can-validate a _ (s .0)) (in-turn (suc j) s₂ _ (s .0)) (s .1) inv
         (hears j (s .0)) (alike j s) (second j s (s₂ .0)) (third j s (s₂ .0) (s₃ .0)) in
         decided (suc (suc j)) s₃ (at-phase j (suc (suc j)) (s .0) (s₃ .0) d)
 

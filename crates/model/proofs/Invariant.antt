@@ -13,12 +13,13 @@ use Rattle.wire.specs.Plan.{ifPlan}
 use Rattle.wire.proofs.Tests.{tests, and-T, T-and}
 use Rattle.crew.specs.declared.Crew.{Crew}
 use Rattle.crew.specs.Thresholds.{Class, one, two, three, validAbove}
+use Rattle.crew.specs.Group.{validates}
 use Rattle.ballot.specs.Count.{tally, holds}
 use Rattle.ballot.specs.Ballot.{Ballot, inbox, votes}
 use Rattle.ballot.specs.Selection.{taken}
-use Rattle.ballot.specs.Validation.{validates, validated}
+use Rattle.ballot.specs.Validation.{validated}
 use Rattle.ballot.specs.Decision.{decision}
-use Rattle.ballot.proofs.Tests.{holds-T}
+use Rattle.ballot.proofs.Tests.{holds-T, said-turn}
 use Rattle.ballot.proofs.Counting.{count-gather, tally-le, tally-split}
 use Rattle.ballot.proofs.Slots.{same-vote, FewByzantine}
 use Rattle.ballot.proofs.Validation.{validated-slots, validated-unique}
@@ -26,7 +27,7 @@ use Rattle.ballot.proofs.Decision.{Stamps}
 use Rattle.model.proofs.Voter.{Voter, Round, selecting, validating, deciding, roundNumber}
 use Rattle.model.proofs.Voter.{opened, selects, confirms, settles}
 use Rattle.model.proofs.Engine.{Each, State, Inboxes, turned, step, Faithful, opening}
-use Rattle.model.proofs.Voters.{ifPlan-is, confirms-is, said-plan, said-turn, begins-blank}
+use Rattle.model.proofs.Voters.{ifPlan-is, confirms-is, said-plan, begins-blank}
 use Rattle.model.proofs.Voters.{kept-length, kept-other, kept-here}
 use Rattle.model.proofs.Run.{at}
 
@@ -127,8 +128,8 @@ invariant-begins crew honest plans = record {
   backing = λ q lq hq pos. omega arith;
 }
 
-module _ (class : Class) (crew : Crew) (honest : ℕ → Bool) (few : FewByzantine crew honest) (i : Inboxes) (phase : ℕ)
-    (nodes : ℕ → Voter) where
+module _ (class : Class) (crew : Crew) (honest : ℕ → Bool) (few : FewByzantine crew honest)
+    (small : crew .c ≤ crew .n) (i : Inboxes) (phase : ℕ) (nodes : ℕ → Voter) where
   invariant-selects : phase < spentPhase → Invariant crew honest (at phase selecting nodes)
       → Invariant crew honest (at phase validating (turned class crew i phase selecting nodes))
   invariant-selects t j = record {
@@ -161,7 +162,8 @@ module _ (class : Class) (crew : Crew) (honest : ℕ → Bool) (few : FewByzanti
         validated crew (inbox crew (i p)) ≢ 0 → validated crew (inbox crew (i q)) ≢ 0
         → validated crew (inbox crew (i p)) ≡ validated crew (inbox crew (i q))
     unique-validation p lp hp q lq hq =
-        validated-unique crew honest few phase (i p) (i q) λ a v w la ha s t.
+        validated-unique crew small phase honest few (i p) (i q) (f .in-turn refl p lp hp) (f .in-turn refl q lq hq)
+        λ a v w la ha s t.
         let m = holds-T (votes v) (i p a) s in
         let o = holds-T (votes w) (i q a) t in
         let x = slot-selected p lp hp a la ha (m .0) (m .1) in
@@ -221,25 +223,25 @@ module _ (class : Class) (crew : Crew) (honest : ℕ → Bool) (few : FewByzanti
 -- Any round.
 
 pub unique-in-round : (class : Class) (crew : Crew) (honest : ℕ → Bool) → FewByzantine crew honest
-    → (i : Inboxes) (phase : ℕ) (round : Round) (nodes : ℕ → Voter) → round ≡ validating
+    → crew .c ≤ crew .n → (i : Inboxes) (phase : ℕ) (round : Round) (nodes : ℕ → Voter) → round ≡ validating
     → Faithful class crew honest i (at phase round nodes) → Each crew honest λ p. Each crew honest λ q.
     validated crew (inbox crew (i p)) ≢ 0 → validated crew (inbox crew (i q)) ≢ 0
     → validated crew (inbox crew (i p)) ≡ validated crew (inbox crew (i q))
-unique-in-round class crew honest few i phase selecting nodes e f = absurd (omega (arith, ap roundNumber e))
-unique-in-round class crew honest few i phase validating nodes e f =
-    unique-validation class crew honest few i phase nodes f
-unique-in-round class crew honest few i phase deciding nodes e f = absurd (omega (arith, ap roundNumber e))
+unique-in-round class crew honest few small i phase selecting nodes e f = absurd (omega (arith, ap roundNumber e))
+unique-in-round class crew honest few small i phase validating nodes e f =
+    unique-validation class crew honest few small i phase nodes f
+unique-in-round class crew honest few small i phase deciding nodes e f = absurd (omega (arith, ap roundNumber e))
 
 pub invariant-step : (class : Class) → Stamps class → (crew : Crew) (honest : ℕ → Bool) → FewByzantine crew honest
-    → (i : Inboxes) (phase : ℕ) (round : Round) (nodes : ℕ → Voter) → phase < spentPhase
+    → crew .c ≤ crew .n → (i : Inboxes) (phase : ℕ) (round : Round) (nodes : ℕ → Voter) → phase < spentPhase
     → Invariant crew honest (at phase round nodes) → Faithful class crew honest i (at phase round nodes)
     → Invariant crew honest (step class crew i (at phase round nodes))
-invariant-step one a crew honest few i phase selecting nodes t j f = absurd a
-invariant-step two a crew honest few i phase selecting nodes t j f =
-    invariant-selects two crew honest few i phase nodes t j
-invariant-step three a crew honest few i phase selecting nodes t j f =
-    invariant-selects three crew honest few i phase nodes t j
-invariant-step class a crew honest few i phase validating nodes t j f =
-    invariant-confirms class crew honest few i phase nodes f j
-invariant-step class a crew honest few i phase deciding nodes t j f =
-    invariant-settles class crew honest few i phase nodes j
+invariant-step one a crew honest few small i phase selecting nodes t j f = absurd a
+invariant-step two a crew honest few small i phase selecting nodes t j f =
+    invariant-selects two crew honest few small i phase nodes t j
+invariant-step three a crew honest few small i phase selecting nodes t j f =
+    invariant-selects three crew honest few small i phase nodes t j
+invariant-step class a crew honest few small i phase validating nodes t j f =
+    invariant-confirms class crew honest few small i phase nodes f j
+invariant-step class a crew honest few small i phase deciding nodes t j f =
+    invariant-settles class crew honest few small i phase nodes j

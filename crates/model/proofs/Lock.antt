@@ -12,6 +12,7 @@ use lib.Dec.{T}
 use Rattle.wire.proofs.Tests.{tests, and-T}
 use Rattle.crew.specs.declared.Crew.{Crew}
 use Rattle.crew.specs.Thresholds.{Class, one, two, three}
+use Rattle.crew.proofs.Facts.{Bounds}
 use Rattle.ballot.specs.Count.{tally, holds}
 use Rattle.ballot.specs.Ballot.{Ballot, inbox, votes, lists}
 use Rattle.ballot.specs.Selection.{taken}
@@ -65,7 +66,7 @@ common-locks crew honest few reach plans v all = record {
 }
 
 module _ (class : Class) (stamps : Stamps class) (crew : Crew) (honest : ℕ → Bool) (few : FewByzantine crew honest)
-    (reach : crew .d + crew .b + crew .f ≤ crew .n) (above : crew .b < crew .d) (i : Inboxes) (phase : ℕ)
+    (bounds : Bounds crew) (i : Inboxes) (phase : ℕ)
     (nodes : ℕ → Voter) where
   -- Selection.
 
@@ -112,8 +113,8 @@ module _ (class : Class) (stamps : Stamps class) (crew : Crew) (honest : ℕ →
 
         go : (class : Class) → Stamps class → Takes v class crew (inbox crew (i q))
         go one z = absurd z
-        go two z = lock-taken-two crew reach (i q) v (l .since) shown honest few rest
-        go three z = lock-taken-three crew reach (i q) v (l .since) shown honest few rest listed
+        go two z = lock-taken-two crew (bounds .reach) (i q) v (l .since) shown honest few rest
+        go three z = lock-taken-three crew (bounds .reach) (i q) v (l .since) shown honest few rest listed
 
     lock-selects : Lock crew honest v (at phase validating (turned class crew i phase selecting nodes))
     lock-selects = record {
@@ -146,7 +147,7 @@ module _ (class : Class) (stamps : Stamps class) (crew : Crew) (honest : ℕ →
         go (no z) (yes y) = inl y
         go (no z) (no y) =
             let few-votes = byzantine-at-most-b crew (i q) (votes w) honest few λ a la ha m e x.
-            let b = slot-selected class crew honest few i phase nodes f q lq hq a la ha m e in
+            let b = slot-selected class crew honest few (bounds .small) i phase nodes f q lq hq a la ha m e in
             elim (l .selected a la ha) [ inl u ↦ omega tests | inr u ↦ b .0 u ] in
             absurd (omega (arith, validated-slots crew (inbox crew (i q)) z))
 
@@ -249,7 +250,7 @@ module _ (class : Class) (stamps : Stamps class) (crew : Crew) (honest : ℕ →
 -- Any round.
 
 module _ (class : Class) (stamps : Stamps class) (crew : Crew) (honest : ℕ → Bool) (few : FewByzantine crew honest)
-    (reach : crew .d + crew .b + crew .f ≤ crew .n) (above : crew .b < crew .d) (i : Inboxes) where
+    (bounds : Bounds crew) (i : Inboxes) where
   lock-step : (phase : ℕ) (round : Round) (nodes : ℕ → Voter)
       → Invariant crew honest (at phase round nodes) → Faithful class crew honest i (at phase round nodes)
       → (v : ℕ) → Lock crew honest v (at phase round nodes)
@@ -259,10 +260,10 @@ module _ (class : Class) (stamps : Stamps class) (crew : Crew) (honest : ℕ →
       go : (class : Class) → Stamps class → Faithful class crew honest i (at phase selecting nodes)
           → Lock crew honest v (step class crew i (at phase selecting nodes))
       go one a f = absurd a
-      go two a f = lock-selects two a crew honest few reach above i phase nodes j f v l
-      go three a f = lock-selects three a crew honest few reach above i phase nodes j f v l
-  lock-step phase validating nodes j f v l = lock-confirms class stamps crew honest few reach above i phase nodes f v l
-  lock-step phase deciding nodes j f v l = lock-settles class stamps crew honest few reach above i phase nodes v l
+      go two a f = lock-selects two a crew honest few bounds i phase nodes j f v l
+      go three a f = lock-selects three a crew honest few bounds i phase nodes j f v l
+  lock-step phase validating nodes j f v l = lock-confirms class stamps crew honest few bounds i phase nodes f v l
+  lock-step phase deciding nodes j f v l = lock-settles class stamps crew honest few bounds i phase nodes v l
 
   -- what is decided is locked, and is what was locked before
   locks : (phase : ℕ) (round : Round) (nodes : ℕ → Voter)
@@ -272,24 +273,24 @@ module _ (class : Class) (stamps : Stamps class) (crew : Crew) (honest : ℕ →
   locks phase selecting nodes j f p lp hp v d = absurd (omega (arith, ap roundNumber (d .0)))
   locks phase validating nodes j f p lp hp v d = absurd (omega (arith, ap roundNumber (d .0)))
   locks phase deciding nodes j f p lp hp v d = (
-    decision-locks class stamps crew honest few reach above i phase nodes j f p lp hp v (d .1),
-    decision-locked class stamps crew honest few reach above i phase nodes j f p lp hp v (d .1),
+    decision-locks class stamps crew honest few bounds i phase nodes j f p lp hp v (d .1),
+    decision-locked class stamps crew honest few bounds i phase nodes j f p lp hp v (d .1),
   )
 
 module _ (class : Class) (stamps : Stamps class) (crew : Crew) (honest : ℕ → Bool) (few : FewByzantine crew honest)
-    (reach : crew .d + crew .b + crew .f ≤ crew .n) (above : crew .b < crew .d) where
+    (bounds : Bounds crew) where
   pub locking-later : Locking class crew honest
   locking-later = record {
     Inv = Invariant crew honest;
     Lock = Lock crew honest;
     begins = invariant-begins crew honest;
-    common = common-locks crew honest few reach;
-    inv-step = λ i s. invariant-step class stamps crew honest few i (s .phase) (s .round) (s .node);
-    lock-step = λ i s. lock-step class stamps crew honest few reach above i (s .phase) (s .round) (s .node);
+    common = common-locks crew honest few (bounds .reach);
+    inv-step = λ i s. invariant-step class stamps crew honest few (bounds .small) i (s .phase) (s .round) (s .node);
+    lock-step = λ i s. lock-step class stamps crew honest few bounds i (s .phase) (s .round) (s .node);
     decision-locks = λ i s j f p lp hp v d.
-        locks class stamps crew honest few reach above i (s .phase) (s .round) (s .node) j f p lp hp v d .0;
+        locks class stamps crew honest few bounds i (s .phase) (s .round) (s .node) j f p lp hp v d .0;
     decision-locked = λ i s j f p lp hp v w d.
-        locks class stamps crew honest few reach above i (s .phase) (s .round) (s .node) j f p lp hp v d .1 w;
+        locks class stamps crew honest few bounds i (s .phase) (s .round) (s .node) j f p lp hp v d .1 w;
   }
 
   pub later-invariant : (s : State) → locking-later .Inv s → Invariant crew honest s

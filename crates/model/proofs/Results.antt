@@ -23,7 +23,7 @@ module _ (run : Run) (ok : Admissible run) (p : ℕ) (lp : p < run .crew .n) (hp
   ballots j = inbox (run .crew) (run .rounds j p)
 
   quorum : 0 < run .crew .d
-  quorum = quorum-positive (accepts (run .crew) (ok .crew-accepted))
+  quorum = quorum-positive (accepts (run .crew) (ok .crew-accepted) .quorum)
 
   pub no-zero-votes : (j : ℕ) → Held run j → countIf (votes 0) (inbox (run .crew) (run .rounds j p)) ≡ 0
   no-zero-votes j h = no-slot-counts (run .crew) (run .rounds j p) (votes 0) λ q lq m e t.

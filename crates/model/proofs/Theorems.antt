@@ -6,6 +6,7 @@ use mathlib.Core.Logic.{_⊎_, inl, inr, _≢_, _↔_}
 use Prim.Native.Nat.{ℕ, _≤_, _<_}
 use native.Mathlib.Omega.{arith}
 use Rattle.wire.specs.Sizes.{spentPhase}
+use Rattle.crew.proofs.Facts.{accepts, group-small}
 use Rattle.model.proofs.Voter.{validating}
 use Rattle.model.proofs.Engine.{Each, Run, class, state, Held, Admissible, GoodFor}
 use Rattle.model.proofs.Engine.{validatedAt, DecidesAt, HasDecided, NotYet, FirstDecision, lastResult}
@@ -21,7 +22,8 @@ module _ (run : Run) (ok : Admissible run) where
       → Each (run .crew) (run .honest) λ p. Each (run .crew) (run .honest) λ q.
       validatedAt run j p ≢ 0 → validatedAt run j q ≢ 0 → validatedAt run j p ≡ validatedAt run j q
   one-validation j held r =
-      unique-in-round (class run) (run .crew) (run .honest) (ok .few) (run .rounds j) (state run j .phase)
+      unique-in-round (class run) (run .crew) (run .honest) (ok .few)
+      (group-small (accepts (run .crew) (ok .crew-accepted))) (run .rounds j) (state run j .phase)
       (state run j .round) (state run j .node) r (ok .faithful j held)
 
   -- Agreement: whatever honest nodes decide, in whatever rounds, is one plan.

@@ -11,9 +11,10 @@ use Rattle.wire.specs.Plan.{ifPlan}
 use Rattle.wire.specs.Entry.{Entry, entriesFrom}
 use Rattle.crew.specs.declared.Crew.{Crew}
 use Rattle.crew.specs.Thresholds.{Class, one, two, three}
+use Rattle.crew.specs.Group.{validates}
 use Rattle.ballot.specs.Ballot.{Ballot}
 use Rattle.ballot.specs.Selection.{taken}
-use Rattle.ballot.specs.Validation.{validates, validated}
+use Rattle.ballot.specs.Validation.{validated}
 use Rattle.ballot.specs.Decision.{decision}
 
 -- the fields of a record that rounds change

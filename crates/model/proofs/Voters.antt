@@ -37,15 +37,6 @@ said-plan {a} v e = elim (ifPlan-is v (some a) none) [
   | inr z ↦ (z .0, Option·some-injective _ _ (sym (z .1) ∙ e))
 ]
 
--- a node that says something only where it is its turn
-pub said-turn : {o : Option Ballot} {m : Ballot} (turn : Bool) → cond turn o none ≡ some m → T turn × (o ≡ some m)
-said-turn true e = (tt, e)
-said-turn false e = absurd (Option·none-ne-some _ e)
-
-pub turn-says : {o : Option Ballot} (turn : Bool) → T turn → cond turn o none ≡ o
-turn-says true t = refl
-turn-says false t = absurd t
-
 -- What validation does to base and stamp together.
 pub confirms-is : (v phase base stamp : ℕ)
     → ((v ≡ 0) × (ifPlan v v base ≡ base) × (ifPlan v phase stamp ≡ stamp))

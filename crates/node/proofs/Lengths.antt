@@ -6,7 +6,7 @@ use mathlib.Core.Option.{none, some}
 use Prim.Native.Nat.{ℕ, _≤_, _<_}
 use native.Mathlib.Omega.{arith}
 use lib.ListN.{length}
-use lib.Dec.{leb, eqb}
+use lib.Dec.{eqb}
 use Rattle.wire.specs.Outcome.{Outcome, accepted, refused, valueOr}
 use Rattle.wire.specs.Sizes.{spentPhase}
 use Rattle.message.specs.Fields.{Message}
@@ -15,13 +15,13 @@ use Rattle.writer.specs.Writing.{selectionOf, validationOf, decisionOf}
 use Rattle.writer.proofs.HistoryLaws.{listed-count}
 use Rattle.message.proofs.EncodeLaws.{encode-length}
 use Rattle.node.specs.declared.Node.{Node}
-use Rattle.node.specs.Sending.{listedPhases, comingOf, encoded, comingBytes, writeComingOf}
+use Rattle.node.specs.Sending.{listedPhases, confirming, comingOf, encoded, comingBytes, writeComingOf}
 use Rattle.node.proofs.Coming.{listed-before}
 use Rattle.node.proofs.SendLaws.{write-accepted}
 
 pub coming-length : (d : Node) → d .phase < spentPhase → length (comingBytes d) ≤ slotSize
 unfolding comingOf
-coming-length d left = go (eqb (d .round) 1) (eqb (d .round) 2) (leb 1 (d .select))
+coming-length d left = go (eqb (d .round) 1) (eqb (d .round) 2) (confirming d)
   where
     selects : Message
     selects = selectionOf (d .run) (d .phase) (d .vote) (d .stamp) (d .history) (listedPhases d)

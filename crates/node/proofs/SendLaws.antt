@@ -22,7 +22,15 @@ use Rattle.writer.specs.declared.Writing.the-variants.{Refused}
 use Rattle.message.proofs.EncodeLaws.{encode-length}
 use Rattle.node.specs.declared.Node.{Node}
 use Rattle.node.specs.Soundness.{sound}
-use Rattle.node.specs.Sending.{listedPhases, encoded, comingBytes, writeComingOf, comingBufferOf, Writes}
+use Rattle.node.specs.Sending.{
+  listedPhases,
+  confirming,
+  encoded,
+  comingBytes,
+  writeComingOf,
+  comingBufferOf,
+  Writes,
+}
 use Rattle.node.specs.Promises.{Due}
 use Rattle.wire.specs.Bytes.{bufferAfter}
 use Rattle.node.proofs.Facts.{sound-facts}
@@ -54,7 +62,7 @@ module _ {d : Node} (due : Due d) (buffer : List ℕ) where
       (record { answer = simp (same, ok .before) at (wrote .answer); left = simp (same, ok .before) at (wrote .left) })
 
   -- silence is a length of 0, into any buffer
-  pub silence-written : d .round ≡ 2 → d .select ≡ 0 → Writes d buffer (accepted 0) buffer
+  pub silence-written : d .round ≡ 2 → confirming d ≡ false → Writes d buffer (accepted 0) buffer
   unfolding writeComingOf
   silence-written two silent =
       let said = coming-silent d two silent in

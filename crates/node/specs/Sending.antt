@@ -1,7 +1,8 @@
--- What a node writes in its coming round, what writing it answers, and what it leaves in the lent buffer: document 01.
+-- What a node writes in its coming round, what writing it answers, and what it leaves in the lent buffer: document 01,
+-- and 02, C-13.
 use Prim.Native.Nat.{ℕ}
 use mathlib.Core.Path.{_≡_}
-use mathlib.Core.Bool.{cond}
+use mathlib.Core.Bool.{Bool, cond, _&&_}
 use mathlib.Core.List.{List, []}
 use mathlib.Core.Option.{Option, none, some}
 use lib.ListN.{length}
@@ -9,6 +10,7 @@ use lib.Dec.{leb, ltb, eqb}
 use Rattle.wire.specs.Outcome.{Outcome, accepted, refused, require}
 use Rattle.wire.specs.Bytes.{bufferAfter}
 use Rattle.wire.specs.Sizes.{spentPhase}
+use Rattle.crew.specs.Group.{validates}
 use Rattle.message.specs.Fields.{Message}
 use Rattle.message.specs.Encoding.{encode}
 use Rattle.writer.specs.Writing.{selectionOf, validationOf, decisionOf, Written}
@@ -24,6 +26,10 @@ use Rattle.node.specs.declared.Sent.{Sent}
 abbrev pub listedPhases : Node → ℕ
 listedPhases d = cond (eqb (d .crew .class) 3) (d .phase) 0
 
+-- whether a node has something to say in round 2: it validates in this phase, and has selected a plan
+abbrev pub confirming : Node → Bool
+confirming d = validates (d .crew) (d .phase) (d .own) && leb 1 (d .select)
+
 -- The message of the coming round; none is silence.
 -- 01: "A node writes: round 1 vote, stamp and, in class 3 only, its non-empty entries of earlier phases; round 2
 -- select, or silence (length 0, nothing written) if select is 0; round 3 vote and stamp."
@@ -32,7 +38,7 @@ comingOf d =
     cond (eqb (d .round) 1)
     (some (selectionOf (d .run) (d .phase) (d .vote) (d .stamp) (d .history) (listedPhases d)))
     (cond (eqb (d .round) 2)
-    (cond (leb 1 (d .select)) (some (validationOf (d .run) (d .phase) (d .select))) none)
+    (cond (confirming d) (some (validationOf (d .run) (d .phase) (d .select))) none)
     (some (decisionOf (d .run) (d .phase) (d .vote) (d .stamp))))
 
 -- a message's bytes; silence has none

@@ -13,7 +13,7 @@ use Rattle.node.specs.declared.Starting.{Starting}
 use Rattle.node.specs.declared.Starting.the-variants.{Accepted, Refused}
 use Rattle.node.specs.declared.Started.{Started}
 
--- 01: "Starting a node: 1 to 4; 5 own number not below n; 6 plan 0."
+-- 01: "Starting a node: 1 to 4; 5 own number not below n; 6 plan 0." What a crew is refused for comes before 5.
 unfoldable pub startOf : Crew → ℕ → ℕ → ℕ → Outcome Node
 startOf crew own run plan =
     after (acceptOf crew)
@@ -21,13 +21,13 @@ startOf crew own run plan =
     (require (leb 1 plan) 6
     (accepted (begun crew own run plan))))
 
--- 01's number of each refusal; a crew's is the crew's own
+-- the papers' number of each refusal; a crew's is the crew's own
 abbrev pub startNumber : StartRefusal → ℕ
 startNumber (CrewRefused why) = acceptNumber why
 startNumber Own = 5
 startNumber NoPlan = 6
 
--- what an answer of `start` says in 01's terms; the record stands beside it
+-- what an answer of `start` says in the papers' terms; the record stands beside it
 abbrev pub startAnswer : Starting → Outcome (Unit {0})
 startAnswer Accepted = accepted tt
 startAnswer (Refused why) = refused (startNumber why)

@@ -47,7 +47,7 @@ pub struct Node {
     pub history: [Plan; PHASES],
 }
 
-// Why a start is refused; `startNumber` in specs/Starting.antt has 01's numbers.
+// Why a start is refused; `startNumber` in specs/Starting.antt has the papers' numbers.
 pub enum StartRefusal {
     // The crew is turned down.
     Crew(crew::AcceptRefusal),
@@ -262,7 +262,8 @@ impl Node {
         0
     }
 
-    // Writes the message of the coming round. Silence is a length of 0, for which any buffer is long enough.
+    // Writes the message of the coming round. Silence is a length of 0, for which any buffer is long enough: in round 2
+    // of a node that has no plan to confirm, or whose turn it is not.
     fn write_coming(self, buf: &mut [u8]) -> Writing
         requires { ⌜ Due self ⌝ }
         ensures { λ r. ⌜ Writes self (now (buf .entry)) (writeAnswer r) (now (buf .exit)) ⌝ }
@@ -281,7 +282,8 @@ impl Node {
             );
         }
         if self.round == Node::VALIDATION {
-            if Node::NO_PLAN < self.select {
+            let validates = crew::is_validator(self.crew, self.phase, self.own);
+            if validates & (Node::NO_PLAN < self.select) {
                 return writer::write_validation(buf, self.run, self.phase, self.select);
             }
             return Writing::Bytes(0);

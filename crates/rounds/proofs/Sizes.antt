@@ -43,7 +43,7 @@ three-is crew from to is = go (eqb (crew .class) 1) refl (eqb (crew .class) 2) r
 pub sound-own : (d : Node) (bytes : List ℕ) → sound d ≡ true → length bytes ≡ slotSize * d .crew .n
     → OwnInbox (d .crew) bytes
 sound-own d bytes ok whole =
-    record { places = accepts (d .crew) (sound-facts d ok .crew) .size-to; whole = whole }
+    record { places = accepts (d .crew) (sound-facts d ok .crew) .quorum .size-to; whole = whole }
 
 -- and where the record is not spent
 pub sound-heard : (d : Node) (asked : Bool) (bytes : List ℕ) (fill : ℕ) → sound d ≡ true → d .phase < spentPhase
@@ -51,7 +51,7 @@ pub sound-heard : (d : Node) (asked : Bool) (bytes : List ℕ) (fill : ℕ) → 
     → Heard (comingRound d asked) bytes fill
 sound-heard d asked bytes fill ok early whole is =
     let facts = sound-facts d ok in
-    let crew = accepts (d .crew) (facts .crew) in
+    let crew = accepts (d .crew) (facts .crew) .quorum in
     record {
       own = sound-own d bytes ok whole;
       class-from = crew .class-from;

@@ -44,7 +44,8 @@ heardBy round bytes =
 -- the marks of the slots that count with this round
 abbrev pub marksWith : Round → List ℕ → ℕ
 marksWith round bytes =
-    marksOf (countsIn (round .header .run) (round .header .phase) (round .header .kind) bytes) (round .crew .n)
+    marksOf (countsIn (round .crew) (round .header .run) (round .header .phase) (round .header .kind) bytes)
+    (round .crew .n)
 
 -- a plan as an answer of selection, 0 as none; and the plan of an answer
 abbrev pub planIf : ℕ → Choice

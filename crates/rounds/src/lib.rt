@@ -23,7 +23,7 @@ ghost use Rattle.wire.specs.Outcome.{accepted};
 ghost use Rattle.wire.specs.Marks.{marksOf};
 ghost use Rattle.crew.specs.Parts.{mostNodes};
 ghost use Rattle.node.specs.Place.{roundAfter};
-ghost use Rattle.inbox.specs.Columns.{columns, polled};
+ghost use Rattle.inbox.specs.Columns.{columns, Spoken, polled};
 ghost use Rattle.tally.specs.Rules.{slotsOf, choiceAs};
 ghost use Rattle.rounds.specs.Taking.{
   afterSelection,
@@ -202,7 +202,19 @@ fn rule_on_columns(
     planned(tally::decide(crew, header.phase, present, votes, stamps))
 }
 
-// What the round comes to. The inbox is walked once, into columns, and the rule runs over these.
+// Of the slots that are present, those whose nodes speak in the round: in a validation only the phase's validators do.
+fn speaking(round: Round, present: [bool; MOST_NODES]) -> [bool; MOST_NODES]
+    ensures { λ r. ⌜ Spoken (round .crew) (round .header) present r ⌝ }
+{
+    let crew = round.crew;
+    let header = round.header;
+    if header.kind == message::VALIDATION {
+        return crew::validators_among(crew, header.phase, present);
+    }
+    present
+}
+
+// What the round comes to. The inbox is walked once, into columns, and the rule runs over the slots in them that count.
 fn outcome_with(round: Round, inbox: &[u8], histories: &mut [Plan]) -> Choice
     requires { ⌜ Walkable round (now inbox) (now histories) ⌝ }
     ensures { λ r. ⌜ choiceAs r ≡ outcomeOf round (now (inbox .entry)) ⌝ }
@@ -219,7 +231,8 @@ fn outcome_with(round: Round, inbox: &[u8], histories: &mut [Plan]) -> Choice
         &mut stamps,
         histories,
     );
-    rule_on_columns(round, &present, &votes, &stamps, histories)
+    let counting = speaking(round, present);
+    rule_on_columns(round, &counting, &votes, &stamps, histories)
 }
 
 // Without histories: only a selection in class 3 looks at them.
@@ -432,7 +445,8 @@ fn marks_with(round: Round, inbox: &[u8]) -> u32
         &mut stamps,
         &mut none[..0],
     );
-    marks_in(&present, n)
+    let counting = speaking(round, present);
+    marks_in(&counting, n)
 }
 
 // Tells which slots count in the coming round with this inbox. Refused as taking it is.

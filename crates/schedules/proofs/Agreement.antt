@@ -95,7 +95,7 @@ module _ (s : Schedule) (crew : Crew) (ok : acceptOf crew ≡ accepted tt) (p : 
       let empty = carries .losses j over (w .1) (w .2) in
       omega (
         arith,
-        quorum-positive (accepts crew ok),
+        quorum-positive (accepts crew ok .quorum),
         w .3,
         tally-none (crew .n),
         tally-le (λ q. holds (isFor crew (phaseAt crew j) v) (ballotAt d (w .1) q)) nobody-of (crew .n) (λ q below t.

@@ -1,8 +1,8 @@
 -- The empty inbox: it is as long as an inbox has to be, it holds bytes, and nothing counts in it.
 use mathlib.Core.Path.{_≡_, refl, ap, _∙_}
-use mathlib.Core.Bool.{Bool, true, false, _&&_}
+use mathlib.Core.Bool.{Bool, true, false, cond, _&&_}
 use mathlib.Core.List.{List}
-use mathlib.Core.Option.{none}
+use mathlib.Core.Option.{Option, none}
 use Prim.Native.Nat.{ℕ, _+_, _*_, _<_}
 use native.Mathlib.Omega.{arith}
 use lib.ListN.{length, getD, drop, replicate, length-replicate}
@@ -13,8 +13,10 @@ use Rattle.wire.specs.Outcome.{refused}
 use Rattle.wire.specs.Bytes.{AreBytes}
 use Rattle.wire.proofs.Arrays.{same-everywhere}
 use Rattle.wire.proofs.Tests.{both-true}
+use Rattle.crew.specs.Group.{speaks}
 use Rattle.message.specs.Layout.{headerSize, slotSize}
 use Rattle.message.specs.Reading.{lengthAt, framed, frontOf, readOf}
+use Rattle.ballot.specs.Ballot.{Ballot}
 use Rattle.node.specs.declared.Node.{Node}
 use Rattle.inbox.specs.Inbox.{slotAt, counted, ballotAt}
 use Rattle.schedules.specs.Schedule.{emptyInbox}
@@ -49,6 +51,11 @@ no-length s e = go (framed s) refl
 
 pub nothing-counts : (d : Node) (n q : ℕ) → ballotAt d (emptyInbox n) q ≡ none
 nothing-counts d n q =
-    ap (counted (d .run) (d .phase) (d .round))
+    ap (λ read. cond (speaks (d .crew) (d .phase) (d .round) q) (counted (d .run) (d .phase) (d .round) read) none)
     (no-length (slotAt (emptyInbox n) q)
     (omega (arith, slot-at n q 0 (omega arith), slot-at n q 1 (omega arith))))
+    ∙ silence (speaks (d .crew) (d .phase) (d .round) q)
+  where
+    silence : (turn : Bool) → _≡_ {A = Option Ballot} (cond turn none none) none
+    silence true = refl
+    silence false = refl

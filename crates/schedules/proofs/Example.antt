@@ -9,6 +9,7 @@ use native.Mathlib.Omega.{arith}
 use lib.ListN.{length}
 use lib.Dec.{T, leb, eqb, leb→le, eqb→eq}
 use Rattle.crew.specs.Acceptance.{acceptOf}
+use Rattle.crew.specs.Group.{among, validates}
 use Rattle.message.specs.Bounds.{entriesOk}
 use Rattle.message.specs.Encoding.{entryBytes, encode}
 use Rattle.message.specs.Reading.{entriesIn, bodyAt, tested, frontOf, allZero, readOf}
@@ -83,7 +84,7 @@ unfolding
     acceptOf startOf begun made recordOf callsOf afterCalls roundsIn callsIn callsBefore
     takeOf sound emptyFrom afterRound readOf frontOf allZero tested bodyAt entriesIn entriesOk countIf gather
     lists least leastOf possible backed backing enough selection leading mostVoted anyPlan taken
-    valid validated decides decision comingOf writeComingOf encode entryBytes entriesFrom
+    among validates valid validated decides decision comingOf writeComingOf encode entryBytes entriesFrom
     allBytes sameBytes everyBelow wroteFront slotOk takeOk eventsOk
 all-ok = tt
 

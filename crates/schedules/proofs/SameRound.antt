@@ -54,7 +54,7 @@ round-wrote d (c ∷ cs) taken w (inr h) (inr wrote) =
 -- what a message says of its place is the record's
 says-place : {d : Node} {m : Message} → Says d m → (m .phase ≡ d .phase) × (kindOf (m .body) ≡ d .round)
 says-place (selects one) = (refl, sym one)
-says-place (confirms two plan) = (refl, sym two)
+says-place (confirms two turn plan) = (refl, sym two)
 says-place (decides three) = (refl, sym three)
 
 -- a message that counts is of the coming round

@@ -1,4 +1,4 @@
--- What the lines of a script ask for: document 01, 'The drill'.
+-- What the lines of a script ask for: document 01, 'The drill', and 02, C-13.
 use Prim.Native.Nat.{ℕ}
 use mathlib.Core.Bool.{Bool, true, false, cond, _&&_}
 use mathlib.Core.List.{List, [], _∷_}
@@ -28,11 +28,11 @@ has w k = w .good && eqb (w .count) k
 abbrev pub byte : Numbers → ℕ → Bool
 byte w i = leb (nth w i) 255
 
--- 01: "Line 1: class n b f D."; each is one byte
+-- 01: "Line 1: class n b f D."; 02: "The drill's line 1 takes c as a sixth field."; each is one byte
 abbrev pub crewLineOf : Numbers → CrewLine
 crewLineOf w =
-    cond (has w 5 && byte w 0 && byte w 1 && byte w 2 && byte w 3 && byte w 4)
-    (Crew (crewOf (nth w 0) (nth w 1) (nth w 2) (nth w 3) (nth w 4))) NoCrew
+    cond (has w 6 && byte w 0 && byte w 1 && byte w 2 && byte w 3 && byte w 4 && byte w 5)
+    (Crew (crewOf (nth w 0) (nth w 1) (nth w 2) (nth w 3) (nth w 4) (nth w 5))) NoCrew
 
 abbrev pub noPlans : Plans
 noPlans = record { good = false; plans = replicate mostNodes 0 }

@@ -42,7 +42,7 @@ pub struct Numbers {
     pub values: [Field; MOST_NUMBERS],
 }
 
-// Line 1: five numbers of one byte. Whether they are a crew that is accepted is not asked here.
+// Line 1: six numbers of one byte. Whether they are a crew that is accepted is not asked here.
 pub enum CrewLine {
     Crew(Crew),
     NoCrew,
@@ -200,12 +200,13 @@ fn to_crew(w: Numbers) -> CrewLine
 {
     let v = w.values;
     let good = w.good
-        & (w.count == 5)
+        & (w.count == 6)
         & (v[0] <= 255)
         & (v[1] <= 255)
         & (v[2] <= 255)
         & (v[3] <= 255)
-        & (v[4] <= 255);
+        & (v[4] <= 255)
+        & (v[5] <= 255);
     if good {
         let crew = Crew {
             class: v[0] as u8,
@@ -213,6 +214,7 @@ fn to_crew(w: Numbers) -> CrewLine
             b: v[2] as u8,
             f: v[3] as u8,
             d: v[4] as u8,
+            c: v[5] as u8,
         };
         return CrewLine::Crew(crew);
     }

@@ -84,7 +84,7 @@ highest-within test number bound (suc n) =
     go true false e same =
         rw (zero-add rest) (same ∙ sym (lower (highest test number n) (ltb-false bound (number n) e)))
 
--- twice a count passes n + b where the count passes half of it
+-- twice a count passes a sum where the count passes half of it
 half : (sum k : ℕ) → ltb sum (2 * k) ≡ ltb (sum / 2) k
 half sum k = go (ltb (sum / 2) k) refl
   where

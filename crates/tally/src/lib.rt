@@ -227,13 +227,14 @@ pub fn select(
     take_on(crew, choice, present, votes)
 }
 
-// The plan that more than half of n + b slots hold, 0 where there is none.
+// The plan that more than half of c + b slots hold, 0 where there is none. Which slots are present is settled before:
+// those of the phase's validators.
 pub fn validate(crew: Crew, present: &[bool; MOST_NODES], votes: &[Plan; MOST_NODES]) -> Plan
     ensures { λ r. ⌜ ((stamps : List ℕ) (h : ℕ → List Entry) → r ≡ validated crew
         (polled (columns (now (present .entry)) (now (votes .entry)) stamps) h (slotsOf crew))) ⌝ }
 {
     let n = slots_of(crew);
-    let half = (crew.n as u16 + crew.b as u16) / 2;
+    let half = (crew.c as u16 + crew.b as u16) / 2;
     least_of(counts::find_plans(present, present, votes, n, half + 1))
 }
 

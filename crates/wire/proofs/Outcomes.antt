@@ -2,7 +2,7 @@
 use mathlib.Core.Path.{_≡_, refl, sym, ap}
 use mathlib.Core.Bool.{Bool, true, false, true≢false}
 use Prim.Native.Nat.{ℕ}
-use Rattle.wire.specs.Outcome.{Outcome, accepted, refused, require, isAccepted}
+use Rattle.wire.specs.Outcome.{Outcome, accepted, refused, require, after, isAccepted}
 
 -- no operation is refused and accepted
 pub refused-not-accepted : {A : Type 0} (number : ℕ) (value : A) → refused number ≡ accepted value → ⊥
@@ -17,6 +17,12 @@ pub passed : {A : Type 0} (test : Bool) (number : ℕ) (next : Outcome A) {value
     → require test number next ≡ accepted value → (test ≡ true) × (next ≡ accepted value)
 passed true number next e = (refl, e)
 passed false number next e = absurd (refused-not-accepted number _ e)
+
+-- of two operations that are accepted together each is
+pub both-accepted : {A : Type 0} (first : Outcome (Unit {0})) (next : Outcome A) {value : A}
+    → after first next ≡ accepted value → (first ≡ accepted tt) × (next ≡ accepted value)
+both-accepted (accepted tt) next e = (refl, e)
+both-accepted (refused number) next e = absurd (refused-not-accepted number _ e)
 
 -- accepted values are equal where their outcomes are
 pub same-value : {A : Type 0} {a b : A} → accepted a ≡ accepted b → a ≡ b

@@ -61,6 +61,13 @@ pub T-dec : (a : Bool) → T a ⊎ (T a → ⊥)
 T-dec true = inl tt
 T-dec false = inr (λ h. h)
 
+-- two tests that go with each other are the same
+pub same-test : (a b : Bool) → (T a → T b) → (T b → T a) → a ≡ b
+same-test true true f g = refl
+same-test true false f g = absurd (f tt)
+same-test false true f g = absurd (g tt)
+same-test false false f g = refl
+
 -- two tests that pass together pass each
 pub both-true : (a b : Bool) → a && b ≡ true → (a ≡ true) × (b ≡ true)
 both-true true true e = (refl, refl)

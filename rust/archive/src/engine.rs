@@ -21,9 +21,10 @@ pub struct Archive {
     pub absence: PathBuf,
 }
 
-/// The five numbers of a crew, in the order of a call.
-pub fn numbers(crew: Crew) -> [u8; 5] {
-    [crew.class, crew.n, crew.b, crew.f, crew.d]
+/// The six numbers of a crew, in the order of a call.
+pub fn numbers(crew: Crew) -> [u8; 6] {
+    let Crew { class, n, b, f, d, c } = crew;
+    [class, n, b, f, d, c]
 }
 
 /// The paper's refusal of this number.

@@ -4,8 +4,8 @@
 use rail::{FIELDS, RECORD};
 use second_engine::{plan, Body, Crew, Message, Node};
 
-/// Where the fields of a record stand in its image, each behind the one before it. The crew is at the front.
-const RECORD_OWN: usize = 5;
+/// Where the fields of a record stand in its image, each behind the one before it. The crew's six are at the front.
+const RECORD_OWN: usize = 6;
 const RECORD_RUN: usize = RECORD_OWN + 1;
 const RECORD_PHASE: usize = RECORD_RUN + RUN;
 const RECORD_ROUND: usize = RECORD_PHASE + 1;
@@ -29,9 +29,9 @@ const RUN: usize = size_of::<u32>();
 
 /// The image of a record.
 pub fn of(node: &Node) -> [u8; RECORD] {
-    let Crew { class, n, b, f, d } = node.crew;
+    let Crew { class, n, b, f, d, c } = node.crew;
     let mut image = [0; RECORD];
-    image[..RECORD_OWN].copy_from_slice(&[class, n, b, f, d]);
+    image[..RECORD_OWN].copy_from_slice(&[class, n, b, f, d, c]);
     image[RECORD_OWN] = node.own;
     put_run(&mut image, RECORD_RUN, node.run);
     image[RECORD_PHASE] = node.phase;
@@ -50,7 +50,7 @@ pub fn of(node: &Node) -> [u8; RECORD] {
 /// The record of an image. Any bytes of that length are the image of one record.
 pub fn node(image: &[u8; RECORD]) -> Node {
     Node {
-        crew: Crew::new(image[0], image[1], image[2], image[3], image[4]),
+        crew: Crew::new(image[0], image[1], image[2], image[3], image[4], image[5]),
         own: image[RECORD_OWN],
         run: run_at(image, RECORD_RUN),
         phase: image[RECORD_PHASE],

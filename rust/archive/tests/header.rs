@@ -21,7 +21,7 @@ fn numbers() -> BTreeMap<&'static str, usize> {
 
 /// Each field has bytes that no other has, so that an offset finds its own.
 const NODE: Node = Node {
-    crew: Crew { class: 1, n: 2, b: 3, f: 4, d: 5 },
+    crew: Crew { class: 1, n: 2, b: 3, f: 4, d: 5, c: 24 },
     own: 6,
     run: 0x0a09_0807,
     phase: 11,
@@ -48,6 +48,7 @@ fn offsets_are_those_of_the_layout() {
         ("RAIL_RECORD_B", &record, 3),
         ("RAIL_RECORD_F", &record, 4),
         ("RAIL_RECORD_D", &record, 5),
+        ("RAIL_RECORD_C", &record, 24),
         ("RAIL_RECORD_OWN", &record, 6),
         ("RAIL_RECORD_RUN", &record, 7),
         ("RAIL_RECORD_PHASE", &record, 11),
@@ -98,7 +99,7 @@ fn limits_are_the_same() {
 
 /// Every refusal that a function of the archive answers. 23 is not among them: the window over finished runs is no part
 /// of the archive, and the program over it prints no numbers of refusals.
-fn refusals() -> [(&'static str, u8); 21] {
+fn refusals() -> [(&'static str, u8); 22] {
     [
         ("RAIL_CLASS", Refusal::Class.number()),
         ("RAIL_SIZE", Refusal::Nodes.number()),
@@ -116,6 +117,7 @@ fn refusals() -> [(&'static str, u8); 21] {
         ("RAIL_INBOX", Refusal::InboxLength.number()),
         ("RAIL_RANGE", Refusal::Range.number()),
         ("RAIL_RESIDUE", Refusal::Residue.number()),
+        ("RAIL_GROUP", Refusal::Group.number()),
         ("RAIL_COUNT", Refusal::Count.number()),
         ("RAIL_AMOUNT", Refusal::Amount.number()),
         ("RAIL_WRONG_RECORD", Refused::WRONG_RECORD.0),

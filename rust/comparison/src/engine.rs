@@ -33,7 +33,7 @@ pub struct Second {
 
 impl Engine for Second {
     fn accept(&self, crew: Crew) -> Result<(), Refusal> {
-        crew.accept()
+        crew.accept_mutated(self.mutation)
     }
 
     fn least(&self, class: u8, b: u8, f: u8) -> Result<LeastCrew, Refusal> {
@@ -41,11 +41,11 @@ impl Engine for Second {
     }
 
     fn start(&self, crew: Crew, own: u8, run: u32, plan: Plan) -> Result<Node, Refusal> {
-        Node::start(crew, own, run, plan)
+        Node::start_mutated(crew, own, run, plan, self.mutation)
     }
 
     fn write(&self, node: &mut Node, buffer: &mut [u8]) -> Result<usize, Refusal> {
-        node.write(buffer)
+        node.write_mutated(buffer, self.mutation)
     }
 
     fn read(&self, slice: &[u8]) -> Result<Message, Refusal> {

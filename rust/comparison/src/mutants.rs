@@ -7,12 +7,15 @@ use crate::lookups;
 use crate::pair::Pair;
 use crate::regrouping::{self, Regrouping};
 use crate::{schedules, splits};
-use generators::{absences, Random};
+use generators::{absences, crews, Random};
 use second_engine::Mutation;
 
 /// How many cases of each operation that has a wrong rule somewhere.
 #[derive(Clone, Copy, Debug, PartialEq, Eq)]
 pub struct Cases {
+    pub accepts: u64,
+    pub starts: u64,
+    pub writes: u64,
     pub reads: u64,
     pub rounds: u64,
     pub marks: u64,
@@ -34,10 +37,13 @@ pub const IN_REFUSALS: [Mutation; 4] = [
     Mutation::WrittenBeforeRefused,
 ];
 
-/// The mutants of rounds and of reading that are wrong in which slots count, so that marks have to tell them too.
-const IN_COUNTING: [Mutation; 5] = [
+/// The mutants of rounds, of turns and of reading that are wrong in which slots count, so that marks have to tell them
+/// too.
+const IN_COUNTING: [Mutation; 7] = [
     Mutation::MalformedSlotSpoils,
     Mutation::DistinctContents,
+    Mutation::OthersCount,
+    Mutation::TurnOnePhaseOff,
     Mutation::ResidueIgnored,
     Mutation::FirstByteOfResidue,
     Mutation::ResidueOfDecisions,
@@ -51,6 +57,9 @@ pub const PAST_THE_LIMIT: [Mutation; 2] = [Mutation::OneRecordTooMany, Mutation:
 pub fn tell_all(engine: &dyn Engine, cases: Cases) -> Result<(), String> {
     tell_rounds(engine, cases)?;
     tell_reading(engine, cases)?;
+    tell_turns(engine, cases)?;
+    tell_crews(engine, cases)?;
+    tell_small_crews(engine)?;
     tell_marks(engine, cases)?;
     tell_lookups(engine)?;
     tell_splits(engine, cases)?;
@@ -108,6 +117,68 @@ fn tell_reading(engine: &dyn Engine, cases: Cases) -> Result<(), String> {
         let [reads, others @ ..] = told(engine, mutation, cases);
         let is_in_rounds = others.iter().all(|&count| count > 0);
         check_told(mutation, reads > 0 && (is_in_rounds || mutation == Mutation::ResidueFirst))?;
+    }
+    Ok(())
+}
+
+/// The mutants of turns. Writes have to tell those that are wrong in who speaks, rounds those that are wrong in what
+/// counts or in the test; runs and schedules, which write and take, have to tell every one.
+fn tell_turns(engine: &dyn Engine, cases: Cases) -> Result<(), String> {
+    let Cases { writes, rounds, runs, schedules, drills, .. } = cases;
+    print!("mutants are told by how many of {writes} writes, {rounds} rounds, ");
+    println!("{runs} runs, {schedules} schedules, {drills} drills:");
+    let cases = [
+        (Operation::Write, writes),
+        (Operation::Round, rounds),
+        (Operation::Run, runs),
+        (Operation::Schedule, schedules),
+        (Operation::Drill, drills),
+    ];
+    for mutation in Mutation::MUTANTS_OF_TURNS {
+        let [writes, rounds, runs, schedules, _] = told(engine, mutation, cases);
+        let is_in_speaking = matches!(mutation, Mutation::OthersSpeak | Mutation::TurnOnePhaseOff);
+        // What nobody hears changes no result.
+        let is_in_rounds = mutation != Mutation::OthersSpeak;
+        let is_where_it_is_wrong = (writes > 0 || !is_in_speaking) && (rounds > 0 || !is_in_rounds);
+        check_told(mutation, is_where_it_is_wrong && runs > 0 && schedules > 0)?;
+    }
+    Ok(())
+}
+
+/// The mutants of crews. Accepting and starting have to tell every one. All but the one that only refuses with another
+/// number take records for sound that are not, which shows in writes, and read lines that are bad, in some drills.
+fn tell_crews(engine: &dyn Engine, cases: Cases) -> Result<(), String> {
+    let Cases { accepts, starts, writes, drills, .. } = cases;
+    println!("mutants are told by how many of {accepts} accepts, {starts} starts, {writes} writes, {drills} drills:");
+    let cases = [
+        (Operation::Accept, accepts),
+        (Operation::Start, starts),
+        (Operation::Write, writes),
+        (Operation::Drill, drills),
+    ];
+    for mutation in Mutation::MUTANTS_OF_CREWS {
+        let [accepts, starts, writes, _] = told(engine, mutation, cases);
+        let is_in_records = writes > 0 || mutation == Mutation::GroupBeforeQuorum;
+        check_told(mutation, accepts > 0 && starts > 0 && is_in_records)?;
+    }
+    Ok(())
+}
+
+/// The mutants of crews on every crew of small values, each of which the engine accepts or refuses once.
+fn tell_small_crews(engine: &dyn Engine) -> Result<(), String> {
+    let (mut count, mut told) = (0, [0; Mutation::MUTANTS_OF_CREWS.len()]);
+    for crew in crews::small() {
+        let answer = engine.accept(crew);
+        let is_told = |mutation: Mutation| Second { mutation }.accept(crew) != answer;
+        told.iter_mut()
+            .zip(Mutation::MUTANTS_OF_CREWS)
+            .for_each(|(told, mutation)| *told += u32::from(is_told(mutation)));
+        count += 1;
+    }
+    println!("mutants are told by how many of {count} small crews:");
+    for (mutation, told) in Mutation::MUTANTS_OF_CREWS.into_iter().zip(told) {
+        println!("  {mutation:?}: {told}");
+        check_told(mutation, told > 0)?;
     }
     Ok(())
 }

@@ -7,9 +7,10 @@ use crate::engine::Engine;
 use crate::pair::Pair;
 use crate::slots::{check_premise, counting_slots, is_holding, Slot};
 use generators::runs::{self, Scene, Setup, Weather};
-use generators::Random;
+use generators::{turns, Random};
 use second_engine::inbox::SLOT;
 use second_engine::message::VALIDATION_LENGTH;
+use second_engine::node::VALIDATION;
 use second_engine::{Crew, Node, Refusal, Selection};
 
 /// What happened in a run, to see that runs of all sorts are made.
@@ -22,6 +23,14 @@ pub struct Tally {
     pub good_phases: usize,
     /// First decisions in the round 3 of a good phase.
     pub decided_in_good: usize,
+    /// Of crews in which not all nodes validate in a phase: good phases,
+    pub good_in_turn: usize,
+    /// phases in which the circle has too few validators, and that are good but for that,
+    pub short_of_validators: usize,
+    /// and of these such as leave a circle node undecided.
+    pub left_undecided: usize,
+    /// Messages that would count in round 2 if it were their node's turn.
+    pub out_of_turn: usize,
     pub common_starts: usize,
     pub refused: usize,
 }
@@ -34,6 +43,10 @@ impl Tally {
         self.undecided += other.undecided;
         self.good_phases += other.good_phases;
         self.decided_in_good += other.decided_in_good;
+        self.good_in_turn += other.good_in_turn;
+        self.short_of_validators += other.short_of_validators;
+        self.left_undecided += other.left_undecided;
+        self.out_of_turn += other.out_of_turn;
         self.common_starts += other.common_starts;
         self.refused += other.refused;
     }
@@ -102,29 +115,36 @@ impl<'a> Run<'a> {
             Some(weather) if number != 1 => weather,
             _ => {
                 self.is_good = true;
-                Weather::new(random, &self.setup, &self.records)
+                Weather::new(random, &self.setup, phase, &self.records)
             }
         };
+        let crew = self.setup.crew;
         let (written, silent) = self.write_all(random, &weather)?;
         let scene =
             Scene { setup: &self.setup, weather: &weather, phase, round: number, written: &written, old: &self.old };
         let inboxes = scene.inboxes(random);
         let counting: Vec<Vec<Option<Slot>>> =
-            inboxes.iter().map(|inbox| counting_slots(self.setup.run, phase, number, inbox)).collect();
+            inboxes.iter().map(|inbox| counting_slots(crew, self.setup.run, phase, number, inbox)).collect();
         for to in self.setup.honest() {
             let is_written =
                 |from: usize| written[from].as_ref().is_some_and(|bytes| is_holding(&inboxes[to], from, bytes));
             check_premise(&self.setup, &counting[to], is_written).map_err(|failure| format!("node {to}: {failure}"))?;
         }
         self.is_good = self.is_good && is_good_round(number, &weather.circle, &silent, &counting);
+        let has_validators = turns::is_group_in_circle(crew, phase, &weather.circle);
+        self.tally.out_of_turn += out_of_turn(crew, self.setup.run, phase, number, &inboxes);
         for own in self.setup.honest() {
             self.take(random, own, &inboxes[own])?;
             if number == 3 && self.decisions.note(own, phase, &counting[own]) {
-                self.tally.decided_in_good += usize::from(self.is_good);
+                self.tally.decided_in_good += usize::from(self.is_good && has_validators);
             }
         }
         if number == 3 && self.is_good {
-            self.check_circle(phase, &weather.circle)?;
+            if has_validators {
+                self.check_circle(phase, &weather.circle)?;
+            } else {
+                self.note_short_circle(&weather.circle);
+            }
         }
         self.weather = Some(weather);
         self.old.extend(written.into_iter().flatten());
@@ -144,7 +164,7 @@ impl<'a> Run<'a> {
         let (mut written, mut silent) = (vec![None; n], vec![false; n]);
         for own in self.setup.honest() {
             let is_kept = weather.is_kept_from_writing(random, own);
-            silent[own] = self.records[own].is_some_and(|node| node.round == 2 && node.select == 0);
+            silent[own] = is_silent(&self.record(own)?);
             if is_kept || random.chance(1, 16) {
                 // No message is shorter than a validation.
                 let length = random.below(VALIDATION_LENGTH);
@@ -200,10 +220,17 @@ impl<'a> Run<'a> {
     /// A good phase decides its circle.
     fn check_circle(&mut self, phase: u8, circle: &[usize]) -> Result<(), String> {
         self.tally.good_phases += 1;
+        self.tally.good_in_turn += usize::from(self.setup.crew.c < self.setup.crew.n);
         for &own in circle {
             expect(self.decisions.plans[own].is_some(), || format!("good phase {phase} left node {own} undecided"))?;
         }
         Ok(())
+    }
+
+    /// A phase in which all is heard, and too few of the circle validate. It promises nothing.
+    fn note_short_circle(&mut self, circle: &[usize]) {
+        self.tally.short_of_validators += 1;
+        self.tally.left_undecided += usize::from(circle.iter().any(|&own| self.decisions.plans[own].is_none()));
     }
 
     /// The properties that hold after every round.
@@ -239,9 +266,31 @@ pub fn check_place(crew: Crew, node: &Node, taken: usize) -> Result<(), String> 
     expect(node.is_sound(), || format!("node {} is not sound", node.own))
 }
 
+/// 01: "round 2 select, or silence (length 0, nothing written) if select is 0"; 02 (C-13): "others are silent in round
+/// 2"
+fn is_silent(node: &Node) -> bool {
+    let is_in_turn = turns::is_validator(node.crew, node.phase, usize::from(node.own));
+    node.round == VALIDATION && (node.select == 0 || !is_in_turn)
+}
+
+/// How many slots of these inboxes would count if it were their nodes' turn.
+fn out_of_turn(crew: Crew, run: u32, phase: u8, number: u8, inboxes: &[Vec<u8>]) -> usize {
+    let everybody = Crew { c: crew.n, ..crew };
+    let count = |crew: Crew| {
+        let slots =
+            inboxes.iter().map(|inbox| counting_slots(crew, run, phase, number, inbox).iter().flatten().count());
+        slots.sum::<usize>()
+    };
+    if number != VALIDATION || crew.c == crew.n {
+        return 0;
+    }
+    count(everybody) - count(crew)
+}
+
 /// 01: "In round 1 all of them have the same counting messages, each in as many slots of one inbox as of another, and
 /// every circle node's slot counts in each. In rounds 2 and 3 the slot of every circle node that is not silent counts
-/// in every circle node's inbox."
+/// in every circle node's inbox." 02 (C-13): "In a good phase only the circle's validators need count in round 2": the
+/// others are silent. How many there must be is for `turns::is_group_in_circle` to say.
 fn is_good_round(number: u8, circle: &[usize], silent: &[bool], counting: &[Vec<Option<Slot>>]) -> bool {
     let is_heard = |to: usize, from: usize| silent[from] || counting[to][from].is_some();
     let are_heard = circle.iter().all(|&to| circle.iter().all(|&from| is_heard(to, from)));

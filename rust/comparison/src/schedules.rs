@@ -190,7 +190,7 @@ pub fn check_premise<'a>(setup: &Setup, steps: impl IntoIterator<Item = (usize, 
             let known = written.get(&(round, from));
             known.is_some_and(|known| known.iter().any(|bytes| is_holding(inbox, from, bytes)))
         };
-        slots::check_premise(setup, &counting_slots(setup.run, phase, number, inbox), is_written)
+        slots::check_premise(setup, &counting_slots(setup.crew, setup.run, phase, number, inbox), is_written)
             .map_err(|failure| format!("take of node {own} in round {round}: {failure}"))?;
     }
     Ok(())
@@ -205,7 +205,7 @@ pub fn check_decisions(setup: &Setup, replay: &Replay) -> Result<(), String> {
         let own = step.event.own;
         records[own] = Some(replay.records[own][step.round + 1]);
         if let Some((phase, 3)) = place(setup.crew, step.round) {
-            decisions.note(own, phase, &counting_slots(setup.run, phase, 3, inbox));
+            decisions.note(own, phase, &counting_slots(setup.crew, setup.run, phase, 3, inbox));
             decisions.check(&records)?;
         }
     }
@@ -243,6 +243,10 @@ pub struct Tally {
     /// Nodes that decided when another was three rounds away or more.
     pub decided_apart: usize,
     pub common_starts: usize,
+    /// Schedules of crews in which not all nodes validate in a phase,
+    pub in_turn: usize,
+    /// and nodes that decided there.
+    pub decided_in_turn: usize,
     /// Nodes that came to the spent mark.
     pub spent: usize,
     /// Rounds that were taken without a call to write.
@@ -290,6 +294,8 @@ impl Tally {
             tally.spent += usize::from(node.phase == Node::SPENT);
         }
         tally.apart = usize::from(tally.distance >= APART);
+        tally.in_turn = usize::from(setup.crew.c < setup.crew.n);
+        tally.decided_in_turn = tally.in_turn * tally.decided;
         tally
     }
 
@@ -324,6 +330,8 @@ impl Tally {
         self.undecided += other.undecided;
         self.decided_apart += other.decided_apart;
         self.common_starts += other.common_starts;
+        self.in_turn += other.in_turn;
+        self.decided_in_turn += other.decided_in_turn;
         self.spent += other.spent;
         self.unwritten += other.unwritten;
         self.padded += other.padded;

@@ -1,9 +1,10 @@
-//! What counts in the slots of an inbox, and the premise on slots of demand 3.
+//! What counts in the slots of an inbox, by whose turn it is too (02, C-13), and the premise on slots of demand 3.
 
 use crate::cases::expect;
 use generators::runs::Setup;
+use generators::turns;
 use second_engine::inbox::SLOT;
-use second_engine::{message, Message};
+use second_engine::{message, Crew, Message};
 
 /// A counting slot: its message, and the bytes of that message, which are its one encoding.
 #[derive(Clone, Copy, Debug)]
@@ -12,14 +13,16 @@ pub struct Slot<'a> {
     pub message: Message,
 }
 
-/// For each slot of an inbox what counts in it.
-pub fn counting_slots(run: u32, phase: u8, number: u8, inbox: &[u8]) -> Vec<Option<Slot<'_>>> {
-    let counting = |bytes: &'_ [u8]| {
+/// For each slot of an inbox what counts in it, in this round of the phase.
+pub fn counting_slots(crew: Crew, run: u32, phase: u8, number: u8, inbox: &[u8]) -> Vec<Option<Slot<'_>>> {
+    let counting = |from: usize, bytes: &'_ [u8]| {
         let message = message::read(bytes).ok()?;
-        (message.run == run && message.phase == phase && message.kind() == number).then_some(message)
+        let is_coming = message.run == run && message.phase == phase && message.kind() == number;
+        (is_coming && turns::may_count(crew, phase, number, from)).then_some(message)
     };
-    let slot_of = |bytes| counting(bytes).map(|message| Slot { bytes: &bytes[..message.length()], message });
-    inbox.chunks_exact(SLOT).map(slot_of).collect()
+    let slot_of =
+        |(from, bytes)| counting(from, bytes).map(|message| Slot { bytes: &bytes[..message.length()], message });
+    inbox.chunks_exact(SLOT).enumerate().map(slot_of).collect()
 }
 
 /// Whether a slot of the inbox holds these bytes.

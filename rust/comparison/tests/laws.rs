@@ -2,7 +2,7 @@
 
 use comparison::seeds::seeds;
 use comparison::slots::counting_slots;
-use generators::{crews, inboxes, messages, records, Random};
+use generators::{crews, inboxes, messages, records, turns, Random};
 use second_engine::inbox::{Ballot, SLOT};
 use second_engine::message::{ENTRY, ENTRY_PLAN, LAST_PHASE};
 use second_engine::{message, plan, rounds, Crew, Node, Refusal, Selection};
@@ -12,21 +12,78 @@ use std::iter::once;
 /// What acceptance gives: the bounds that the proofs of agreement rest on.
 #[test]
 fn accepted_crews_have_their_bounds() {
-    let mut count = 0;
+    let (mut count, mut divided) = (0, 0);
     for crew in crews::small().filter(|crew| crew.is_accepted()) {
-        let [n, b, f, d] = [crew.n, crew.b, crew.f, crew.d].map(usize::from);
+        let [n, b, f, d, c] = [crew.n, crew.b, crew.f, crew.d, crew.c].map(usize::from);
         let e = crew.e();
         assert!(d >= 1 && d > b && n - b - f >= d && n > 3 * b + 2 * f && e >= 2 * b + f, "{crew:?}");
+        assert!(b < c && c <= n, "{crew:?}");
         let reachable = n - b - f;
+        // How many validators a circle has at least. With c = n, and in class 3, they are always enough.
+        let validators = c.saturating_sub(b + f);
         match crew.class {
-            1 => assert!(2 * d > n + b && reachable > 2 * e, "{crew:?}"),
-            2 => assert!(reachable > e + b && 2 * reachable > n + b, "{crew:?}"),
-            _ => assert!(reachable > e && 2 * reachable > n + b, "{crew:?}"),
+            1 => assert!(2 * d > n + b && reachable > 2 * e && c == n, "{crew:?}"),
+            2 => assert!(reachable > e + b && (c < n || 2 * validators > c + b), "{crew:?}"),
+            _ => assert!(reachable > e && 2 * validators > c + b, "{crew:?}"),
         }
         count += 1;
+        divided += usize::from(c < n);
     }
-    println!("{count} accepted crews");
-    assert!(count > 1000);
+    println!("{count} accepted crews, {divided} of them with c below n");
+    assert!(count - divided > 1000 && divided > 1000);
+}
+
+/// 02 (C-13): "With c = n the cases of 01 and the table of C-11 stand." A crew of which all nodes validate is never
+/// refused with 17, and every other answer to a crew is the one to that crew.
+#[test]
+fn groups_of_all_nodes_change_no_answer() {
+    let mut numbers = BTreeSet::new();
+    for crew in crews::small() {
+        let answer = Crew { c: crew.n, ..crew }.accept();
+        assert_ne!(answer, Err(Refusal::Group), "{crew:?}");
+        if crew.accept() == Err(Refusal::Group) {
+            assert_eq!(answer, Ok(()), "{crew:?}");
+        } else {
+            assert_eq!(crew.accept(), answer, "{crew:?}");
+        }
+        numbers.insert(crew.accept().err().map_or(0, Refusal::number));
+    }
+    assert!(numbers.into_iter().eq([0, 1, 2, 3, 4, 17]));
+}
+
+/// Of the crews that are generated, each refusal and each sort of group size comes up in every class.
+#[test]
+fn crews_of_all_sorts_come_up() {
+    let (mut numbers, mut groups) = (BTreeSet::new(), BTreeSet::new());
+    for seed in seeds("crews_of_all_sorts_come_up", 40_000) {
+        let crew = crews::any(&mut Random::new(seed));
+        let [n, b, f, c] = [crew.n, crew.b, crew.f, crew.c].map(usize::from);
+        let number = crew.accept().err().map_or(0, Refusal::number);
+        numbers.insert((if number == 1 { 0 } else { crew.class }, number));
+        if matches!(number, 0 | 17) {
+            let sizes = [0, b, b + 1, 3 * b + 2 * f, 3 * b + 2 * f + 1, n - 1, n, n + 1, 255];
+            groups.extend((0..).zip(sizes).filter(|&(_, size)| size == c).map(|(sort, _)| (crew.class, sort)));
+        }
+    }
+    let refused = (1..=3).flat_map(|class| [0, 2, 3, 4, 17].map(|number| (class, number)));
+    assert!(numbers.into_iter().eq([(0, 1)].into_iter().chain(refused)));
+    assert_eq!(groups.len(), 3 * 9);
+}
+
+/// The two forms of the turn, the second engine's and the checkers', are one, for every phase of a record.
+#[test]
+fn both_forms_of_the_turn_are_one() {
+    for n in 0..=34 {
+        for c in (0..=34).chain([255]) {
+            let crew = Crew::new(2, n, 0, 0, 1, c);
+            for phase in 0..=u8::MAX {
+                let is_in_turn = |q: u8| turns::is_validator(crew, phase, usize::from(q));
+                let mut group = [false; 256];
+                crew.validators(u64::from(phase)).for_each(|q| group[usize::from(q)] = true);
+                assert!((0..=u8::MAX).all(|q| is_in_turn(q) == group[usize::from(q)]), "{crew:?}, phase {phase}");
+            }
+        }
+    }
 }
 
 /// 02 (C-12): "reading and writing match over slices padded with zeros", here from the fields on.
@@ -102,7 +159,7 @@ fn what_is_read_is_written_back() {
 
 #[test]
 fn what_a_record_writes_is_read_to_its_fields() {
-    let (mut numbers, mut rests) = (BTreeSet::new(), BTreeSet::new());
+    let (mut numbers, mut rests, mut silences) = (BTreeSet::new(), BTreeSet::new(), BTreeSet::new());
     for seed in seeds("what_a_record_writes_is_read_to_its_fields", 20_000) {
         let random = &mut Random::new(seed);
         let node = records::any(random);
@@ -113,7 +170,11 @@ fn what_a_record_writes_is_read_to_its_fields() {
             Ok(length) => {
                 assert!(node.is_sound() && node.phase < Node::SPENT, "seed {seed}");
                 assert_eq!(after[length..], before[length..], "seed {seed}");
-                assert_eq!(length == 0, node.round == 2 && node.select == 0, "seed {seed}");
+                let is_in_turn = turns::may_count(node.crew, node.phase, node.round, usize::from(node.own));
+                assert_eq!(length == 0, node.round == 2 && (node.select == 0 || !is_in_turn), "seed {seed}");
+                if node.round == 2 {
+                    silences.insert((node.select == 0, is_in_turn));
+                }
                 if length > 0 {
                     let (bytes, rest) = after.split_at(length);
                     let read = message::read(bytes).unwrap_or_else(|refusal| panic!("seed {seed}: {refusal:?}"));
@@ -143,6 +204,8 @@ fn what_a_record_writes_is_read_to_its_fields() {
     }
     assert!(numbers.into_iter().eq(7..=9));
     assert_eq!(rests.len(), 6);
+    // With something to say or nothing, in turn or not.
+    assert_eq!(silences.len(), 4);
 }
 
 /// Also: every refusal, and every answer of the selection in every class, comes up in these cases.
@@ -219,7 +282,7 @@ fn marks_are_those_of_the_slots_that_count() {
         };
         match rounds::marks(&node, &inbox) {
             Ok(marks) => {
-                let counting = counting_slots(node.run, node.phase, node.round, &inbox);
+                let counting = counting_slots(node.crew, node.run, node.phase, node.round, &inbox);
                 let bits = counting.iter().enumerate().map(|(q, slot)| u32::from(slot.is_some()) << q);
                 assert_eq!(marks, bits.sum(), "seed {seed}");
                 let mut marked = inbox.clone();
@@ -243,22 +306,58 @@ fn marks_are_those_of_the_slots_that_count() {
     assert_eq!(rounds_told.len(), 8 * 3);
 }
 
+/// 02 (C-13): "others are silent in round 2 and their slots there don't count". In round 2 whatever stands in the
+/// others' slots plays no part, and it is often what would count in their turn; in rounds 1 and 3 it counts.
+#[test]
+fn slots_of_others_play_no_part_in_round_2() {
+    let (mut cases, mut counted) = (0, BTreeSet::new());
+    for seed in seeds("slots_of_others_play_no_part_in_round_2", 20_000) {
+        let random = &mut Random::new(seed);
+        let Some((node, inbox)) = inboxes::unspent_case(random) else { continue };
+        let marks = rounds::marks(&node, &inbox).expect("the call is in order");
+        let is_other = |q: usize| !turns::is_validator(node.crew, node.phase, q);
+        let everybody = Crew { c: node.crew.n, ..node.crew };
+        let fit = counting_slots(everybody, node.run, node.phase, node.round, &inbox);
+        let others: Vec<usize> = (0..fit.len()).filter(|&q| is_other(q) && fit[q].is_some()).collect();
+        if others.is_empty() {
+            continue;
+        }
+        let is_marked = others.iter().any(|&q| marks & (1 << q) != 0);
+        assert_eq!(is_marked, node.round != 2, "seed {seed}");
+        counted.insert((node.crew.class, node.round));
+        if node.round == 2 {
+            let taken = |inbox: &[u8]| {
+                let mut after = node;
+                (rounds::take(&mut after, inbox), after, rounds::marks(&node, inbox))
+            };
+            let mut other = inbox.clone();
+            let slots = other.chunks_exact_mut(SLOT).enumerate().filter(|(q, _)| is_other(*q));
+            slots.for_each(|(_, slot)| inboxes::fill(slot, &messages::any(random)));
+            assert_eq!(taken(&other), taken(&inbox), "seed {seed}");
+            cases += 1;
+        }
+    }
+    println!("others' slots stood in {cases} inboxes of round 2");
+    // All three rounds in classes 2 and 3.
+    assert!(counted.into_iter().eq([(2, 1), (2, 2), (2, 3), (3, 1), (3, 2), (3, 3)]));
+}
+
 /// 01: "Two inboxes with the same counting messages, each in as many slots of one as of the other, give the same
-/// answers."
+/// answers." In round 2 these are slots of validators.
 #[test]
 fn the_order_of_slots_and_absent_slots_play_no_part() {
     for seed in seeds("the_order_of_slots_and_absent_slots_play_no_part", 10_000) {
         let random = &mut Random::new(seed);
         let Some((node, inbox)) = inboxes::unspent_case(random) else { continue };
         let mut other = vec![0; inbox.len()];
-        let order = random.order(usize::from(node.crew.n));
-        for (slot, from) in other.chunks_exact_mut(SLOT).zip(order) {
-            let bytes = &inbox[SLOT * from..SLOT * (from + 1)];
-            match message::read(bytes) {
-                Ok(read) if (read.run, read.kind(), read.phase) == (node.run, node.round, node.phase) => {
-                    inboxes::fill(slot, &bytes[..read.length()]);
-                }
-                _ => slot.fill(0),
+        let counting = counting_slots(node.crew, node.run, node.phase, node.round, &inbox);
+        let may_count = |q: &usize| turns::may_count(node.crew, node.phase, node.round, *q);
+        let places: Vec<usize> = (0..counting.len()).filter(may_count).collect();
+        let mut order = places.clone();
+        random.shuffle(&mut order);
+        for (place, from) in places.into_iter().zip(order) {
+            if let Some(slot) = counting[from] {
+                inboxes::fill(&mut other[SLOT * place..SLOT * (place + 1)], slot.bytes);
             }
         }
         let (mut one, mut second) = (node, node);

@@ -36,6 +36,9 @@ fn the_engine_is_equal_to_itself() {
 #[test]
 fn every_mutant_is_told_from_the_engine() {
     let cases = Cases {
+        accepts: 2_000,
+        starts: 10_000,
+        writes: 10_000,
         reads: 2_000,
         rounds: 2_000,
         marks: 2_000,
@@ -50,11 +53,12 @@ fn every_mutant_is_told_from_the_engine() {
     }
 }
 
-/// Prints how many of the cases break a property with each mutant of rounds, and gives those that are found so.
+/// Prints how many of the cases break a property with each mutant of rounds and of turns, and gives those that are
+/// found so.
 fn found(name: &str, cases: u64, is_broken: impl Fn(&mut Random, &Second) -> bool) -> Vec<Mutation> {
     println!("of {cases} {name}");
     let mut mutants = Vec::new();
-    for mutation in Mutation::MUTANTS_OF_ROUNDS {
+    for mutation in Mutation::MUTANTS_OF_ROUNDS.into_iter().chain(Mutation::MUTANTS_OF_TURNS) {
         let found = (1..=cases).filter(|&seed| is_broken(&mut Random::new(seed), &Second { mutation })).count();
         println!("{mutation:?}: {found}");
         if found > 0 {
@@ -69,6 +73,7 @@ fn found(name: &str, cases: u64, is_broken: impl Fn(&mut Random, &Second) -> boo
 fn properties_of_runs_find_mutants() {
     let mutants = found("runs", 100, |random, engine| runs::drive(random, engine, None).is_err());
     assert!(mutants.contains(&Mutation::MajorityOfArrivalsDecides));
+    assert!(Mutation::MUTANTS_OF_TURNS.iter().all(|mutation| mutants.contains(mutation)));
 }
 
 /// The same of schedules, which claim no decision in good phases and so find fewer.

@@ -33,6 +33,8 @@ fn schedules_of(class: u8) {
         assert!(tally.common_starts > 0 && tally.spent > 0 && tally.padded > 0 && tally.swaps > tally.events);
         assert!(tally.late_asks > 0 && tally.spent_calls > 0 && tally.short_buffers > 0);
         assert!(tally.wrong_asks > 0 && tally.wrong_takes > 0 && tally.unwritten > 0);
+        // Validators take turns in classes 2 and 3.
+        assert!([tally.in_turn, tally.decided_in_turn].iter().all(|&count| (count > 0) == (class != 1)));
     }
 }
 
@@ -107,7 +109,7 @@ fn take(own: usize, slots: [&[u8]; 4]) -> Event {
 /// Crew 3,4,1,0,3 with plans 5 5 5 0. Node 0 goes three rounds ahead and hears too little to decide; node 2 comes after
 /// it and decides; node 1 stops before its round 3.
 fn by_hand() -> Schedule {
-    let crew = Crew::new(3, 4, 1, 0, 3);
+    let crew = Crew::whole(3, 4, 1, 0, 3);
     let starts = (0..3).map(|own| (crew, own, 1, 5)).collect();
     let is_honest = vec![true, true, true, false];
     let setup = Setup { crew, run: 1, starts, is_honest, pool: vec![5], rounds: 3, good: 0 };

@@ -1,7 +1,7 @@
 //! Drill scripts, valid and damaged.
 
 use crate::random::Random;
-use crate::{crews, plans, runs};
+use crate::{crews, plans, runs, turns};
 use second_engine::drill::LONGEST_INPUT;
 use second_engine::message::LAST_PHASE;
 use second_engine::{Crew, Plan};
@@ -43,6 +43,12 @@ fn initial_plans(random: &mut Random, crew: Crew, pool: &[Plan]) -> Vec<Plan> {
     initial
 }
 
+/// Line 1.
+fn crew_line(crew: Crew) -> String {
+    let Crew { class, n, b, f, d, c } = crew;
+    format!("{class} {n} {b} {f} {d} {c}\n")
+}
+
 struct Script {
     text: String,
     crew: Crew,
@@ -54,7 +60,7 @@ impl Script {
     /// Lines 1 and 2.
     fn new(crew: Crew, initial: &[Plan]) -> Script {
         let mut script = Script { text: String::new(), crew, phase: 1, round: 1 };
-        script.line(&[crew.class, crew.n, crew.b, crew.f, crew.d].map(|number| number.to_string()));
+        script.text.push_str(&crew_line(crew));
         script.line(&initial.iter().map(Plan::to_string).collect::<Vec<_>>());
         script
     }
@@ -95,6 +101,9 @@ impl Script {
         if byzantine.is_empty() || random.chance(1, 4) {
             return self.cut(random);
         }
+        if self.round == 2 && random.chance(1, 3) {
+            return self.stand_in(random, initial);
+        }
         let highest = self.highest_stamp();
         let any_stamp = random.between(0, highest);
         let (s, v, t) = (random.pick(&byzantine), random.pick(pool), random.pick(&[0, highest, highest, any_stamp]));
@@ -108,15 +117,38 @@ impl Script {
             self.text.push_str(&format!("say {s} {r} {v} {t}\n"));
         }
     }
+
+    /// In round 2 so many validators are cut off that one is missing, and a node that is not honest says what that one
+    /// would. If there is such a node whose turn it is not, it is that: its slot does not count, and nobody stands in.
+    fn stand_in(&mut self, random: &mut Random, initial: &[Plan]) {
+        let is_in_turn = |q: usize| turns::is_validator(self.crew, self.phase as u8, q);
+        let heard: Vec<usize> = (0..initial.len()).filter(|&q| initial[q] != 0 && is_in_turn(q)).collect();
+        let byzantine = (0..initial.len()).filter(|&q| initial[q] == 0);
+        let Some(instead) = byzantine.min_by_key(|&q| is_in_turn(q)) else { return };
+        // The least count with 2 × count > c + b.
+        let needed = (usize::from(self.crew.c) + usize::from(self.crew.b)) / 2 + 1;
+        let cut = (heard.len() + 1).saturating_sub(needed);
+        // What most nodes began with, which is what they select if all is heard.
+        let votes = |plan: &Plan| initial.iter().filter(|&other| other == plan).count();
+        let plan = initial.iter().copied().filter(|&plan| plan != 0).max_by_key(votes).unwrap_or(1);
+        let receivers = random.pick(&[1, initial.len()]);
+        for r in random.order(initial.len()).into_iter().take(receivers) {
+            for from in &heard[..cut] {
+                self.text.push_str(&format!("cut {from} {r}\n"));
+            }
+            self.text.push_str(&format!("say {instead} {r} {plan} 0\n"));
+        }
+    }
 }
 
 /// How many says each round of the longest script has: the most that fit.
 const SAYS_OF_LONGEST: usize = 24;
 
 /// The longest run, in a script as long as may be: class 3, 32 nodes, all phases, and in every round as many liars as
-/// there can be, each of whom speaks to some honest nodes with the highest stamp. Cuts after the last round fill it up.
+/// there can be, each of whom speaks to some honest nodes with the highest stamp. All nodes validate in every phase, so
+/// that every slot can count in every round. Cuts after the last round fill it up.
 pub fn longest() -> Vec<u8> {
-    let crew = Crew::new(3, 32, 10, 0, 21);
+    let crew = Crew::whole(3, 32, 10, 0, 21);
     let liars = usize::from(crew.b);
     let honest = usize::from(crew.n) - liars;
     let plan = |number: usize| 5 + (number % 3) as Plan;
@@ -143,7 +175,7 @@ pub fn longest() -> Vec<u8> {
 /// A valid script with one thing wrong with it, or near it.
 pub fn damaged(random: &mut Random) -> Vec<u8> {
     let mut script = valid(random);
-    match random.below(10) {
+    match random.below(12) {
         0 => script.truncate(random.below(script.len() + 1)),
         1 => change_byte(random, &mut script),
         2 => insert(random, &mut script, b" "),
@@ -156,9 +188,42 @@ pub fn damaged(random: &mut Random) -> Vec<u8> {
             let place = random.below(script.len());
             script.remove(place);
         }
+        9 => change_group(random, &mut script),
+        10 => change_fields_of_crew(random, &mut script),
         _ => lengthen(random, &mut script),
     }
     script
+}
+
+/// Where line 1 ends, its last byte not included.
+fn end_of_first_line(script: &[u8]) -> usize {
+    script.iter().position(|&byte| byte == b'\n').expect("a valid script has lines")
+}
+
+/// The crew in line 1 of a valid script.
+pub fn crew_of(script: &[u8]) -> Crew {
+    let line = String::from_utf8_lossy(&script[..end_of_first_line(script)]);
+    let numbers: Vec<u8> = line.split(' ').map(|field| field.parse().expect("a valid crew has bytes")).collect();
+    Crew::new(numbers[0], numbers[1], numbers[2], numbers[3], numbers[4], numbers[5])
+}
+
+/// Puts another group size in line 1, refused or not.
+fn change_group(random: &mut Random, script: &mut Vec<u8>) {
+    let crew = crew_of(script);
+    let crew = Crew { c: crews::odd_group(random, crew), ..crew };
+    script.splice(..=end_of_first_line(script), crew_line(crew).bytes());
+}
+
+/// Takes the last field of line 1 away, or adds a seventh.
+fn change_fields_of_crew(random: &mut Random, script: &mut Vec<u8>) {
+    let end = end_of_first_line(script);
+    if random.chance(1, 2) {
+        let start = script[..end].iter().rposition(|&byte| byte == b' ').expect("line 1 has several fields");
+        script.drain(start..end);
+    } else {
+        let field = random.pick(&[0, 1, 4]);
+        script.splice(end..end, format!(" {field}").bytes());
+    }
 }
 
 fn change_byte(random: &mut Random, script: &mut [u8]) {

@@ -1,9 +1,10 @@
 //! Inboxes for a record: every mixture of counting, foreign, malformed and hostile slots, some with residue, with
-//! counts at the bounds.
+//! counts at the bounds. In round 2 slots of nodes whose turn it is not stand among them, with messages like the
+//! others'.
 
 use crate::messages::{self, Fields};
 use crate::random::Random;
-use crate::{histories, plans};
+use crate::{histories, plans, turns};
 use second_engine::inbox::SLOT;
 use second_engine::message::{HEADER, LAST_PHASE};
 use second_engine::node::SELECTION;
@@ -20,9 +21,19 @@ pub fn whole(random: &mut Random, node: &Node, pool: &[Plan]) -> Vec<u8> {
     // Leaders at a bound, or few enough to have rivals.
     let leaders = if random.chance(1, 2) { near_bound(random, node.crew) } else { random.between(0, count) };
     let scene = Scene::new(random, node, pool);
-    for (place, q) in random.order(n).into_iter().enumerate() {
+    let is_in_turn = |q: usize| turns::may_count(node.crew, node.phase, node.round, q);
+    let mut order = random.order(n);
+    // With the validators' slots ahead the counts are of those. The others then have much to say, or nothing.
+    if random.chance(3, 4) {
+        order.sort_by_key(|&q| !is_in_turn(q));
+    }
+    let said = random.pick(&[0, 4, 8]);
+    for (place, q) in order.into_iter().enumerate() {
         let bytes = if place < count {
             scene.counting(random, node, place < leaders)
+        } else if !is_in_turn(q) && random.chance(said, 8) {
+            let is_leading = random.chance(3, 4);
+            scene.counting(random, node, is_leading)
         } else if random.chance(1, 4) {
             // One more of them, but for what stands behind it.
             let is_leading = random.chance(1, 2);
@@ -54,9 +65,10 @@ pub fn e(crew: Crew) -> usize {
 
 /// A number of slots at, just below or just above one of the bounds of the rules.
 fn near_bound(random: &mut Random, crew: Crew) -> usize {
-    let (n, b, d, e) = (usize::from(crew.n), usize::from(crew.b), usize::from(crew.d), e(crew));
+    let [n, b, d, c] = [crew.n, crew.b, crew.d, crew.c].map(usize::from);
+    let e = e(crew);
     let any_count = random.between(0, n);
-    let bound = random.pick(&[e, 2 * e, e + b, d, b, (n + b) / 2, n, n, any_count]);
+    let bound = random.pick(&[e, 2 * e, e + b, d, b, (c + b) / 2, (n + b) / 2, c, n, n, any_count]);
     (bound + random.below(3)).saturating_sub(1).min(n)
 }
 

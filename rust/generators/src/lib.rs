@@ -14,5 +14,6 @@ pub mod records;
 pub mod runs;
 pub mod schedules;
 pub mod splits;
+pub mod turns;
 
 pub use random::Random;

@@ -63,7 +63,7 @@ pub fn unsound(random: &mut Random) -> Node {
 }
 
 fn break_condition(random: &mut Random, node: &mut Node) {
-    match random.below(11) {
+    match random.below(12) {
         0 => node.crew = crews::near_accepted(random),
         1 => node.own = random.pick(&[node.crew.n, node.crew.n + 1, 255]),
         2 => node.phase = random.pick(&[0, Node::SPENT + 1, 128, 255]),
@@ -74,6 +74,7 @@ fn break_condition(random: &mut Random, node: &mut Node) {
         7 => node.base = 0,
         8 => node.history[0] = 0,
         9 => node.stamp = random.pick(&[1, node.phase, node.phase + 1, 255]),
+        10 => node.crew.c = crews::odd_group(random, node.crew),
         _ => {
             let least = usize::from(node.phase) + usize::from(node.round != SELECTION);
             let last = Node::ENTRIES - 1;
@@ -83,7 +84,8 @@ fn break_condition(random: &mut Random, node: &mut Node) {
     }
 }
 
-/// Numbers of nodes and of votes that a damaged record may have are below this, which is a little above the most.
+/// Numbers of nodes, of votes and of validators that a damaged record may have are below this, which is a little above
+/// the most.
 const NUMBERS: u8 = Crew::MOST_NODES as u8 + 8;
 /// And so with phases.
 const PHASES: u8 = Node::SPENT + 6;
@@ -92,7 +94,7 @@ const PHASES: u8 = Node::SPENT + 6;
 pub fn damaged(random: &mut Random) -> Node {
     let mut node = sound(random);
     for _ in 0..random.between(1, 3) {
-        match random.below(14) {
+        match random.below(15) {
             0 => node.crew.class = random.byte() % 5,
             1 => node.crew.n = random.byte() % NUMBERS,
             2 => node.crew.b = random.byte() % 12,
@@ -106,6 +108,7 @@ pub fn damaged(random: &mut Random) -> Node {
             10 => node.stamp = random.byte() % PHASES,
             11 => node.select = random.number() as Plan,
             12 => node.result = random.number() as Plan,
+            13 => node.crew.c = random.byte() % NUMBERS,
             _ => node.history[random.below(Node::ENTRIES)] = random.number() as Plan % 3,
         }
     }

@@ -5,7 +5,7 @@
 use crate::inboxes;
 use crate::messages::{self, Fields};
 use crate::random::Random;
-use crate::{crews, plans};
+use crate::{crews, plans, turns};
 use second_engine::inbox::SLOT;
 use second_engine::message::{self, LAST_PHASE};
 use second_engine::{Crew, Node, Plan};
@@ -74,11 +74,12 @@ impl Setup {
     }
 }
 
-/// A start that is refused: plan 0, a number not below n, or a refused crew.
+/// A start that is refused: plan 0, a number not below n, or a refused crew, for its group or for its class.
 fn refused_start(random: &mut Random, crew: Crew, run: u32) -> (Crew, u8, u32, Plan) {
-    match random.below(3) {
+    match random.below(4) {
         0 => (crew, 0, run, 0),
         1 => (crew, crew.n, run, 1),
+        2 => (Crew { c: crew.n + 1, ..crew }, 0, run, 1),
         _ => (Crew { class: 0, ..crew }, 0, run, 1),
     }
 }
@@ -139,11 +140,15 @@ enum Behaviour {
 }
 
 impl Weather {
-    pub fn new(random: &mut Random, setup: &Setup, records: &[Option<Node>]) -> Weather {
+    pub fn new(random: &mut Random, setup: &Setup, phase: u8, records: &[Option<Node>]) -> Weather {
         let n = usize::from(setup.crew.n);
         let least = setup.reachable();
         let mut circle = setup.honest();
         random.shuffle(&mut circle);
+        // A good phase needs validators in its circle, mostly more of them than come there by chance.
+        if random.chance(3, 4) {
+            circle.sort_by_key(|&own| !turns::is_validator(setup.crew, phase, own));
+        }
         let any_size = random.between(least, circle.len());
         circle.truncate(random.pick(&[least, least, any_size]));
         // Adaptive: a plan that was decided or that honest nodes vote for now, and one to set against it.
@@ -239,10 +244,10 @@ impl Scene<'_> {
         let in_circle = self.weather.is_good && self.weather.circle.contains(&to);
         for (from, slot) in inbox.chunks_exact_mut(SLOT).enumerate() {
             if in_circle && self.round == 1 {
-                self.put_or_absent(random, slot, common[from].as_deref());
+                self.put_or_absent(random, from, slot, common[from].as_deref());
             } else {
                 let bytes = self.choose(random, from, to, in_circle);
-                self.put_or_absent(random, slot, bytes.as_deref());
+                self.put_or_absent(random, from, slot, bytes.as_deref());
             }
         }
         if in_circle && self.round == 1 {
@@ -258,6 +263,9 @@ impl Scene<'_> {
 
     /// What comes from one number to another. Circle nodes are always heard where asked. Residue is one way to be lost.
     fn choose(&self, random: &mut Random, from: usize, to: usize, in_circle: bool) -> Option<Vec<u8>> {
+        if !self.may_count(from) && random.chance(3, 4) {
+            return self.out_of_turn(random, to);
+        }
         if !self.setup.is_honest[from] {
             return self.lie(random, to);
         }
@@ -267,6 +275,20 @@ impl Scene<'_> {
             return random.chance(1, 4).then(|| messages::with_residue_in_slot(random, bytes.clone()));
         }
         Some(bytes.clone())
+    }
+
+    fn may_count(&self, from: usize) -> bool {
+        turns::may_count(self.setup.crew, self.phase, self.round, from)
+    }
+
+    /// What stands in round 2 in the slot of a node whose turn it is not, honest or not. It does not count, so that it
+    /// may be anything: what somebody wrote, or what would lead astray if it did count.
+    fn out_of_turn(&self, random: &mut Random, to: usize) -> Option<Vec<u8>> {
+        match random.below(3) {
+            0 => self.lie(random, to),
+            1 => self.written.iter().flatten().next().cloned(),
+            _ => Some(self.push(random, self.weather.favourite[0]).layout()),
+        }
     }
 
     /// Losses may depend on what was written: the Byzantine nodes may rule the network too.
@@ -311,14 +333,14 @@ impl Scene<'_> {
     }
 
     /// Fills a slot; without a message it holds something that does not count.
-    fn put_or_absent(&self, random: &mut Random, slot: &mut [u8], bytes: Option<&[u8]>) {
+    fn put_or_absent(&self, random: &mut Random, from: usize, slot: &mut [u8], bytes: Option<&[u8]>) {
         match bytes {
             Some(bytes) => inboxes::fill(slot, bytes),
-            None => self.absent(random, slot),
+            None => self.absent(random, from, slot),
         }
     }
 
-    fn absent(&self, random: &mut Random, slot: &mut [u8]) {
+    fn absent(&self, random: &mut Random, from: usize, slot: &mut [u8]) {
         let bytes = match random.below(5) {
             0 | 1 => Vec::new(),
             2 if !self.old.is_empty() => {
@@ -333,14 +355,15 @@ impl Scene<'_> {
             _ => messages::any(random),
         };
         inboxes::fill(slot, &bytes);
-        if self.is_counting(slot) {
+        if self.is_counting(from, slot) {
             slot.fill(0);
         }
     }
 
-    fn is_counting(&self, slot: &[u8]) -> bool {
-        message::read(slot)
-            .is_ok_and(|read| (read.run, read.kind(), read.phase) == (self.setup.run, self.round, self.phase))
+    fn is_counting(&self, from: usize, slot: &[u8]) -> bool {
+        let is_coming =
+            |read: message::Message| (read.run, read.kind(), read.phase) == (self.setup.run, self.round, self.phase);
+        self.may_count(from) && message::read(slot).is_ok_and(is_coming)
     }
 
     /// In a good phase the counting messages are the same, in whatever slots: Byzantine nodes' messages change places.

@@ -192,11 +192,11 @@ impl Maker {
         if self.cursors[own].weather.is_some() {
             return;
         }
-        while self.weathers.len() < usize::from(phase) {
-            self.weathers.push(self.weather(random, records));
+        for coming in self.weathers.len() as u8 + 1..=phase {
+            self.weathers.push(self.weather(random, coming, records));
         }
         let weather = if random.chance(1, 8) {
-            self.weather(random, records)
+            self.weather(random, phase, records)
         } else {
             self.weathers[usize::from(phase) - 1].clone()
         };
@@ -204,8 +204,8 @@ impl Maker {
     }
 
     /// A weather in which the nodes that go on together hear each other in good phases, if they are enough for that.
-    fn weather(&self, random: &mut Random, records: &[Option<Node>]) -> Weather {
-        let mut weather = Weather::new(random, &self.setup, records);
+    fn weather(&self, random: &mut Random, phase: u8, records: &[Option<Node>]) -> Weather {
+        let mut weather = Weather::new(random, &self.setup, phase, records);
         if self.pace.company.len() >= self.setup.reachable() {
             weather.circle.clone_from(&self.pace.company);
         }

@@ -1,10 +1,39 @@
-//! The longest script is what it says: as long as may be, with every round there is, and in each round every liar
-//! speaks, to no node twice.
+//! Valid scripts are what they say, and nodes speak in them in round 2 whose turn it is not. So is the longest script:
+//! as long as may be, with every round there is, and in each round every liar speaks, to no node twice.
 
-use generators::drills;
-use second_engine::drill;
+use generators::{drills, turns, Random};
 use second_engine::message::LAST_PHASE;
+use second_engine::{drill, Crew};
 use std::collections::BTreeSet;
+
+/// The rounds of a script: what stands before each go, lines 1 and 2 left out, with its phase and number.
+fn rounds(crew: Crew, script: &str) -> impl Iterator<Item = (u8, u8, &str)> {
+    let numbers: &[u8] = if crew.class == 1 { &[1, 3] } else { &[1, 2, 3] };
+    let places = (1..=LAST_PHASE).flat_map(move |phase| numbers.iter().map(move |&number| (phase, number)));
+    let lines = script.splitn(3, '\n').nth(2).expect("a script has two lines");
+    places.zip(lines.split("go\n")).map(|((phase, number), lines)| (phase, number, lines))
+}
+
+#[test]
+fn valid_scripts_have_no_bad_line_and_say_things_out_of_turn() {
+    let (mut in_turn, mut out_of_turn) = (0, 0);
+    for seed in 1..=1_000 {
+        let script = String::from_utf8(drills::valid(&mut Random::new(seed))).expect("a script is text");
+        let output = drill::run(script.as_bytes());
+        let last: &[u8] = if script.len() > drill::LONGEST_INPUT { b"long\n" } else { b"end\n" };
+        assert!(output.ends_with(last), "seed {seed}");
+        let crew = drills::crew_of(script.as_bytes());
+        for (phase, _, lines) in rounds(crew, &script).filter(|&(_, number, _)| number == 2) {
+            for (from, _) in lines.lines().filter(|line| line.starts_with("say ")).map(pair_of_say) {
+                let is_in_turn = turns::is_validator(crew, phase, from);
+                in_turn += usize::from(is_in_turn);
+                out_of_turn += usize::from(!is_in_turn);
+            }
+        }
+    }
+    println!("says in round 2: {in_turn} in turn, {out_of_turn} out of turn");
+    assert!(in_turn > 1_000 && out_of_turn > 1_000);
+}
 
 const LIARS: std::ops::Range<usize> = 22..32;
 

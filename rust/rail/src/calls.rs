@@ -7,7 +7,7 @@
 //! empty.
 
 unsafe extern "C" {
-    fn rail_accept(class: u8, n: u8, b: u8, f: u8, d: u8) -> u64;
+    fn rail_accept(class: u8, n: u8, b: u8, f: u8, d: u8, c: u8) -> u64;
     fn rail_least(class: u8, b: u8, f: u8) -> u64;
     fn rail_start(
         class: u8,
@@ -15,6 +15,7 @@ unsafe extern "C" {
         b: u8,
         f: u8,
         d: u8,
+        c: u8,
         own: u8,
         run: u32,
         plan: u16,
@@ -37,9 +38,9 @@ unsafe extern "C" {
     ) -> u64;
 }
 
-pub fn accept([class, n, b, f, d]: [u8; 5]) -> u64 {
+pub fn accept([class, n, b, f, d, c]: [u8; 6]) -> u64 {
     // SAFETY: it takes numbers only.
-    unsafe { rail_accept(class, n, b, f, d) }
+    unsafe { rail_accept(class, n, b, f, d, c) }
 }
 
 pub fn least(class: u8, b: u8, f: u8) -> u64 {
@@ -47,9 +48,9 @@ pub fn least(class: u8, b: u8, f: u8) -> u64 {
     unsafe { rail_least(class, b, f) }
 }
 
-pub fn start([class, n, b, f, d]: [u8; 5], own: u8, run: u32, plan: u16, record: &mut [u8]) -> u64 {
+pub fn start([class, n, b, f, d, c]: [u8; 6], own: u8, run: u32, plan: u16, record: &mut [u8]) -> u64 {
     // SAFETY: pointer and length are those of a slice that is lent to be written.
-    unsafe { rail_start(class, n, b, f, d, own, run, plan, record.as_mut_ptr(), record.len()) }
+    unsafe { rail_start(class, n, b, f, d, c, own, run, plan, record.as_mut_ptr(), record.len()) }
 }
 
 pub fn write(record: &[u8], buffer: &mut [u8]) -> u64 {

@@ -1,10 +1,10 @@
 //! The proved engine for Rust programs: safe functions over its archive (docs/LINKING.md), on numbers and lent slices.
-//! A record is kept as its image of 149 bytes. Anything may be lent: lengths and contents are tested behind the call.
+//! A record is kept as its image of 150 bytes. Anything may be lent: lengths and contents are tested behind the call.
 
 mod calls;
 
 /// How many bytes a record's image has.
-pub const RECORD: usize = 149;
+pub const RECORD: usize = 150;
 /// How many bytes the fields of a read message have.
 pub const FIELDS: usize = 10;
 /// How many bytes an inbox has for each node. A buffer of so many is long enough for every message.
@@ -22,12 +22,12 @@ pub const MOST_DEMAND: u32 = 100_000;
 /// The highest budget, in mA.
 pub const MOST_BUDGET: u32 = 1_000_000;
 
-/// The number of a refusal: 01's 1 to 14, 02's 15, 16, 18 and 19, or one of the three below.
+/// The number of a refusal: 01's 1 to 14, 02's 15 to 19, or one of the three below.
 #[derive(Clone, Copy, Debug, PartialEq, Eq)]
 pub struct Refused(pub u8);
 
 impl Refused {
-    /// The record's slice is not 149 bytes long. This is tested before everything else.
+    /// The record's slice is not 150 bytes long. This is tested before everything else.
     pub const WRONG_RECORD: Refused = Refused(25);
     /// The fields' slice is not 10 bytes long. This is tested before everything else.
     pub const WRONG_FIELDS: Refused = Refused(26);
@@ -46,8 +46,8 @@ fn answer(number: u64) -> Answer {
     }
 }
 
-/// Accepts a crew: class, n, b, f, D.
-pub fn accept(crew: [u8; 5]) -> Answer {
+/// Accepts a crew: class, n, b, f, D, c.
+pub fn accept(crew: [u8; 6]) -> Answer {
     answer(calls::accept(crew))
 }
 
@@ -58,12 +58,13 @@ pub fn least(class: u8, b: u8, f: u8) -> Answer {
 }
 
 /// Starts a node and writes its record's image.
-pub fn start(crew: [u8; 5], own: u8, run: u32, plan: u16, record: &mut [u8]) -> Answer {
+pub fn start(crew: [u8; 6], own: u8, run: u32, plan: u16, record: &mut [u8]) -> Answer {
     answer(calls::start(crew, own, run, plan, record))
 }
 
-/// Writes the coming message to the buffer's front; the value is its length, 0 for silence. Bytes behind the message
-/// keep their values, and where they are not 0 reading them along with it is refused.
+/// Writes the coming message to the buffer's front; the value is its length, 0 for silence: in round 2 a node is silent
+/// that selected nothing, or that does not validate in this phase. Bytes behind the message keep their values, and
+/// where they are not 0 reading them along with it is refused.
 pub fn write(record: &[u8], buffer: &mut [u8]) -> Answer {
     answer(calls::write(record, buffer))
 }

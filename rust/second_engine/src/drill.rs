@@ -43,20 +43,21 @@ struct BadLine(usize);
 
 fn run_lines(input: &[u8], mutation: Mutation, output: &mut Vec<u8>) -> Result<(), BadLine> {
     let mut lines = input.split_inclusive(|&byte| byte == LINE_END);
-    let crew = lines.next().and_then(crew_of_line).ok_or(BadLine(1))?;
-    let mut drill = lines.next().and_then(|line| Drill::of_line(crew, line)).ok_or(BadLine(2))?;
+    let crew = lines.next().and_then(|line| crew_of_line(line, mutation)).ok_or(BadLine(1))?;
+    let mut drill = lines.next().and_then(|line| Drill::of_line(crew, line, mutation)).ok_or(BadLine(2))?;
     for (line, place) in lines.zip(3..) {
         drill.obey(line, mutation, output).ok_or(BadLine(place))?;
     }
     Ok(())
 }
 
-/// 01: "Line 1: class n b f D." A refused crew makes the line bad.
-fn crew_of_line(line: &[u8]) -> Option<Crew> {
+/// 01: "Line 1: class n b f D." 02 (C-13): "The drill's line 1 takes c as a sixth field." A refused crew makes the line
+/// bad.
+fn crew_of_line(line: &[u8], mutation: Mutation) -> Option<Crew> {
     let mut fields = fields_of_line(line)?;
     let mut byte = || fields.next().and_then(|field| number(field, u32::from(u8::MAX))).map(|value| value as u8);
-    let crew = Crew::new(byte()?, byte()?, byte()?, byte()?, byte()?);
-    if fields.next().is_some() || !crew.is_accepted() {
+    let crew = Crew::new(byte()?, byte()?, byte()?, byte()?, byte()?, byte()?);
+    if fields.next().is_some() || crew.accept_mutated(mutation).is_err() {
         return None;
     }
     Some(crew)
@@ -102,13 +103,13 @@ struct Drill {
 
 impl Drill {
     /// 01: "Line 2: n initial plans, 0 for a node that is not honest." Any number of them may be 0.
-    fn of_line(crew: Crew, line: &[u8]) -> Option<Drill> {
+    fn of_line(crew: Crew, line: &[u8], mutation: Mutation) -> Option<Drill> {
         let mut fields = fields_of_line(line)?;
         let mut nodes = [None; Crew::MOST_NODES];
         for own in 0..crew.n {
             let plan = number(fields.next()?, u32::from(Plan::MAX))? as Plan;
             // A start with plan 0 is refused, which makes no node.
-            nodes[usize::from(own)] = Node::start(crew, own, RUN, plan).ok();
+            nodes[usize::from(own)] = Node::start_mutated(crew, own, RUN, plan, mutation).ok();
         }
         if fields.next().is_some() {
             return None;
@@ -144,7 +145,8 @@ impl Drill {
     }
 
     /// 01: "`say s r v t` (s, not honest, sends r in the coming round plan v with stamp t and no entries; t is 0 in
-    /// round 2; .. s and r are any nodes otherwise)", "of two says for one pair the last stands"
+    /// round 2; .. s and r are any nodes otherwise)", "of two says for one pair the last stands". A node that does not
+    /// validate may say something in round 2 as well: it is sent, and does not count.
     fn say(&mut self, s: &[u8], r: &[u8], v: &[u8], t: &[u8]) -> Option<()> {
         let (s, r) = (self.node_number(s)?, self.node_number(r)?);
         let plan = number(v, u32::from(Plan::MAX))? as Plan;
@@ -179,7 +181,7 @@ impl Drill {
         if self.is_spent() {
             return None;
         }
-        let (written, lengths) = self.write_all();
+        let (written, lengths) = self.write_all(mutation);
         for r in 0..usize::from(self.crew.n) {
             if let Some(mut node) = self.nodes[r] {
                 // The inbox is cleared for each node and round.
@@ -196,12 +198,12 @@ impl Drill {
     }
 
     /// What the honest nodes send, with the lengths; 0 for silence and for nodes that are not honest.
-    fn write_all(&self) -> ([[u8; LONGEST]; Crew::MOST_NODES], [usize; Crew::MOST_NODES]) {
+    fn write_all(&self, mutation: Mutation) -> ([[u8; LONGEST]; Crew::MOST_NODES], [usize; Crew::MOST_NODES]) {
         let mut written = [[0; LONGEST]; Crew::MOST_NODES];
         let mut lengths = [0; Crew::MOST_NODES];
         for (s, node) in self.nodes.iter().enumerate() {
             if let Some(node) = node {
-                lengths[s] = node.write(&mut written[s]).expect("the longest message fits");
+                lengths[s] = node.write_mutated(&mut written[s], mutation).expect("the longest message fits");
             }
         }
         (written, lengths)

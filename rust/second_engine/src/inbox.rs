@@ -1,9 +1,9 @@
-//! Inboxes: their slots and which of them count (01, 'Messages'). Each slot is read once.
+//! Inboxes: their slots and which of them count (01, 'Messages', and 02, C-13). Each slot is read once.
 
 use crate::crew::Crew;
 use crate::message::{self, Message};
 use crate::mutation::Mutation;
-use crate::node::Node;
+use crate::node::{self, Node};
 use crate::plan::{self, Plan};
 
 /// 01: "An inbox is n slots of 202 bytes"
@@ -70,15 +70,26 @@ pub fn is_whole(crew: Crew, inbox: &[u8]) -> bool {
     inbox.len() == SLOT * usize::from(crew.n)
 }
 
+/// Whose slots may count in the coming round: everybody's, but in round 2 the validators' alone. 02 (C-13): "others are
+/// silent in round 2 and their slots there don't count". As one number, node q its bit of weight 2 to the q, for sound
+/// records, where n is at most 32.
+fn speakers(node: &Node, mutation: Mutation) -> u32 {
+    if node.round != node::VALIDATION || mutation == Mutation::OthersCount {
+        return u32::MAX;
+    }
+    node.crew.validators_mutated(node.phase, mutation).fold(0, |speakers, q| speakers | 1 << q)
+}
+
 /// 01: "A slot counts when reading it succeeds and its run, kind and phase are those of the node's coming round; a slot
-/// that reading refuses is simply absent."
+/// that reading refuses is simply absent." So is one of a node that does not speak in the round.
 pub fn counting<'a>(node: &Node, inbox: &'a [u8], mutation: Mutation) -> Counting<'a> {
     let mut counting = Counting { ballots: [Ballot::default(); Crew::MOST_NODES], count: 0, strays: 0 };
     // 01: "slot q is the part that starts at byte 202 times q"
-    for slot in inbox.chunks_exact(SLOT) {
+    let speakers = speakers(node, mutation);
+    for (q, slot) in inbox.chunks_exact(SLOT).enumerate() {
         match message::read_with_entries_mutated(slot, mutation) {
             Ok((message, entries)) => {
-                if is_of_coming_round(node, &message) {
+                if speakers & (1 << q) != 0 && is_of_coming_round(node, &message) {
                     counting.push(Ballot { vote: message.plan(), stamp: message.stamp(), entries });
                 }
             }
@@ -92,7 +103,7 @@ pub fn counting<'a>(node: &Node, inbox: &'a [u8], mutation: Mutation) -> Countin
     }
     match mutation {
         Mutation::DistinctContents => remove_repeated(&mut counting),
-        Mutation::NeighboursHistory => shift_histories(&mut counting, node, inbox),
+        Mutation::NeighboursHistory if node.round == node::SELECTION => shift_histories(&mut counting, node, inbox),
         Mutation::ForeignSlotsList | Mutation::RefusedSlotsList => add_strays(&mut counting, node, inbox, mutation),
         _ => (),
     }
@@ -103,8 +114,9 @@ pub fn counting<'a>(node: &Node, inbox: &'a [u8], mutation: Mutation) -> Countin
 /// C-24). Each slot is read on its own, and no ballot is laid out for it.
 pub fn marks(node: &Node, inbox: &[u8], mutation: Mutation) -> u32 {
     let mut marks = 0;
+    let speakers = speakers(node, mutation);
     for (q, slot) in inbox.chunks_exact(SLOT).enumerate() {
-        if is_marked(node, slot, mutation) {
+        if speakers & (1 << q) != 0 && is_marked(node, slot, mutation) {
             marks |= 1 << q;
         }
     }
@@ -117,7 +129,7 @@ pub fn marks(node: &Node, inbox: &[u8], mutation: Mutation) -> u32 {
     }
 }
 
-/// Whether the slot counts, but for the mutants.
+/// Whether the slot of a node that speaks counts, but for the mutants.
 fn is_marked(node: &Node, slot: &[u8], mutation: Mutation) -> bool {
     let read = match mutation {
         Mutation::RefusedSlotMarked => message::parse(slot).map(|(message, _)| message),

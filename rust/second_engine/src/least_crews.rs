@@ -71,9 +71,10 @@ fn search(class: u8, b: u8, f: u8, mutation: Mutation) -> Option<LeastCrew> {
     Some(LeastCrew { n, d })
 }
 
-/// The least D that lets n be accepted, if any does.
+/// The least D that lets n be accepted, if any does. All nodes validate in these crews: 02 (C-13), "With c = n the
+/// cases of 01 and the table of C-11 stand."
 fn least_d(class: u8, n: u8, b: u8, f: u8) -> Option<u8> {
-    (0..=u8::MAX).find(|&d| Crew::new(class, n, b, f, d).is_accepted())
+    (0..=u8::MAX).find(|&d| Crew::whole(class, n, b, f, d).is_accepted())
 }
 
 /// A mutant's rule: the most nodes, with the highest D that they reach.

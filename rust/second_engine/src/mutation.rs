@@ -34,7 +34,7 @@ pub enum Mutation {
     AtLeastB,
     /// the bounds of 'any' likewise,
     AnyAtLeast,
-    /// "2c > n + b" as at least n + b,
+    /// "2 × count > c + b" (02, C-13) as at least c + b,
     HalfValidates,
     /// and "at least D slots" as more than D.
     MoreThanD,
@@ -77,6 +77,30 @@ pub enum Mutation {
     /// Against "It refuses with 16 a read with a non-zero byte after the length, tested after 13." It is tested as soon
     /// as the length is known, before 11, 12 and 13.
     ResidueFirst,
+    /// Against 02 (C-13): "the test becomes 2 × count > c + b". It is still 01's, from n.
+    ThresholdFromN,
+    /// Against "others are silent in round 2 and their slots there don't count". Their slots do count,
+    OthersCount,
+    /// or they are not silent.
+    OthersSpeak,
+    /// Against "In a phase the validators are the nodes (phase × c + i) mod n for i below c". They are those of the
+    /// next phase.
+    TurnOnePhaseOff,
+    /// Against "It refuses with 17, after 4 wherever a crew is tested, c above n, c ≤ b in class 2, c ≤ 3b + 2f in
+    /// class 3, and c other than n in class 1." It is tested after 3, before 4,
+    GroupBeforeQuorum,
+    /// or c above n is accepted in classes 2 and 3,
+    GroupAboveN,
+    /// or c = b in class 2,
+    GroupOfB,
+    /// or c = 3b + 2f in class 3,
+    GroupAtTheBoundOfClassThree,
+    /// or the bound of class 3 is without f,
+    GroupWithoutF,
+    /// or has 2b for 3b,
+    GroupOfTwoB,
+    /// or in class 1 any c is accepted that is not above n.
+    AnyGroupInClassOne,
     /// Against 02 (C-19): "each gets demand × B / T rounded down". It is rounded up, and nothing is left over to give,
     RoundedUp,
     /// or to the nearest, half up, and what is left over then, if anything, goes to the largest remainders.
@@ -198,6 +222,28 @@ impl Mutation {
         Mutation::ResidueOfDecisions,
         // This one shows in reading alone: under either number the slot is absent.
         Mutation::ResidueFirst,
+    ];
+
+    /// Every mutant with a wrong rule in whose turn it is to validate, or in what follows from it. They show in runs
+    /// and schedules too, and some in drills.
+    pub const MUTANTS_OF_TURNS: [Mutation; 4] = [
+        Mutation::ThresholdFromN,
+        Mutation::OthersCount,
+        Mutation::TurnOnePhaseOff,
+        // This one shows in what is written alone: nobody hears it.
+        Mutation::OthersSpeak,
+    ];
+
+    /// Every mutant with a wrong rule in accepting a crew's group size, which shows wherever a crew is tested, and not
+    /// in runs and schedules, whose crews are accepted.
+    pub const MUTANTS_OF_CREWS: [Mutation; 7] = [
+        Mutation::GroupBeforeQuorum,
+        Mutation::GroupAboveN,
+        Mutation::GroupOfB,
+        Mutation::GroupAtTheBoundOfClassThree,
+        Mutation::GroupWithoutF,
+        Mutation::GroupOfTwoB,
+        Mutation::AnyGroupInClassOne,
     ];
 
     /// Every mutant with a wrong rule in splitting the rail's current, which shows nowhere else.

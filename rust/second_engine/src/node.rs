@@ -1,8 +1,9 @@
 //! Node records: their start, when they are sound, and writing the coming message (01, 'Crew and node', 'The three
-//! rounds', 'What each operation turns down'). Builds on crews and messages.
+//! rounds', 'What each operation turns down'), with the turn of 02 (C-13). Builds on crews and messages.
 
 use crate::crew::Crew;
 use crate::message;
+use crate::mutation::Mutation;
 use crate::plan::{self, Plan};
 use crate::refusal::Refusal;
 
@@ -37,8 +38,13 @@ impl Node {
 
     /// Starts a node.
     pub fn start(crew: Crew, own: u8, run: u32, plan: Plan) -> Result<Node, Refusal> {
-        // 01: "Starting a node: 1 to 4; 5 own number not below n; 6 plan 0."
-        crew.accept()?;
+        Node::start_mutated(crew, own, run, plan, Mutation::Unmutated)
+    }
+
+    /// As `start`, with a wrong rule.
+    pub fn start_mutated(crew: Crew, own: u8, run: u32, plan: Plan, mutation: Mutation) -> Result<Node, Refusal> {
+        // 01: "Starting a node: 1 to 4; 5 own number not below n; 6 plan 0.", with 02's 17 after 4
+        crew.accept_mutated(mutation)?;
         if own >= crew.n {
             return Err(Refusal::OwnNumber);
         }
@@ -55,8 +61,12 @@ impl Node {
 
     /// Whether the record is sound.
     pub fn is_sound(&self) -> bool {
+        self.is_sound_mutated(Mutation::Unmutated)
+    }
+
+    fn is_sound_mutated(&self, mutation: Mutation) -> bool {
         // 01: "crew accepted; own number below n"
-        self.crew.is_accepted()
+        self.crew.accept_mutated(mutation).is_ok()
             && self.own < self.crew.n
             && self.is_placed_soundly()
             // 01: "vote, base and entry 0 not 0"
@@ -88,8 +98,8 @@ impl Node {
     }
 
     /// 01: "7 record not sound; 8 spent", which come first in writing, asking and taking.
-    pub(crate) fn check(&self) -> Result<(), Refusal> {
-        if !self.is_sound() {
+    pub(crate) fn check(&self, mutation: Mutation) -> Result<(), Refusal> {
+        if !self.is_sound_mutated(mutation) {
             return Err(Refusal::NotSound);
         }
         if self.phase == Self::SPENT {
@@ -100,15 +110,28 @@ impl Node {
 
     /// Writes the coming message to the buffer's front and gives its length; 0 is silence.
     pub fn write(&self, buffer: &mut [u8]) -> Result<usize, Refusal> {
-        self.check()?;
+        self.write_mutated(buffer, Mutation::Unmutated)
+    }
+
+    /// As `write`, with a wrong rule.
+    pub fn write_mutated(&self, buffer: &mut [u8], mutation: Mutation) -> Result<usize, Refusal> {
+        self.check(mutation)?;
         match self.round {
             SELECTION => self.write_selection(buffer),
             // 01: "round 2 select, or silence (length 0, nothing written) if select is 0"
             VALIDATION if self.select == 0 => Ok(0),
+            // 02 (C-13): "others are silent in round 2"
+            VALIDATION if !self.is_validating(mutation) => Ok(0),
             VALIDATION => message::put_validation(self.run, self.phase, self.select, buffer),
             // 01: "round 3 vote and stamp"
             _ => message::put_decision(self.run, self.phase, self.vote, self.stamp, buffer),
         }
+    }
+
+    /// Whether it is the node's own turn to validate in its phase.
+    fn is_validating(&self, mutation: Mutation) -> bool {
+        let is_in_turn = || self.crew.validators_mutated(self.phase, mutation).any(|q| q == self.own);
+        mutation == Mutation::OthersSpeak || is_in_turn()
     }
 
     /// 01: "round 1 vote, stamp and, in class 3 only, its non-empty entries of earlier phases"

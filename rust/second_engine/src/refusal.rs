@@ -36,6 +36,9 @@ pub enum Refusal {
     Range = 15,
     /// 02 (C-12): "It refuses with 16 a read with a non-zero byte after the length, tested after 13."
     Residue = 16,
+    /// 02 (C-13): "It refuses with 17, after 4 wherever a crew is tested, c above n, c ≤ b in class 2, c ≤ 3b + 2f in
+    /// class 3, and c other than n in class 1."
+    Group = 17,
     /// 02 (C-19): "It refuses with 18 a count outside 1 to 64 or a share buffer of another length,"
     Count = 18,
     /// and "then with 19 a number out of range, writing nothing."
@@ -47,7 +50,7 @@ pub enum Refusal {
 
 impl Refusal {
     /// Every refusal, in the order of the numbers.
-    pub const ALL: [Refusal; 19] = [
+    pub const ALL: [Refusal; 20] = [
         Refusal::Class,
         Refusal::Nodes,
         Refusal::DecisionOutOfReach,
@@ -64,12 +67,13 @@ impl Refusal {
         Refusal::InboxLength,
         Refusal::Range,
         Refusal::Residue,
+        Refusal::Group,
         Refusal::Count,
         Refusal::Amount,
         Refusal::SameRun,
     ];
 
-    /// The paper's number: 1 to 14 are 01's, 15, 16, 18, 19 and 23 are 02's. No refusal here has 17 or 20 to 22.
+    /// The paper's number: 1 to 14 are 01's, 15 to 19 and 23 are 02's. No refusal here has 20 to 22.
     pub const fn number(self) -> u8 {
         self as u8
     }

@@ -1,5 +1,5 @@
-//! The three rounds: asking for the selection and taking a round (01, 'The three rounds'), and telling which slots
-//! count in it (for the records of 02, C-24). Builds on nodes and inboxes.
+//! The three rounds: asking for the selection and taking a round (01, 'The three rounds', and 02, C-13), and telling
+//! which slots count in it (for the records of 02, C-24). Builds on nodes and inboxes.
 //! Every rule takes the mutation that makes it wrong; the public operations pass none.
 
 use crate::crew::Crew;
@@ -47,7 +47,7 @@ pub fn ask_mutated(node: &Node, inbox: &[u8], mutation: Mutation) -> Result<Sele
     if node.round != node::SELECTION {
         return Err(Refusal::NotSound);
     }
-    check(node, inbox)?;
+    check(node, inbox, mutation)?;
     let counting = inbox::counting(node, inbox, mutation);
     Ok(selection(node.crew, &counting, mutation))
 }
@@ -59,7 +59,7 @@ pub fn take(node: &mut Node, inbox: &[u8]) -> Result<(), Refusal> {
 
 /// As `take`, with a wrong rule.
 pub fn take_mutated(node: &mut Node, inbox: &[u8], mutation: Mutation) -> Result<(), Refusal> {
-    check(node, inbox)?;
+    check(node, inbox, mutation)?;
     let counting = inbox::counting(node, inbox, mutation);
     match node.round {
         node::SELECTION => take_selection(node, &counting, mutation),
@@ -80,13 +80,13 @@ pub fn marks_mutated(node: &Node, inbox: &[u8], mutation: Mutation) -> Result<u3
     if mutation == Mutation::MarksInRoundOneAlone && node.round != node::SELECTION {
         return Err(Refusal::NotSound);
     }
-    check(node, inbox)?;
+    check(node, inbox, mutation)?;
     Ok(inbox::marks(node, inbox, mutation))
 }
 
 /// 01: "Taking a round, or only asking for the coming selection: 7; 8; 14 inbox length not 202n."
-fn check(node: &Node, inbox: &[u8]) -> Result<(), Refusal> {
-    node.check()?;
+fn check(node: &Node, inbox: &[u8], mutation: Mutation) -> Result<(), Refusal> {
+    node.check(mutation)?;
     if !inbox::is_whole(node.crew, inbox) {
         return Err(Refusal::InboxLength);
     }
@@ -252,11 +252,13 @@ fn take_selection(node: &mut Node, counting: &Counting, mutation: Mutation) {
 
 fn take_validation(node: &mut Node, ballots: &[Ballot], mutation: Mutation) {
     // 01: "If a plan stands in c slots with 2c > n + b, vote and base become it and stamp becomes the phase; otherwise
-    // vote becomes base." No two plans can do so: there are n slots.
+    // vote becomes base." 02 (C-13): "the test becomes 2 × count > c + b". No two plans can do so: c slots may count.
+    let (n, b, c) = (usize::from(node.crew.n), usize::from(node.crew.b), usize::from(node.crew.c));
     let bound = match mutation {
         Mutation::MajorityOfArrivalsValidates => ballots.len(),
-        Mutation::HalfValidates => (usize::from(node.crew.n) + usize::from(node.crew.b)).saturating_sub(1),
-        _ => usize::from(node.crew.n) + usize::from(node.crew.b),
+        Mutation::HalfValidates => (c + b).saturating_sub(1),
+        Mutation::ThresholdFromN => n + b,
+        _ => c + b,
     };
     let validated = ballots.iter().find(|ballot| 2 * count_votes(ballot.vote, ballots) > bound);
     match validated {

@@ -125,7 +125,7 @@ fn remnants_are_dropped() {
 
 /// The marks of node 0 in the round in which it decided, in a run of four of which one may be silent.
 fn marks_of_run(run: u32, silent: Option<usize>) -> u32 {
-    let crew = Crew::new(3, 4, 1, 0, 3);
+    let crew = Crew::whole(3, 4, 1, 0, 3);
     let start = |own| Node::start(crew, own, run, 5).expect("the start is in order");
     let mut nodes = [0, 1, 2, 3].map(start);
     loop {

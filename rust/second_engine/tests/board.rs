@@ -30,7 +30,7 @@ fn votes(votes: &[Plan]) -> Vec<Ballot<'static>> {
 
 #[test]
 fn crews_of_the_board() {
-    let number = |class, n, b, f, d| Crew::new(class, n, b, f, d).accept().err().map(|refusal| refusal.number());
+    let number = |class, n, b, f, d| Crew::whole(class, n, b, f, d).accept().err().map(|refusal| refusal.number());
     assert_eq!(number(3, 4, 1, 0, 3), None);
     assert_eq!(number(3, 4, 1, 0, 2), Some(4));
     assert_eq!(number(3, 4, 1, 0, 4), Some(3));
@@ -43,7 +43,7 @@ fn crews_of_the_board() {
 
 #[test]
 fn selections_of_class_1() {
-    let crew = Crew::new(1, 6, 1, 0, 5);
+    let crew = Crew::whole(1, 6, 1, 0, 5);
     assert_eq!(select(crew, 1, &votes(&[7, 7, 7, 9, 9])), (Selection::Plan(7), 7));
     assert_eq!(select(crew, 1, &votes(&[7, 7, 9, 9])), (Selection::None, 0));
     assert_eq!(select(crew, 1, &votes(&[7, 7, 9, 9, 8])), (Selection::Any, 7));
@@ -51,7 +51,7 @@ fn selections_of_class_1() {
 
 #[test]
 fn selections_of_class_2() {
-    let crew = Crew::new(2, 5, 1, 0, 4);
+    let crew = Crew::whole(2, 5, 1, 0, 4);
     let ballots: [Ballot; 4] = [(5, 1, &[]), (6, 0, &[]), (6, 0, &[]), (5, 1, &[])];
     assert_eq!(select(crew, 2, &ballots[..3]), (Selection::None, 0));
     assert_eq!(select(crew, 2, &ballots), (Selection::Plan(5), 5));
@@ -59,7 +59,7 @@ fn selections_of_class_2() {
 
 #[test]
 fn selections_of_class_3() {
-    let crew = Crew::new(3, 4, 1, 0, 3);
+    let crew = Crew::whole(3, 4, 1, 0, 3);
     assert_eq!(select(crew, 1, &votes(&[5, 5, 6])), (Selection::Any, 5));
     assert_eq!(select(crew, 1, &votes(&[5, 5])), (Selection::None, 0));
     let listed: [Ballot; 3] = [(5, 1, &[(0, 5), (1, 5)]), (6, 0, &[(0, 6), (1, 5)]), (6, 0, &[(0, 6)])];
@@ -71,7 +71,7 @@ fn selections_of_class_3() {
 #[test]
 fn selections_that_the_board_leaves_out() {
     // A plan backed through several slots and stamps is one plan.
-    let crew = Crew::new(3, 4, 1, 0, 3);
+    let crew = Crew::whole(3, 4, 1, 0, 3);
     let twice: [Ballot; 3] = [(5, 1, &[(0, 5), (1, 5)]), (5, 0, &[(0, 5), (1, 5)]), (5, 0, &[(0, 5)])];
     assert_eq!(select(crew, 2, &twice), (Selection::Plan(5), 5));
     // Several backed plans are 'any' over all counting slots, the least of the most voted.
@@ -81,11 +81,11 @@ fn selections_that_the_board_leaves_out() {
     let unstamped: [Ballot; 3] = [(5, 0, &[(0, 5)]), (5, 0, &[(0, 5)]), (5, 0, &[])];
     assert_eq!(select(crew, 1, &unstamped), (Selection::Plan(5), 5));
     // Without slots there is nothing to select, in any class.
-    for crew in [crew, Crew::new(2, 5, 1, 0, 4), Crew::new(1, 6, 1, 0, 5), Crew::new(3, 1, 0, 0, 1)] {
+    for crew in [crew, Crew::whole(2, 5, 1, 0, 4), Crew::whole(1, 6, 1, 0, 5), Crew::whole(3, 1, 0, 0, 1)] {
         assert_eq!(select(crew, 1, &[]), (Selection::None, 0));
     }
     // Several backed plans always come with more than E + b slots in class 2, and with more than 2E in class 1.
-    let crew = Crew::new(2, 5, 1, 0, 4);
+    let crew = Crew::whole(2, 5, 1, 0, 4);
     let many: [Ballot; 4] = [(5, 2, &[]), (5, 2, &[]), (6, 2, &[]), (6, 2, &[])];
     assert_eq!(select(crew, 3, &many), (Selection::Any, 5));
 }

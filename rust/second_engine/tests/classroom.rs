@@ -15,7 +15,7 @@ macro_rules! stored {
 }
 
 /// The script with its output, the error, and the line that the wrong engine prints for the last go.
-const ERRORS: [((&str, &str), Mutation, &str); 12] = [
+const ERRORS: [((&str, &str), Mutation, &str); 13] = [
     (stored!("majority_of_arrivals_class_1"), MajorityOfArrivalsDecides, "2 3 7 7 7 9 9 -"),
     (stored!("majority_of_arrivals_class_2"), MajorityOfArrivalsDecides, "2 3 7 7 7 9 -"),
     (stored!("majority_of_arrivals_class_3"), MajorityOfArrivalsValidates, "2 3 9 9 7 -"),
@@ -28,6 +28,7 @@ const ERRORS: [((&str, &str), Mutation, &str); 12] = [
     (stored!("back_to_own_history_class_3"), BackToOwnHistory, "3 3 0 0 0 -"),
     (stored!("older_stamps_decide_class_2"), OldStampsDecide, "2 3 6 5 5 5 -"),
     (stored!("older_stamps_decide_class_3"), OldStampsDecide, "2 3 6 5 5 -"),
+    (stored!("say_of_a_non_validator"), OthersCount, "2 3 6 5 5 5 -"),
 ];
 
 fn text(output: Vec<u8>) -> String {

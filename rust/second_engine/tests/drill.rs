@@ -6,7 +6,7 @@ fn run(input: &str) -> String {
     String::from_utf8(drill::run(input.as_bytes())).expect("the output is text")
 }
 
-const START: &str = "3 4 1 0 3\n5 5 5 0\n";
+const START: &str = "3 4 1 0 3 4\n5 5 5 0\n";
 
 /// The lines added to the usual start, and what follows of the output.
 fn after_start(lines: &str) -> String {
@@ -22,10 +22,10 @@ fn example_of_the_paper() {
 fn missing_empty_and_unended_lines() {
     assert_eq!(run(""), "bad 1\n");
     assert_eq!(run("\n"), "bad 1\n");
-    assert_eq!(run("3 4 1 0 3"), "bad 1\n");
-    assert_eq!(run("3 4 1 0 3\n"), "bad 2\n");
-    assert_eq!(run("3 4 1 0 3\n5 5 5 0"), "bad 2\n");
-    assert_eq!(run("3 4 1 0 3\n\n"), "bad 2\n");
+    assert_eq!(run("3 4 1 0 3 4"), "bad 1\n");
+    assert_eq!(run("3 4 1 0 3 4\n"), "bad 2\n");
+    assert_eq!(run("3 4 1 0 3 4\n5 5 5 0"), "bad 2\n");
+    assert_eq!(run("3 4 1 0 3 4\n\n"), "bad 2\n");
     assert_eq!(after_start(""), "end\n");
     assert_eq!(after_start("go"), "bad 3\n");
     assert_eq!(after_start("go\n\n"), "1 1 0 0 0 -\nbad 4\n");
@@ -50,26 +50,38 @@ fn long_input() {
 #[test]
 fn bad_first_lines() {
     for line in [
-        "3 4 1 0 2",
-        "3 4 1 0 4",
-        "0 4 1 0 3",
-        "3 0 0 0 0",
-        "3 33 0 0 1",
+        "3 4 1 0 2 4",
+        "3 4 1 0 4 4",
+        "0 4 1 0 3 4",
+        "3 0 0 0 0 0",
+        "3 33 0 0 1 33",
         "3 4 1 0",
+        "3 4 1 0 3",
         "3 4 1 0 3 ",
-        " 3 4 1 0 3",
-        "3  4 1 0 3",
+        "3 4 1 0 3 4 ",
+        " 3 4 1 0 3 4",
+        "3  4 1 0 3 4",
+        "3 4 1 0 3 4 0",
+        "3 4 1 0 3 4 4",
+        "03 4 1 0 3 4",
+        "+3 4 1 0 3 4",
+        "3 4 1 0 3 4\r",
+        "259 4 1 0 3 4",
+        "3 260 1 0 3 4",
+        "3 4 1 -0 3 4",
+        "3 4 1 00 3 4",
+        "3 4 1 0 18446744073709551619 4",
+        "3\t4 1 0 3 4",
+        "a 4 1 0 3 4",
+        // The group size: refused with 17, or no number of a byte.
         "3 4 1 0 3 0",
-        "03 4 1 0 3",
-        "+3 4 1 0 3",
-        "3 4 1 0 3\r",
-        "259 4 1 0 3",
-        "3 260 1 0 3",
-        "3 4 1 -0 3",
-        "3 4 1 00 3",
-        "3 4 1 0 18446744073709551619",
-        "3\t4 1 0 3",
-        "a 4 1 0 3",
+        "3 4 1 0 3 3",
+        "3 4 1 0 3 5",
+        "3 4 1 0 3 255",
+        "3 4 1 0 3 260",
+        "3 4 1 0 3 04",
+        "3 4 1 0 3 -4",
+        "3 4 1 0 3 c",
     ] {
         assert_eq!(run(&format!("{line}\n5 5 5 0\ngo\n")), "bad 1\n", "{line:?}");
     }
@@ -78,7 +90,7 @@ fn bad_first_lines() {
 #[test]
 fn bad_second_lines() {
     for line in ["5 5 5", "5 5 5 0 0", "5 5 5 65536", "5 5 5 ", "5 5 5 0 ", "5 5 05 0", "5 5 5 -", "5 5 5 00"] {
-        assert_eq!(run(&format!("3 4 1 0 3\n{line}\ngo\n")), "bad 2\n", "{line:?}");
+        assert_eq!(run(&format!("3 4 1 0 3 4\n{line}\ngo\n")), "bad 2\n", "{line:?}");
     }
 }
 
@@ -131,7 +143,7 @@ fn stamps_of_says_are_bounded_by_the_round() {
     assert_eq!(after_start("go\ngo\nsay 3 0 5 2\n").lines().last(), Some("bad 5"));
     assert_eq!(after_start("go\ngo\ngo\nsay 3 0 5 2\n").lines().last(), Some("bad 6"));
     // In class 1 too, where stamps play no part.
-    let class_1 = "1 6 1 0 5\n5 5 5 5 5 0\n";
+    let class_1 = "1 6 1 0 5 6\n5 5 5 5 5 0\n";
     assert_eq!(run(&format!("{class_1}say 5 0 5 1\n")), "bad 3\n");
     assert_eq!(run(&format!("{class_1}go\nsay 5 0 5 1\n")), "1 1 0 0 0 0 0 -\nend\n");
     assert_eq!(run(&format!("{class_1}go\nsay 5 0 5 2\n")), "1 1 0 0 0 0 0 -\nbad 4\n");
@@ -140,7 +152,7 @@ fn stamps_of_says_are_bounded_by_the_round() {
 #[test]
 fn says_and_cuts() {
     // Two plans, no majority but by the Byzantine node's say: nodes 0 and 1 say 5, node 2 says 6.
-    let start = "3 4 1 0 3\n5 5 6 0\n";
+    let start = "3 4 1 0 3 4\n5 5 6 0\n";
     let to_all = |v, t| (0..4).map(|r| format!("say 3 {r} {v} {t}\n")).collect::<String>();
     // A say to the Byzantine node itself is allowed and without effect; of two says for one pair the last stands.
     let won = run(&format!("{start}{}{}go\ngo\n{}go\n", to_all(6, 0), to_all(5, 0), to_all(9, 1)));
@@ -155,6 +167,34 @@ fn says_and_cuts() {
     assert_eq!(after_start("go\ngo\ncut 0 0\ngo\n"), "1 1 0 0 0 -\n1 2 0 0 0 -\n1 3 0 5 5 -\nend\n");
 }
 
+/// Crew 2,5,1,0,4 with c = 2: nodes 2 and 3 validate in phase 1, nodes 4 and 0 in phase 2, nodes 1 and 2 in phase 3.
+/// Both are needed.
+#[test]
+fn validators_in_turn() {
+    let start = "2 5 1 0 4 2\n5 5 5 5 0\n";
+    let last_go = |lines: &str| run(&format!("{start}{lines}")).lines().nth_back(1).map(str::to_string);
+    assert_eq!(last_go("go\ngo\ngo\n").as_deref(), Some("1 3 5 5 5 5 -"));
+    // Where a validator is lost, others cannot take its place, though their says are no bad lines.
+    for say in ["", "say 4 0 5 0\n"] {
+        assert_eq!(last_go(&format!("go\ncut 2 0\n{say}go\ngo\n")).as_deref(), Some("1 3 0 0 0 0 -"), "{say:?}");
+    }
+    // The loss of another changes nothing, and its say neither.
+    assert_eq!(last_go("go\ncut 1 0\nsay 4 0 6 0\nsay 4 1 6 0\ngo\ngo\n").as_deref(), Some("1 3 5 5 5 5 -"));
+    // Phase 1 is lost in its first round. In phase 2 a liar validates, who has to say the plan for it to be validated.
+    let lost: String = (0..4).map(|r| format!("cut 0 {r}\ncut 1 {r}\n")).collect();
+    let phase_1 = format!("{lost}go\ngo\ngo\n");
+    assert_eq!(last_go(&phase_1).as_deref(), Some("1 3 0 0 0 0 -"));
+    assert_eq!(last_go(&format!("{phase_1}go\ngo\ngo\n")).as_deref(), Some("2 3 0 0 0 0 -"));
+    let says: String = (0..4).map(|r| format!("say 4 {r} 5 0\n")).collect();
+    assert_eq!(last_go(&format!("{phase_1}go\n{says}go\ngo\n")).as_deref(), Some("2 3 5 5 5 5 -"));
+    // In phase 3 all is well without it.
+    assert_eq!(last_go(&format!("{phase_1}{}", "go\n".repeat(6))).as_deref(), Some("3 3 5 5 5 5 -"));
+    // Says of a node that does not validate have the checks of any say.
+    assert_eq!(run(&format!("{start}go\nsay 4 0 5 1\n")).lines().last(), Some("bad 4"));
+    assert_eq!(run(&format!("{start}go\nsay 4 0 0 0\n")).lines().last(), Some("bad 4"));
+    assert_eq!(run(&format!("{start}go\nsay 1 0 5 0\n")).lines().last(), Some("bad 4"));
+}
+
 #[test]
 fn spent() {
     let gos = "go\n".repeat(189);
@@ -166,14 +206,14 @@ fn spent() {
     assert_eq!(after_start(&format!("{gos}go\n")).lines().last(), Some("bad 192"));
     assert_eq!(after_start(&format!("{gos}say 3 0 5 0\n")).lines().last(), Some("bad 192"));
     assert_eq!(after_start(&format!("{gos}cut 0 4\n")).lines().last(), Some("bad 192"));
-    let class_1 = format!("1 6 1 0 5\n5 5 5 5 5 0\n{}", "go\n".repeat(126));
+    let class_1 = format!("1 6 1 0 5 6\n5 5 5 5 5 0\n{}", "go\n".repeat(126));
     assert_eq!(run(&class_1).lines().nth(125), Some("63 3 5 5 5 5 5 -"));
     assert_eq!(run(&format!("{class_1}go\n")).lines().last(), Some("bad 129"));
 }
 
 #[test]
 fn no_honest_node() {
-    let output = run(&format!("1 4 0 1 3\n0 0 0 0\n{}", "go\n".repeat(126)));
+    let output = run(&format!("1 4 0 1 3 4\n0 0 0 0\n{}", "go\n".repeat(126)));
     assert_eq!(output.lines().next(), Some("1 1 - - - -"));
     assert_eq!(output.lines().nth(1), Some("1 3 - - - -"));
     assert_eq!(output.lines().nth(125), Some("63 3 - - - -"));

@@ -6,7 +6,7 @@ use second_engine::Mutation::{self, *};
 use second_engine::{plan, rounds, Body, Crew, Message, Node, Plan, Selection};
 
 /// E is 2 and b is 1: a vote needs three slots to be possible and two that list it.
-const CREW: Crew = Crew::new(3, 4, 1, 0, 3);
+const CREW: Crew = Crew::whole(3, 4, 1, 0, 3);
 const RUN: u32 = 1;
 const PHASE: u8 = 3;
 

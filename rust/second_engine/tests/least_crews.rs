@@ -76,7 +76,7 @@ fn lookups_outside_the_ranges_are_refused() {
 fn every_entry_is_the_least() {
     let (mut entries, mut crews) = (0, 0);
     for ((class, b, f), entry) in table() {
-        let is_accepted = |n, d| Crew::new(class, n, b, f, d).is_accepted();
+        let is_accepted = |n, d| Crew::whole(class, n, b, f, d).is_accepted();
         if entry == LeastCrew::NONE {
             assert!(!(0..=255).any(|n| (0..=255).any(|d| is_accepted(n, d))), "class {class}, b {b}, f {f}");
         } else {

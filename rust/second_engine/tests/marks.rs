@@ -21,7 +21,7 @@ const NOTHING: &[u8] = &[];
 
 /// A node of five in this round of phase 1.
 fn node(round: u8) -> Node {
-    let node = Node::start(Crew::new(3, 5, 1, 0, 3), 0, 1, 5).expect("the start is in order");
+    let node = Node::start(Crew::whole(3, 5, 1, 0, 3), 0, 1, 5).expect("the start is in order");
     Node { round, ..node }
 }
 
@@ -53,7 +53,7 @@ fn marks_are_those_of_the_coming_round() {
 /// As many nodes as there can be: the last has the highest bit.
 #[test]
 fn thirty_two_slots_fill_the_number() {
-    let node = Node::start(Crew::new(3, 32, 10, 0, 21), 0, 1, 5).expect("the start is in order");
+    let node = Node::start(Crew::whole(3, 32, 10, 0, 21), 0, 1, 5).expect("the start is in order");
     let mut inbox = vec![0; 32 * SLOT];
     for q in (0..32).rev() {
         inbox[SLOT * q..][..SELECTED.len()].copy_from_slice(SELECTED);

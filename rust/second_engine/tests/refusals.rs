@@ -1,10 +1,10 @@
-//! Every refusal number of 01, and 02's 16, in the papers' order: the first that applies is given.
+//! Every refusal number of 01, and 02's 16 and 17, in the papers' order: the first that applies is given.
 
 use second_engine::inbox::SLOT;
 use second_engine::node::{DECISION, SELECTION, VALIDATION};
 use second_engine::{message, rounds, Crew, Node, Refusal};
 
-const CREW: Crew = Crew::new(3, 4, 1, 0, 3);
+const CREW: Crew = Crew::whole(3, 4, 1, 0, 3);
 
 fn node() -> Node {
     Node::start(CREW, 0, 1, 5).expect("the start is in order")
@@ -16,22 +16,66 @@ fn number<T>(answer: Result<T, Refusal>) -> u8 {
 
 #[test]
 fn crews() {
-    assert_eq!(number(Crew::new(0, 0, 0, 0, 0).accept()), 1);
-    assert_eq!(number(Crew::new(4, 33, 0, 0, 0).accept()), 1);
-    assert_eq!(number(Crew::new(1, 33, 255, 0, 0).accept()), 2);
-    assert_eq!(number(Crew::new(1, 0, 0, 0, 0).accept()), 2);
+    assert_eq!(number(Crew::whole(0, 0, 0, 0, 0).accept()), 1);
+    assert_eq!(number(Crew::whole(4, 33, 0, 0, 0).accept()), 1);
+    assert_eq!(number(Crew::whole(1, 33, 255, 0, 0).accept()), 2);
+    assert_eq!(number(Crew::whole(1, 0, 0, 0, 0).accept()), 2);
     // Sums do not wrap at a byte.
-    assert_eq!(number(Crew::new(3, 32, 128, 127, 255).accept()), 3);
-    assert_eq!(number(Crew::new(3, 32, 255, 1, 1).accept()), 3);
-    assert_eq!(number(Crew::new(3, 1, 0, 0, 0).accept()), 4);
-    assert_eq!(number(Crew::new(3, 1, 0, 0, 1).accept()), 0);
-    assert_eq!(number(Crew::new(2, 32, 7, 1, 22).accept()), 4);
-    assert_eq!(number(Crew::new(2, 32, 7, 1, 23).accept()), 0);
+    assert_eq!(number(Crew::whole(3, 32, 128, 127, 255).accept()), 3);
+    assert_eq!(number(Crew::whole(3, 32, 255, 1, 1).accept()), 3);
+    assert_eq!(number(Crew::whole(3, 1, 0, 0, 0).accept()), 4);
+    assert_eq!(number(Crew::whole(3, 1, 0, 0, 1).accept()), 0);
+    assert_eq!(number(Crew::whole(2, 32, 7, 1, 22).accept()), 4);
+    assert_eq!(number(Crew::whole(2, 32, 7, 1, 23).accept()), 0);
+}
+
+/// 02 (C-13): "It refuses with 17, after 4 wherever a crew is tested, c above n, c ≤ b in class 2, c ≤ 3b + 2f in class
+/// 3, and c other than n in class 1."
+#[test]
+fn groups() {
+    let accept = |class, n, b, f, d, c| number(Crew::new(class, n, b, f, d, c).accept());
+    // In class 1 c is n.
+    for c in 0..=255 {
+        assert_eq!(accept(1, 6, 1, 0, 5, c), if c == 6 { 0 } else { 17 }, "c {c}");
+    }
+    // In class 2 it is from b + 1 on, in class 3 from 3b + 2f + 1 on, and never above n.
+    for c in 0..=255 {
+        assert_eq!(accept(2, 32, 3, 4, 20, c), if (4..=32).contains(&c) { 0 } else { 17 }, "c {c}");
+        assert_eq!(accept(3, 32, 3, 4, 20, c), if (18..=32).contains(&c) { 0 } else { 17 }, "c {c}");
+        assert_eq!(accept(3, 4, 1, 0, 3, c), if c == 4 { 0 } else { 17 }, "c {c}");
+    }
+    // Without liars one will do, and nobody never does.
+    for class in [2, 3] {
+        assert_eq!([0, 1, 7, 8].map(|c| accept(class, 7, 0, 0, 1, c)), [17, 0, 0, 17], "class {class}");
+    }
+    // 1 to 4 come before it, whatever c is.
+    for c in [0, 1, 4, 255] {
+        assert_eq!(accept(0, 4, 1, 0, 3, c), 1, "c {c}");
+        assert_eq!(accept(3, 33, 1, 0, 3, c), 2, "c {c}");
+        assert_eq!(accept(3, 4, 1, 0, 4, c), 3, "c {c}");
+        assert_eq!(accept(3, 4, 1, 0, 2, c), 4, "c {c}");
+        assert_eq!(accept(2, 4, 1, 0, 3, c), 4, "c {c}");
+        assert_eq!(accept(1, 5, 1, 0, 4, c), 4, "c {c}");
+        // 3b + 2f = 1,275 and 3b = 765 are past a byte, and 3 comes first all the same.
+        assert_eq!(accept(3, 32, 255, 255, 255, c), 3, "c {c}");
+    }
+    // In starts it comes before 5 and 6, and a record of such a crew is not sound.
+    let refused = Crew::new(3, 4, 1, 0, 3, 3);
+    assert_eq!(number(Node::start(refused, 4, 1, 0)), 17);
+    assert_eq!(number(Node::start(refused, 0, 1, 0)), 17);
+    assert_eq!(number(Node::start(refused, 0, 1, 5)), 17);
+    assert_eq!(number(Node::start(Crew { d: 2, ..refused }, 4, 1, 0)), 4);
+    let record = Node { crew: refused, ..node() };
+    assert!(!record.is_sound());
+    assert_eq!(number(record.write(&mut [])), 7);
+    assert_eq!(number(rounds::take(&mut record.clone(), &[])), 7);
+    assert_eq!(number(rounds::ask(&record, &[])), 7);
+    assert_eq!(number(rounds::marks(&record, &[])), 7);
 }
 
 #[test]
 fn starts() {
-    assert_eq!(number(Node::start(Crew::new(3, 4, 1, 0, 2), 9, 1, 0)), 4);
+    assert_eq!(number(Node::start(Crew::whole(3, 4, 1, 0, 2), 9, 1, 0)), 4);
     assert_eq!(number(Node::start(CREW, 4, 1, 0)), 5);
     assert_eq!(number(Node::start(CREW, 255, 1, 5)), 5);
     assert_eq!(number(Node::start(CREW, 3, 1, 0)), 6);
@@ -49,6 +93,9 @@ fn soundness() {
     };
     assert!(with(|_| ()));
     assert!(!with(|node| node.crew.d = 4));
+    assert!(!with(|node| node.crew.c = 3));
+    assert!(!with(|node| node.crew.c = 5));
+    assert!(with(|node| node.crew = Crew::new(3, 6, 1, 0, 3, 4)));
     assert!(!with(|node| node.own = 4));
     assert!(!with(|node| node.phase = 0));
     assert!(!with(|node| node.phase = 65));
@@ -69,9 +116,9 @@ fn soundness() {
     assert!(!with(|node| node.history[6] = 1));
     assert!(!with(|node| (node.round, node.history[5]) = (SELECTION, 1)));
     assert!(with(|node| (node.round, node.history[4]) = (SELECTION, 1)));
-    assert!(!with(|node| node.crew = Crew::new(1, 6, 1, 0, 5)));
-    assert!(!with(|node| (node.crew, node.round) = (Crew::new(1, 6, 1, 0, 5), DECISION)));
-    assert!(with(|node| (node.crew, node.round, node.stamp) = (Crew::new(1, 6, 1, 0, 5), DECISION, 0)));
+    assert!(!with(|node| node.crew = Crew::whole(1, 6, 1, 0, 5)));
+    assert!(!with(|node| (node.crew, node.round) = (Crew::whole(1, 6, 1, 0, 5), DECISION)));
+    assert!(with(|node| (node.crew, node.round, node.stamp) = (Crew::whole(1, 6, 1, 0, 5), DECISION, 0)));
     // Fields that soundness does not name may be anything.
     assert!(with(|node| (node.select, node.result, node.base, node.run) = (65_535, 9, 7, 0)));
 }
@@ -216,15 +263,16 @@ fn asking_and_taking() {
 
 #[test]
 fn numbers_and_refusals() {
-    // No refusal has 17 or 20 to 22.
-    assert!((1..=16).chain(18..=19).chain([23]).eq(Refusal::ALL.into_iter().map(Refusal::number)));
+    // No refusal has 20 to 22.
+    assert!((1..=19).chain([23]).eq(Refusal::ALL.into_iter().map(Refusal::number)));
     for refusal in Refusal::ALL {
         assert_eq!(Refusal::from_number(refusal.number()), Some(refusal));
     }
     assert_eq!(Refusal::from_number(15), Some(Refusal::Range));
     assert_eq!(Refusal::from_number(16), Some(Refusal::Residue));
+    assert_eq!(Refusal::from_number(17), Some(Refusal::Group));
     assert_eq!(Refusal::from_number(18), Some(Refusal::Count));
     assert_eq!(Refusal::from_number(19), Some(Refusal::Amount));
     assert_eq!(Refusal::from_number(23), Some(Refusal::SameRun));
-    assert_eq!([0, 17, 20, 22, 24, 255].map(Refusal::from_number), [None; 6]);
+    assert_eq!([0, 20, 22, 24, 255].map(Refusal::from_number), [None; 5]);
 }

@@ -44,7 +44,7 @@ fn each_wrong_engine_reads_otherwise() {
 
 /// The result after a decision round with two clean slots and one that has a byte of residue at its end.
 fn result(mutation: Mutation) -> Plan {
-    let node = Node::start(Crew::new(3, 4, 1, 0, 3), 0, 1, 5).expect("the start is in order");
+    let node = Node::start(Crew::whole(3, 4, 1, 0, 3), 0, 1, 5).expect("the start is in order");
     let mut node = Node { round: DECISION, ..node };
     let mut inbox = [0; 4 * SLOT];
     for slot in inbox.chunks_exact_mut(SLOT).take(3) {

@@ -33,7 +33,7 @@ returns c =
     let tested = started .before .before in
     let a = tested .before .before .before .before .args in
     let made = started .before .crew-of in
-    let is : made .result ≡ crewOf (a .class) (a .n) (a .b) (a .f) (a .d) = made .ensures in
+    let is : made .result ≡ crewOf (a .class) (a .n) (a .b) (a .f) (a .d) (a .c) = made .ensures in
     rw (← is)
     (record-stored _ blank (tested .before .fits2 .ensures) (tested .if1 .taken) _ (started .start .ensures .answer)
     (ap startAnswer (told .enum-told .given .1)) (started .start .ensures .node) (c .before .before .store .ensures))
@@ -57,7 +57,7 @@ returns-2 c =
     let tested = started .before .before in
     let a = tested .before .before .before .before .args in
     let made = started .before .crew-of in
-    let is : made .result ≡ crewOf (a .class) (a .n) (a .b) (a .f) (a .d) = made .ensures in
+    let is : made .result ≡ crewOf (a .class) (a .n) (a .b) (a .f) (a .d) (a .c) = made .ensures in
     rw (← is)
     (record-kept _ blank (tested .before .fits2 .ensures) (tested .if1 .taken) _ (started .start .ensures .answer)
     _ (ap startAnswer (told .answer .given .1)) (c .before .start-number .ensures) (c .refusal .ensures))

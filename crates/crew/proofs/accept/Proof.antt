@@ -1,79 +1,53 @@
--- `accept` meets its contract.
-use mathlib.Core.Path.{_≡_, sym, _∙_}
-use mathlib.Core.Bool.{true}
+-- `accept` meets its contract: what is left after 01's four conditions is the group's.
+use mathlib.Core.Path.{ap, sym, _∙_}
 use borrow.Author.Needs.{needs}
-use Rattle.wire.specs.Outcome.{accepted, require}
-use Rattle.crew.specs.declared.Crew.{Crew}
-use Rattle.crew.specs.Acceptance.{acceptOf, classKnown, sizeKnown, highEnough}
+use Rattle.crew.specs.Acceptance.{acceptOf, acceptAnswer}
 use Rattle.crew.proofs.accept.Statement.{statement}
 use Rattle.crew.proofs.accept.Tie as tie
 
-is-class-requires : tie.Need-is-class-requires
-is-class-requires c κs = search needs
+accept-quorum-requires : tie.Need-accept-quorum-requires
+accept-quorum-requires c κs = search needs
 
-is-size-requires : tie.Need-is-size-requires
-is-size-requires c κs = search needs
+enum-known-why : tie.Need-enum-known-why
+enum-known-why c = search needs
 
-is-reachable-requires : tie.Need-is-reachable-requires
-is-reachable-requires c κs = search needs
+enum-told : tie.Need-enum-told
+enum-told c = search needs
 
-is-high-enough-requires : tie.Need-is-high-enough-requires
-is-high-enough-requires c κs = search needs
-
--- the tests that are passed on the way, each at the place behind it
-class-known : (c : tie.Then1) → classKnown (c .before .before .args .crew) ≡ true
-class-known c = sym (c .before .is-class .ensures) ∙ c .if1 .taken
-
-size-known : (c : tie.Then2) → sizeKnown (c .before .before .before .before .args .crew) ≡ true
-size-known c = sym (c .before .is-size .ensures) ∙ c .if2 .taken
-
--- with three tests passed, only the fourth is left to answer
-module _ (c : tie.Then3) where
-  abbrev sized : tie.Then2
-  sized = c .before .before
-
-  abbrev crew : Crew
-  crew = sized .before .before .before .before .args .crew
-
-  last-left : acceptOf crew ≡ require (highEnough crew) 4 (accepted tt)
-  unfolding acceptOf
-  last-left =
-      let reached = sym (c .before .is-reachable .ensures) ∙ c .if3 .taken in
-      simp (class-known (sized .before .before), size-known sized, reached)
+is-group-requires : tie.Need-is-group-requires
+is-group-requires c κs = search needs
 
 returns : tie.Need-returns
-returns c = simp (last-left (c .before .before), sym (c .before .is-high-enough .ensures) ∙ c .if4 .taken)
+unfolding acceptOf
+returns c =
+    let told = c .before .before in
+    simp (
+      sym (told .before .before .accept-quorum .ensures) ∙ ap acceptAnswer (told .enum-told .given .1),
+      sym (c .before .is-group .ensures) ∙ c .if1 .taken,
+    )
 
 returns-2 : tie.Need-returns-2
-returns-2 c = simp (last-left (c .before .before), sym (c .before .is-high-enough .ensures) ∙ c .if4 .left)
+unfolding acceptOf
+returns-2 c =
+    simp (sym (c .before .before .before .accept-quorum .ensures) ∙ ap acceptAnswer (c .before .why .given .1))
 
 returns-3 : tie.Need-returns-3
 unfolding acceptOf
 returns-3 c =
-    let sized = c .before .before in
-    let beyond = sym (c .before .is-reachable .ensures) ∙ c .if3 .left in
-    simp (class-known (sized .before .before), size-known sized, beyond)
-
-returns-4 : tie.Need-returns-4
-unfolding acceptOf
-returns-4 c =
-    let unsized = sym (c .before .is-size .ensures) ∙ c .if2 .left in
-    simp (class-known (c .before .before), unsized)
-
-returns-5 : tie.Need-returns-5
-unfolding acceptOf
-returns-5 c = simp (sym (c .before .is-class .ensures) ∙ c .if1 .left)
+    let told = c .before .before in
+    simp (
+      sym (told .before .before .accept-quorum .ensures) ∙ ap acceptAnswer (told .enum-told .given .1),
+      sym (c .before .is-group .ensures) ∙ c .if1 .left,
+    )
 
 pub accept-spec : {M : Type 1} → statement M
 accept-spec =
     tie.close
     (tie.spec
-    is-class-requires
-    is-size-requires
-    is-reachable-requires
-    is-high-enough-requires
+    accept-quorum-requires
+    enum-known-why
+    enum-told
+    is-group-requires
     returns
     returns-2
-    returns-3
-    returns-4
-    returns-5)
+    returns-3)

@@ -32,6 +32,12 @@ add-image-4 c = search needs
 slice-write-image-5 : tie.Need-slice-write-image-5
 slice-write-image-5 c = simp length-set (omega arith)
 
+add-image-5 : tie.Need-add-image-5
+add-image-5 c = search needs
+
+slice-write-image-6 : tie.Need-slice-write-image-6
+slice-write-image-6 c = simp length-set (omega arith)
+
 same-length : tie.Need-same-length
 same-length c = search needs
 
@@ -51,5 +57,7 @@ put-crew-spec =
     slice-write-image-4
     add-image-4
     slice-write-image-5
+    add-image-5
+    slice-write-image-6
     same-length
     returns)

@@ -18,17 +18,21 @@ slice-aggregate-read-slots c = search needs
 read-slots-requires : tie.Need-read-slots-requires
 read-slots-requires c κs = search needs
 
+speaking-requires : tie.Need-speaking-requires
+speaking-requires c κs = search needs
+
 marks-in-requires : tie.Need-marks-in-requires
 marks-in-requires c κs = search needs
 
 returns : tie.Need-returns
 returns c =
-    let walk = c .before .before .before in
+    let kept = c .before .before in
+    let walk = kept .before .before in
     let last = walk .read-slots .last .1 .1 in
     let start = walk .before .before .before .before .before .before .before .before in
     c .marks-in .ensures
     ∙ marks-heard (start .args .round) _ (columns (last .0) (last .1 .0) (last .1 .1 .0)) (last .1 .1 .1 .0)
-    (start .pre) (walk .read-slots .ensures)
+    (kept .speaking .result) (start .pre) (walk .read-slots .ensures) (kept .speaking .ensures)
 
 pub marks-with-spec : {M : Type 1} → statement M
 marks-with-spec =
@@ -38,5 +42,6 @@ marks-with-spec =
     array-borrow-prefix-none
     slice-aggregate-read-slots
     read-slots-requires
+    speaking-requires
     marks-in-requires
     returns)

@@ -9,6 +9,9 @@ use Rattle.rounds.proofs.outcome_with.Tie as tie
 read-slots-requires : tie.Need-read-slots-requires
 read-slots-requires c κs = search needs
 
+speaking-requires : tie.Need-speaking-requires
+speaking-requires c κs = search needs
+
 rule-on-columns-requires : tie.Need-rule-on-columns-requires
 rule-on-columns-requires c κs = search needs
 
@@ -17,11 +20,14 @@ same-length c = search needs
 
 returns : tie.Need-returns
 returns c =
-    let walk = c .before .before .before .before .before .before .before in
+    let kept = c .before .before .before .before .before in
+    let walk = kept .before .before .before in
     let last = walk .read-slots .last .1 .1 in
     let start = walk .before .before .before .before .before .before .before .before in
     on-heard (start .pre) (columns (last .0) (last .1 .0) (last .1 .1 .0)) (last .1 .1 .1 .0)
-    (walk .read-slots .ensures) (ruled (start .args .round)) _ (c .rule-on-columns .ensures)
+    (walk .read-slots .ensures) (kept .speaking .result) (kept .speaking .ensures)
+    (ruled (start .args .round)) _ (c .rule-on-columns .ensures)
 
 pub outcome-with-spec : {M : Type 1} → statement M
-outcome-with-spec = tie.close (tie.spec read-slots-requires rule-on-columns-requires same-length returns)
+outcome-with-spec =
+    tie.close (tie.spec read-slots-requires speaking-requires rule-on-columns-requires same-length returns)

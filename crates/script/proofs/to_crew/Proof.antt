@@ -9,12 +9,12 @@ use borrow.Author.Needs.{needs}
 use Rattle.script.proofs.to_crew.Statement.{statement}
 use Rattle.script.proofs.to_crew.Tie as tie
 
--- the five numbers are bytes
-bytes : (c : tie.Then1) (i : ℕ) → T (among i (0 ∷ 1 ∷ 2 ∷ 3 ∷ 4 ∷ []))
+-- the six numbers are bytes
+bytes : (c : tie.Then1) (i : ℕ) → T (among i (0 ∷ 1 ∷ 2 ∷ 3 ∷ 4 ∷ 5 ∷ []))
     → nth (c .before .before .before .before .args .w) i ≤ 255
 bytes c =
     let w = c .before .before .before .before .args .w in
-    is-byte w (has w 5) (0 ∷ 1 ∷ 2 ∷ 3 ∷ 4 ∷ []) (c .if1 .taken)
+    is-byte w (has w 6) (0 ∷ 1 ∷ 2 ∷ 3 ∷ 4 ∷ 5 ∷ []) (c .if1 .taken)
 
 array-read-good : tie.Need-array-read-good
 array-read-good c = search needs
@@ -31,35 +31,44 @@ array-read-good-4 c = search needs
 array-read-good-5 : tie.Need-array-read-good-5
 array-read-good-5 c = search needs
 
-array-read-t33 : tie.Need-array-read-t33
-array-read-t33 c = search needs
+array-read-good-6 : tie.Need-array-read-good-6
+array-read-good-6 c = search needs
 
-cast-t34 : tie.Need-cast-t34
-cast-t34 c = omega (arith, bytes c 0 tt)
+array-read-t38 : tie.Need-array-read-t38
+array-read-t38 c = search needs
 
-array-read-t37 : tie.Need-array-read-t37
-array-read-t37 c = search needs
+cast-t39 : tie.Need-cast-t39
+cast-t39 c = omega (arith, bytes c 0 tt)
 
-cast-t38 : tie.Need-cast-t38
-cast-t38 c = omega (arith, bytes c 1 tt)
+array-read-t42 : tie.Need-array-read-t42
+array-read-t42 c = search needs
 
-array-read-t41 : tie.Need-array-read-t41
-array-read-t41 c = search needs
+cast-t43 : tie.Need-cast-t43
+cast-t43 c = omega (arith, bytes c 1 tt)
 
-cast-t42 : tie.Need-cast-t42
-cast-t42 c = omega (arith, bytes c 2 tt)
+array-read-t46 : tie.Need-array-read-t46
+array-read-t46 c = search needs
 
-array-read-t45 : tie.Need-array-read-t45
-array-read-t45 c = search needs
+cast-t47 : tie.Need-cast-t47
+cast-t47 c = omega (arith, bytes c 2 tt)
 
-cast-t46 : tie.Need-cast-t46
-cast-t46 c = omega (arith, bytes c 3 tt)
+array-read-t50 : tie.Need-array-read-t50
+array-read-t50 c = search needs
 
-array-read-t49 : tie.Need-array-read-t49
-array-read-t49 c = search needs
+cast-t51 : tie.Need-cast-t51
+cast-t51 c = omega (arith, bytes c 3 tt)
 
-cast-t50 : tie.Need-cast-t50
-cast-t50 c = omega (arith, bytes c 4 tt)
+array-read-t54 : tie.Need-array-read-t54
+array-read-t54 c = search needs
+
+cast-t55 : tie.Need-cast-t55
+cast-t55 c = omega (arith, bytes c 4 tt)
+
+array-read-t58 : tie.Need-array-read-t58
+array-read-t58 c = search needs
+
+cast-t59 : tie.Need-cast-t59
+cast-t59 c = omega (arith, bytes c 5 tt)
 
 returns : tie.Need-returns
 returns c = passed _ _ _ (c .if1 .taken)
@@ -76,15 +85,18 @@ to-crew-spec =
     array-read-good-3
     array-read-good-4
     array-read-good-5
-    array-read-t33
-    cast-t34
-    array-read-t37
-    cast-t38
-    array-read-t41
-    cast-t42
-    array-read-t45
-    cast-t46
-    array-read-t49
-    cast-t50
+    array-read-good-6
+    array-read-t38
+    cast-t39
+    array-read-t42
+    cast-t43
+    array-read-t46
+    cast-t47
+    array-read-t50
+    cast-t51
+    array-read-t54
+    cast-t55
+    array-read-t58
+    cast-t59
     returns
     returns-2)

@@ -15,6 +15,7 @@ use second_engine::absence::{Record, MOST_RECORDS, NODES};
 use second_engine::current::{self, MOST_BUDGET, MOST_DEMAND, MOST_SHUTTLES};
 use second_engine::inbox::SLOT;
 use second_engine::message::LAST_PHASE;
+use second_engine::node::VALIDATION;
 use second_engine::{rounds, Crew, Node, Plan};
 use std::cell::RefCell;
 use std::fs::{self, File};
@@ -26,10 +27,13 @@ use std::time::Instant;
 /// The crews, by class and n: the most Byzantine nodes that the class allows, for n = 4 in classes 1 and 2 one node out
 /// of reach.
 const CREWS: [[Crew; 3]; 3] = [
-    [Crew::new(1, 4, 0, 1, 3), Crew::new(1, 16, 3, 0, 13), Crew::new(1, 32, 6, 0, 26)],
-    [Crew::new(2, 4, 0, 1, 3), Crew::new(2, 16, 3, 1, 12), Crew::new(2, 32, 7, 0, 25)],
-    [Crew::new(3, 4, 1, 0, 3), Crew::new(3, 16, 5, 0, 11), Crew::new(3, 32, 10, 0, 22)],
+    [Crew::whole(1, 4, 0, 1, 3), Crew::whole(1, 16, 3, 0, 13), Crew::whole(1, 32, 6, 0, 26)],
+    [Crew::whole(2, 4, 0, 1, 3), Crew::whole(2, 16, 3, 1, 12), Crew::whole(2, 32, 7, 0, 25)],
+    [Crew::whole(3, 4, 1, 0, 3), Crew::whole(3, 16, 5, 0, 11), Crew::whole(3, 32, 10, 0, 22)],
 ];
+
+/// Crews in which eleven of 31 validate in a phase.
+const CREWS_IN_TURN: [Crew; 2] = [Crew::new(2, 31, 7, 0, 24, 11), Crew::new(3, 31, 3, 0, 28, 11)];
 
 const PHASES: [u8; 2] = [1, LAST_PHASE];
 
@@ -105,6 +109,7 @@ fn main() {
     print_summary(&rows, repetitions);
     print_rows(&rows);
     print_growth(&rows);
+    print_turns(repetitions);
     print_image(repetitions);
     print_splits(repetitions);
     print_drill(repetitions, drill.as_ref());
@@ -295,15 +300,19 @@ fn print_rows(rows: &[Row]) {
     println!("| gaps: ratio | stamps: ratio | tie: ratio | floor |");
     println!("|---|---|---|---|---|---|---|---|---|---|---|---|---|---|---|");
     for row in rows {
-        let [agreed, mixed, gaps, stamps, tie] = row.times;
         let Row { operation, crew, round, phase, .. } = *row;
         print!("| {} | {} | {round} | {phase} | {} ", name(operation), crew.class, crew.n);
-        for times in [agreed, mixed] {
-            print!("| {:.0} | {:.0} | {:.2} ", times.engine, times.second, times.ratio);
-        }
-        println!("| {:.2} | {:.2} | {:.2} | {:.0} |", gaps.ratio, stamps.ratio, tie.ratio, agreed.floor);
+        print_times(row.times);
     }
     println!();
+}
+
+/// The rest of a row of times.
+fn print_times([agreed, mixed, gaps, stamps, tie]: [Times; VOTES.len()]) {
+    for times in [agreed, mixed] {
+        print!("| {:.0} | {:.0} | {:.2} ", times.engine, times.second, times.ratio);
+    }
+    println!("| {:.2} | {:.2} | {:.2} | {:.0} |", gaps.ratio, stamps.ratio, tie.ratio, agreed.floor);
 }
 
 fn name(operation: Operation) -> &'static str {
@@ -329,6 +338,28 @@ fn print_growth(rows: &[Row]) {
             print!("| {:.1} | {:.1} ", many.engine / few.engine, many.second / few.second);
         }
         println!("|");
+    }
+    println!();
+}
+
+/// Takes of round 2 where validators take turns, each beside the same crew in which all nodes validate. In both every
+/// slot holds a validation, but for the gaps.
+fn print_turns(repetitions: usize) {
+    println!("## Validators in turn");
+    println!();
+    println!("Takes of round 2, nanoseconds.");
+    println!();
+    print!("| class | phase | n | c | agreed: engine | second | ratio | mixed: engine | second | ratio ");
+    println!("| gaps: ratio | stamps: ratio | tie: ratio | floor |");
+    println!("|---|---|---|---|---|---|---|---|---|---|---|---|---|---|");
+    for crew in CREWS_IN_TURN {
+        for phase in PHASES {
+            for crew in [crew, Crew { c: crew.n, ..crew }] {
+                let node = node(crew, phase, VALIDATION);
+                print!("| {} | {phase} | {} | {} ", crew.class, crew.n, crew.c);
+                print_times(VOTES.map(|votes| measure(repetitions, Operation::Take, &node, votes)));
+            }
+        }
     }
     println!();
 }

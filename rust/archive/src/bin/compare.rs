@@ -81,6 +81,9 @@ fn compare_once(archive: &Archive, first: u64) -> Result<(), String> {
     tell_all(
         archive,
         Cases {
+            accepts: 2_000,
+            starts: 10_000,
+            writes: 10_000,
             reads: 2_000,
             rounds: 2_000,
             marks: 2_000,

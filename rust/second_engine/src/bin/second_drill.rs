@@ -1,17 +1,22 @@
-//! The drill as a program: standard input to standard output. With a word it is a wrong engine's, a mutant of rounds,
-//! so that a class can see on the screen where the error leads: `second_drill NewestStampWins < script`.
+//! The drill as a program: standard input to standard output. With a word it is a wrong engine's, a mutant of rounds or
+//! of turns, so that a class can see on the screen where the error leads: `second_drill NewestStampWins < script`.
 
 use second_engine::{drill, Mutation};
 use std::io::{self, Read, Write};
 use std::process::ExitCode;
 
+/// The wrong engines whose drills may print something else.
+fn mutants() -> impl Iterator<Item = Mutation> {
+    Mutation::MUTANTS_OF_ROUNDS.into_iter().chain(Mutation::MUTANTS_OF_TURNS)
+}
+
 fn main() -> io::Result<ExitCode> {
     let mutation = match std::env::args().nth(1) {
         None => Mutation::Unmutated,
-        Some(name) => match Mutation::MUTANTS_OF_ROUNDS.into_iter().find(|mutant| format!("{mutant:?}") == name) {
+        Some(name) => match mutants().find(|mutant| format!("{mutant:?}") == name) {
             Some(mutant) => mutant,
             None => {
-                eprintln!("no wrong engine is called {name}; there are: {:?}", Mutation::MUTANTS_OF_ROUNDS);
+                eprintln!("no wrong engine is called {name}; there are: {:?}", mutants().collect::<Vec<_>>());
                 return Ok(ExitCode::from(2));
             }
         },

@@ -1,6 +1,8 @@
 -- For a sound, unspent record each round's writer leaves the answer and the buffer that the node is to leave.
-use native.Mathlib.Omega.{arith}
+use mathlib.Core.Path.{sym, _∙_}
 use borrow.Author.Needs.{needs}
+use borrow.Author.Tests.{ltb-true}
+use Rattle.wire.proofs.Tests.{both-true}
 use Rattle.node.proofs.Coming.{confirms, decides}
 use Rattle.node.proofs.Facts.{sound-facts, last-round}
 use Rattle.node.proofs.SendLaws.{message-written, selection-written, silence-written}
@@ -23,6 +25,9 @@ returns c =
     selection-written (first .before .before .before .pre) _ (first .if1 .taken) (listed .listed-phases .ensures)
     (c .before .before .write-selection .ensures)
 
+is-validator-requires : tie.Need-is-validator-requires
+is-validator-requires c κs = search needs
+
 write-validation-requires : tie.Need-write-validation-requires
 write-validation-requires c κs = search needs
 
@@ -32,16 +37,21 @@ same-length-2 c = search needs
 returns-2 : tie.Need-returns-2
 returns-2 c =
     let planned = c .before .before .before .before in
-    let second = planned .before .before in
+    let asked = planned .before .before in
+    let second = asked .before in
     let unfirst = second .before .before in
+    let both = both-true (asked .is-validator .result) _ (planned .if3 .taken) in
     message-written (unfirst .before .before .before .pre) _
-    (confirms (second .if2 .taken) (planned .if3 .taken)) (c .before .before .write-validation .ensures)
+    (confirms (second .if2 .taken) (sym (asked .is-validator .ensures) ∙ both .0) (ltb-true _ _ (both .1)))
+    (c .before .before .write-validation .ensures)
 
 returns-3 : tie.Need-returns-3
 returns-3 c =
-    let second = c .before .before in
+    let asked = c .before .before in
+    let second = asked .before in
     let unfirst = second .before .before in
-    silence-written (unfirst .before .before .before .pre) _ (second .if2 .taken) (omega arith)
+    silence-written (unfirst .before .before .before .pre) _ (second .if2 .taken)
+    (rw (asked .is-validator .ensures) at (c .if3 .left))
 
 write-decision-requires : tie.Need-write-decision-requires
 write-decision-requires c κs = search needs
@@ -65,6 +75,7 @@ write-coming-spec =
     write-selection-requires
     same-length
     returns
+    is-validator-requires
     write-validation-requires
     same-length-2
     returns-2
