@@ -1,5 +1,5 @@
 -- The drill's example of document 01 as a list of calls on bytes: it meets the premises of demand 3, so that they
--- can be met, and the three honest nodes end with 5. Crew 3,4,1,0,3 and plans 5 5 5 0; nobody sends for node 3.
+-- can be met, and the three honest nodes end with 5. Crew 3,4,1,0,3,4 and plans 5 5 5 0; nobody sends for node 3.
 use mathlib.Core.Path.{_≡_, refl, sym, ap, _∙_, subst}
 use mathlib.Core.Bool.{Bool, true, false, not, _&&_}
 use mathlib.Core.List.{List, [], _∷_, _++_}

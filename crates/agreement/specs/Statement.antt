@@ -283,7 +283,8 @@ pub record Good (l : Execution) (crew : Crew) (phase : ℕ) (circle : ℕ → Bo
   pub inside : (p : ℕ) → T (circle p) → T (honest l p)
   pub wide : crew .n ≤ tally circle (crew .n) + crew .b + crew .f
   -- 02: "In a good phase only the circle's validators need count in round 2, and besides twice their number must exceed
-  -- c + b (class 1 excepted)." Which of them do count is below: the others are silent there.
+  -- c + b (class 1 excepted)." That these count in round 2 is `counts`, below: the circle's other nodes are silent
+  -- there.
   pub group : crew .class ≢ 1
       → crew .c + crew .b < 2 * tally (λ q. circle q && validates crew phase q) (crew .n)
   -- 01: "A good phase has all its rounds in the list."

@@ -1,6 +1,7 @@
--- The board of document 01: the examples that are to be proved, in its order, as one table with one theorem. Below it a
--- second table, of what no law of this crate would notice.
+-- The board of document 01: the examples that are to be proved, in its order, as one table with one theorem. Below it
+-- two more tables, of what no law of this crate would notice.
 use mathlib.Core.Path.{_≡_, refl}
+use mathlib.Core.Bool.{Bool, true, false}
 use mathlib.Core.List.{List, [], _∷_, map}
 use Prim.Native.Nat.{ℕ}
 use Rattle.wire.specs.Entry.{Entry}
@@ -8,6 +9,7 @@ use Rattle.wire.specs.Outcome.{Outcome, accepted, refused}
 use Rattle.crew.specs.declared.Crew.{Crew}
 use Rattle.crew.specs.Parts.{crewOf}
 use Rattle.crew.specs.Acceptance.{acceptOf}
+use Rattle.crew.specs.Group.{among, validates}
 use Rattle.crew.specs.Thresholds.{classOf}
 use Rattle.ballot.specs.Count.{countIf}
 use Rattle.ballot.specs.Ballot.{Ballot, lists}
@@ -111,3 +113,22 @@ listings = (select (whole 3 4 1 0 3) (phase2 (entry 0 5 ∷ entry 1 6 ∷ [])) g
 listings-hold : Holds listings
 unfolding countIf lists least possible backed backing enough selection taken
 listings-hold = refl
+
+-- Who validates, of a crew of five with c = 3, in phases 1 to 6: the laws of turns hold from whichever phase on, so
+-- they would not notice a turn that comes a phase too soon.
+abbrev inPhase : ℕ → List Bool
+inPhase phase = map (validates (crewOf 2 5 1 0 4 3) phase) (0 ∷ 1 ∷ 2 ∷ 3 ∷ 4 ∷ [])
+
+abbrev phases : List (List Bool)
+phases =
+    (true ∷ false ∷ false ∷ true ∷ true ∷ [])
+    ∷ (false ∷ true ∷ true ∷ true ∷ false ∷ [])
+    ∷ (true ∷ true ∷ false ∷ false ∷ true ∷ [])
+    ∷ (false ∷ false ∷ true ∷ true ∷ true ∷ [])
+    ∷ (true ∷ true ∷ true ∷ false ∷ false ∷ [])
+    ∷ (true ∷ false ∷ false ∷ true ∷ true ∷ [])
+    ∷ []
+
+phases-hold : map inPhase (1 ∷ 2 ∷ 3 ∷ 4 ∷ 5 ∷ 6 ∷ []) ≡ phases
+unfolding among validates
+phases-hold = refl

@@ -12,7 +12,7 @@ use Rattle.wire.proofs.Tests.{tests, T-and}
 use Rattle.crew.specs.declared.Crew.{Crew}
 use Rattle.crew.specs.Group.{among, validates}
 use Rattle.ballot.specs.Count.{bit, tally}
-use Rattle.ballot.specs.Turns.{Turns}
+use Rattle.ballot.specs.Turns.{Turns, TakingTurns}
 use Rattle.ballot.proofs.Counting.{bit-T, bit-F, nobody-of, tally-none, tally-le}
 use Rattle.ballot.proofs.Counting.{tally-same, tally-apart, tally-parts, tally-sum}
 
@@ -162,9 +162,8 @@ module _ (crew : Crew) (small : crew .c ≤ crew .n) where
         spread first c (omega arith),
       )
 
-  -- Validators take turns.
-  pub turns : Turns crew
-  turns = record {
+  in-turns : Turns crew
+  in-turns = record {
     serves = rotation;
     size = λ phase.
         tally-same (validates crew phase) _ (crew .n) (λ q l. validates-is crew phase q l)
@@ -179,10 +178,14 @@ module _ (crew : Crew) (small : crew .c ≤ crew .n) where
   circle-serves large phase circle wide =
       omega (
         arith,
-        turns .size phase,
+        in-turns .size phase,
         tally-apart circle (validates crew phase) (λ q. circle q && validates crew phase q) (crew .n) λ q l t u.
             T-and (circle q) (validates crew phase q) t u,
       )
+
+-- Validators take turns.
+pub turns : TakingTurns
+turns = in-turns
 
 -- with c = n everybody validates
 pub everybody : (crew : Crew) → crew .c ≡ crew .n → (phase q : ℕ) → q < crew .n → validates crew phase q ≡ true

@@ -5,7 +5,7 @@ use mathlib.Core.Bool.{Bool, _&&_, _||_}
 use lib.Dec.{leb, ltb}
 use Rattle.crew.specs.declared.Crew.{Crew}
 
--- q is one of `count` numbers from the first on, or is after n more, round the end
+-- q is one of `count` numbers from the first on, where 0 comes after n − 1
 abbrev pub row : (n first count q : ℕ) → Bool
 row n first count q = (leb first q && ltb q (first + count)) || ltb (q + n) (first + count)
 

@@ -1,4 +1,4 @@
--- The numbers that the rules hold counts against: document 01, 'The three rounds'.
+-- The numbers that the rules hold counts against: document 01, 'The three rounds', and 02, C-13.
 use Prim.Native.Nat.{ℕ, _+_, _-_, _*_}
 use mathlib.Core.Bool.{cond}
 use lib.Dec.{eqb}

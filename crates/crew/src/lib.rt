@@ -122,15 +122,13 @@ fn is_high_enough(crew: Crew) -> bool
 fn is_group(crew: Crew) -> bool
     ensures { λ r. ⌜ r ≡ groupKnown crew ⌝ }
 {
-    let b = wide(crew.b);
-    let f = wide(crew.f);
     if crew.class == Crew::CLASS_ONE {
         return crew.c == crew.n;
     }
     if crew.class == Crew::CLASS_TWO {
         return (crew.c <= crew.n) & (crew.b < crew.c);
     }
-    (crew.c <= crew.n) & (3 * b + 2 * f < wide(crew.c))
+    (crew.c <= crew.n) & (3 * wide(crew.b) + 2 * wide(crew.f) < wide(crew.c))
 }
 
 // Accepts all of a crew but its group, or says why not: the first of 01's four conditions that fails.
@@ -177,7 +175,7 @@ pub fn is_accepted(crew: Crew) -> bool
     }
 }
 
-// The first node of a phase's group.
+// The first node of a phase's group. Nowhere else is there a remainder by n.
 fn first_validator(crew: Crew, phase: u8) -> u8
     ensures { λ r. ⌜ (0 < crew .n → r ≡ phase * crew .c % crew .n) ⌝ }
 {

@@ -41,7 +41,7 @@ abbrev pub ballotIn : ℕ → ℕ → ℕ → List ℕ → ℕ → Option Ballot
 ballotIn run phase round bytes q = counted run phase round (readOf (slotAt bytes q))
 
 -- What it says to a node of this crew: nothing where its own node does not speak in the round.
--- 02: "others are silent in round 2 and their slots there don't count"
+-- 02: "and their slots there don't count"
 abbrev pub heardIn : Crew → ℕ → ℕ → ℕ → List ℕ → ℕ → Option Ballot
 heardIn crew run phase round bytes q = cond (speaks crew phase round q) (ballotIn run phase round bytes q) none
 

@@ -26,7 +26,8 @@ use Rattle.node.specs.declared.Sent.{Sent}
 abbrev pub listedPhases : Node → ℕ
 listedPhases d = cond (eqb (d .crew .class) 3) (d .phase) 0
 
--- whether a node has something to say in round 2: it validates in this phase, and has selected a plan
+-- Whether a node has something to say in round 2: it validates in this phase, and has selected a plan.
+-- 02: "others are silent in round 2"
 abbrev pub confirming : Node → Bool
 confirming d = validates (d .crew) (d .phase) (d .own) && leb 1 (d .select)
 

@@ -1,5 +1,5 @@
 -- A schedule out of step that meets the premises, so that they can be met: node 0 is three rounds ahead of node 2 and
--- has decided, node 1 is in between, node 2 still sits in round 1. Crew 3,4,1,0,3 and plans 5 5 5 0 as in the drill's
+-- has decided, node 1 is in between, node 2 still sits in round 1. Crew 3,4,1,0,3,4 and plans 5 5 5 0 as in the drill's
 -- example; node 3 is not honest and repeats what it hears.
 use mathlib.Core.Path.{_≡_}
 use mathlib.Core.Bool.{Bool, _&&_}

@@ -23,6 +23,8 @@ const NINE: u8 = b'9';
 const NO_DIGIT: u64 = 10;
 // The largest plan, all bits of its bytes set. No number of a script is larger: every other bound is lower.
 const LARGEST: u32 = (1 << (8 * PLAN_SIZE)) - 1;
+// Line 1 has the crew's: class n b f D c.
+const CREW_FIELDS: usize = 6;
 // No line has more numbers: line 2 has one for each node.
 const MOST_NUMBERS: usize = MOST_NODES;
 
@@ -200,7 +202,7 @@ fn to_crew(w: Numbers) -> CrewLine
 {
     let v = w.values;
     let good = w.good
-        & (w.count == 6)
+        & (w.count == CREW_FIELDS)
         & (v[0] <= 255)
         & (v[1] <= 255)
         & (v[2] <= 255)

@@ -11,13 +11,14 @@ use Rattle.crew.specs.declared.Crew.{Crew}
 use Rattle.crew.specs.Acceptance.{groupKnown, quorumOf, acceptOf}
 use Rattle.crew.specs.Group.{validates, speaks}
 use Rattle.crew.proofs.Facts.{quorum, accepts, group-from, whole-group, size-above}
-use Rattle.ballot.specs.Ballot.{Ballot}
+use Rattle.ballot.specs.Ballot.{Ballot, inbox}
 use Rattle.ballot.specs.Validation.{valid}
 use Rattle.ballot.proofs.Tests.{turn-says}
 use Rattle.ballot.proofs.Turns.{everybody, circle-serves}
 use Rattle.node.specs.declared.Node.{Node}
 use Rattle.node.specs.Sending.{comingOf}
-use Rattle.inbox.specs.Inbox.{ballotIn, ballotAt}
+use Rattle.inbox.specs.Inbox.{ballotIn, ballotAt, ballots}
+use Rattle.inbox.proofs.Meaning.{gather-same}
 use Rattle.least_crews.specs.Search.{crewWith}
 use Rattle.least_crews.proofs.Ranges.{ranges}
 use Rattle.least_crews.proofs.Forms.{search-least}
@@ -48,6 +49,11 @@ module _ (crew : Crew) (whole : crew .c ≡ crew .n) where
         turn-says (speaks (d .crew) (d .phase) (d .round) q)
         (T-or-r (not (eqb (d .round) 2)) (validates (d .crew) (d .phase) q) (rw (validates-all q less) tt))
 
+    polled : (bytes : List ℕ) → ballots d bytes ≡ inbox crew (ballotIn (d .run) (d .phase) (d .round) bytes)
+    polled bytes =
+        ap (λ c. inbox c (ballotAt d bytes)) of-crew
+        ∙ gather-same (ballotAt d bytes) (ballotIn (d .run) (d .phase) (d .round) bytes) (crew .n) (heard bytes)
+
   bounded : (ballots : List Ballot) (v : ℕ) → valid crew ballots v ≡ validBefore crew ballots v
   unfolding valid
   bounded ballots v = rw whole
@@ -59,6 +65,7 @@ module _ (crew : Crew) (whole : crew .c ≡ crew .n) where
     bound = bounded;
     writes = written;
     hears = heard;
+    polls = polled;
     circles = λ ok phase circle wide.
         circle-serves crew (omega arith) (omega (arith, size-above (accepts crew ok .quorum))) phase circle wide;
   }

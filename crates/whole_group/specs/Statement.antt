@@ -15,11 +15,11 @@ use Rattle.crew.specs.Group.{validates}
 use Rattle.message.specs.Fields.{Message}
 use Rattle.writer.specs.Writing.{selectionOf, validationOf, decisionOf}
 use Rattle.ballot.specs.Count.{tally, countIf}
-use Rattle.ballot.specs.Ballot.{Ballot, votes}
+use Rattle.ballot.specs.Ballot.{Ballot, votes, inbox}
 use Rattle.ballot.specs.Validation.{valid}
 use Rattle.node.specs.declared.Node.{Node}
 use Rattle.node.specs.Sending.{listedPhases, comingOf}
-use Rattle.inbox.specs.Inbox.{ballotIn, ballotAt}
+use Rattle.inbox.specs.Inbox.{ballotIn, ballotAt, ballots}
 use Rattle.least_crews.specs.Search.{crewWith, fits, leastCrew, inRange}
 use Rattle.least_crews.specs.Entries.{IsLeast}
 
@@ -49,6 +49,9 @@ pub record AsBefore (crew : Crew) : Type 0 where
   -- a slot counts where by its bytes it does
   pub hears : (d : Node) → d .crew ≡ crew → (bytes : List ℕ) (q : ℕ) → q < crew .n
       → ballotAt d bytes q ≡ ballotIn (d .run) (d .phase) (d .round) bytes q
+  -- so that the rules have the same ballots before them
+  pub polls : (d : Node) → d .crew ≡ crew → (bytes : List ℕ)
+      → ballots d bytes ≡ inbox crew (ballotIn (d .run) (d .phase) (d .round) bytes)
   -- what 02 asks of a good phase besides, every circle of an accepted crew meets
   pub circles : acceptOf crew ≡ accepted tt → (phase : ℕ) (circle : ℕ → Bool)
       → crew .n ≤ tally circle (crew .n) + crew .b + crew .f

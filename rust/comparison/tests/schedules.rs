@@ -106,8 +106,8 @@ fn take(own: usize, slots: [&[u8]; 4]) -> Event {
     Event { own, call: Call::Take(inbox(slots)) }
 }
 
-/// Crew 3,4,1,0,3 with plans 5 5 5 0. Node 0 goes three rounds ahead and hears too little to decide; node 2 comes after
-/// it and decides; node 1 stops before its round 3.
+/// Crew 3,4,1,0,3,4 with plans 5 5 5 0. Node 0 goes three rounds ahead and hears too little to decide; node 2 comes
+/// after it and decides; node 1 stops before its round 3.
 fn by_hand() -> Schedule {
     let crew = Crew::whole(3, 4, 1, 0, 3);
     let starts = (0..3).map(|own| (crew, own, 1, 5)).collect();
