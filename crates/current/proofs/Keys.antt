@@ -1,7 +1,7 @@
 -- The order in which the mA left over are given out, as one number: a shuttle goes before another where its key is
 -- higher. The code compares keys of base 64, its priorities; the laws of shares those of base n.
 use mathlib.Core.Path.{_≡_, ap}
-use mathlib.Core.Bool.{Bool, true, false, _&&_}
+use mathlib.Core.Bool.{_&&_}
 use mathlib.Core.Logic.{_⊎_, inl, inr}
 use Prim.Native.Nat.{ℕ, suc, _+_, _-_, _*_, _≤_, _<_}
 use native.Mathlib.Omega.{arith}

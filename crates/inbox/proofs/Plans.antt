@@ -28,7 +28,7 @@ use Rattle.ballot.proofs.Least.{Voted}
 use Rattle.ballot.proofs.Slots.{no-slot-counts}
 use Rattle.node.specs.declared.Node.{Node}
 use Rattle.inbox.proofs.Counted.{heard-message}
-use Rattle.inbox.specs.Inbox.{slotAt, ballotOf, counted, ballotAt, ballots}
+use Rattle.inbox.specs.Inbox.{slotAt, ballotOf, ballotAt, ballots}
 
 -- what a message within the bounds votes for is a plan
 body-plan : (phase : ℕ) (body : Body) → bodyOk phase body ≡ true → 1 ≤ ballotOf body .vote

@@ -1,6 +1,6 @@
 -- A good phase of a run: what the circle hears in each of its rounds, and that it decides.
 use mathlib.Core.Path.{_≡_, refl, sym, ap, _∙_, subst}
-use mathlib.Core.Bool.{Bool, _&&_}
+use mathlib.Core.Bool.{Bool}
 use mathlib.Core.Logic.{inl, inr}
 use mathlib.Core.Option.{Option, none, some, Option·none-ne-some}
 use Prim.Native.Nat.{ℕ, suc, _≤_, _<_}
@@ -11,7 +11,6 @@ use Rattle.crew.specs.Thresholds.{Class, one, two, three}
 use Rattle.crew.specs.Group.{validates}
 use Rattle.crew.proofs.Facts.{Group, Quorum, Accepts, accepts, quorum-positive, circle-decides}
 use Rattle.crew.proofs.Facts.{circle-above-any, group-small}
-use Rattle.ballot.specs.Count.{tally}
 use Rattle.ballot.specs.Ballot.{Ballot, inbox}
 use Rattle.ballot.proofs.Validation.{InTurn}
 use Rattle.ballot.proofs.Decision.{Stamps}
