@@ -2,6 +2,8 @@
 // decided; a window holds the newest 100 records and, for each node, how many of them miss it. A port that is about to
 // fail shows there as a count that rises. Then the program: records' bytes in, after each record a line of counts out.
 // specs/Held.antt has 02's window, specs/Ring.antt how it is kept, specs/Lines.antt what is printed.
+#![tactic(auto)]
+
 ghost use Rattle.std.specs.Prelude.{◌≡◌, ◌+◌, ◌*◌, ◌≤◌, ◌<◌, min, length, get_or, ◌∷◌, []};
 ghost use Rattle.std.proofs.lemmas.List.Edits.{sets};
 ghost use Rattle.wire.specs.Bytes.{number_at, bytes_of};
@@ -65,13 +67,13 @@ const COUNT_VALUES: usize = 256;
 const BYTE: u32 = COUNT_VALUES as u32;
 
 // 02's record: a run's number, and its marks as one number, node q's the bit of weight 2^q.
-#[derive(Drop)]
+#[derive(Clone, Copy)]
 pub struct Run {
     pub number: u32,
     pub marks: u32,
 }
 
-#[derive(Drop)]
+#[derive(Clone, Copy)]
 pub struct Window {
     // The places for records: their numbers and their marks side by side. Behind the last place comes the first.
     pub numbers: [u32; MOST_HELD],
@@ -84,27 +86,27 @@ pub struct Window {
 }
 
 // Why a record is not added; `add_number` in specs/Ring.antt has 02's number.
-#[derive(Drop)]
+#[derive(Clone, Copy)]
 pub enum AddRefusal {
     // It has the run number of the newest record held.
     SameRun,
 }
 
-#[derive(Drop)]
+#[derive(Clone, Copy)]
 pub enum Adding {
     Accepted,
     Refused(AddRefusal),
 }
 
 // What adding answers. An enum holds no array, so the window stands beside the answer.
-#[derive(Drop)]
+#[derive(Clone, Copy)]
 pub struct Added {
     pub answer: Adding,
     pub window: Window,
 }
 
 // What adding in place answers, where the ring goes on then, and how many records it holds.
-#[derive(Drop)]
+#[derive(Clone, Copy)]
 struct Addition {
     next: usize,
     held: usize,
@@ -162,7 +164,7 @@ fn lesser(a: usize, b: usize) -> usize
 }
 
 // One record more, as far as there is room.
-fn held_next_lem(held: usize) -> usize
+fn held_next(held: usize) -> usize
     ensures { result ≡ held_next held }
 {
     lesser(held, MOST_HELD - 1) + 1
@@ -193,7 +195,7 @@ fn add_in(
     marks[at] = run.marks;
     Addition {
         next: (at + 1) % MOST_HELD,
-        held: held_next_lem(held),
+        held: held_next(held),
         answer: Adding::Accepted,
     }
 }
@@ -264,20 +266,20 @@ const WORD_ZERO: u32 = ZERO as u32;
 const WORD_SPACE: u32 = SPACE as u32;
 
 // A run of the program: its window, and how many records it still takes. None once the input has ended.
-#[derive(Drop)]
+#[derive(Clone, Copy)]
 pub struct Stream {
     pub window: Window,
     pub left: usize,
 }
 
 // What a step leaves: the stream, and how many bytes its lines have.
-#[derive(Drop)]
+#[derive(Clone, Copy)]
 pub struct Stepped {
     pub stream: Stream,
     pub size: usize,
 }
 
-#[derive(Drop)]
+#[derive(Clone, Copy)]
 struct Lines {
     window: Window,
     size: usize,

@@ -1,6 +1,8 @@
 // Absence over the last hundred runs, as a program: records of finished runs on standard input, after each the counts
 // of absences on standard output. It keeps a part of the input and its lines, whatever the input's length. The command
 // ./absence runs it; docs/SERVICE.md says how to read what it prints.
+#![tactic(auto)]
+
 use absence::Stream;
 
 // The loop ends by what the library says is left: nothing behind the last record, be it the input's or the millionth.

@@ -1,5 +1,7 @@
 // The nodes of a drill: starting them, and a whole round among them, over the engine's promises alone.
 // specs/Start.antt says what a drill begins with, specs/Round.antt what a go does. Crate drill follows a script.
+#![tactic(auto)]
+
 ghost use Rattle.std.specs.Prelude.{◌≡◌, ◌<◌, ◌≤◌, cond, get_or, length, replicate, leb};
 ghost use Rattle.wire.specs.Outcome.{value_or};
 ghost use Rattle.wire.specs.Below.{table};
@@ -33,7 +35,7 @@ const RUN: u32 = 1;
 const INBOX: usize = SLOT * MOST_NODES;
 
 // What a drill never changes.
-#[derive(Drop)]
+#[derive(Clone, Copy)]
 pub struct Setup {
     pub crew: Crew,
     // Which nodes are honest: those with an initial plan.
@@ -41,7 +43,7 @@ pub struct Setup {
 }
 
 // All that a drill changes, as it stands between two lines.
-#[derive(Drop)]
+#[derive(Clone, Copy)]
 pub struct Moment {
     // The coming round. The drill counts by itself: all the nodes may be dishonest.
     pub phase: u8,
@@ -52,7 +54,7 @@ pub struct Moment {
     pub pending: [Pending; MOST_NODES],
 }
 
-#[derive(Drop)]
+#[derive(Clone, Copy)]
 pub struct State {
     pub setup: Setup,
     pub moment: Moment,

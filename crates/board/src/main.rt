@@ -1,6 +1,8 @@
 // The board examples of document 01 that are not proved as theorems, and further ones, which go to the bounds of each
 // rule from both sides. Each is put to the engine, and what it answers is compared with the file stdout beside this
 // folder.
+#![tactic(auto)]
+
 use crew::{AcceptRefusal, Acceptance, Crew, MOST_NODES};
 use libc::STDOUT_FILENO;
 use message::SLOT;
@@ -18,7 +20,7 @@ const RUN: u32 = 1;
 const FIRST_PLAN: Plan = 4;
 
 // What a slot says: of its history only what it lists at phases 1 and 2.
-#[derive(Drop)]
+#[derive(Clone, Copy)]
 struct Ballot {
     plan: Plan,
     stamp: u8,

@@ -3,6 +3,8 @@
 // docs/LINKING.md says how to link and call it, rail.h declares it for C.
 // An answer is one number of eight bytes: a value below 2^56, or 2^56 times the number of a refusal. specs/Answers.antt
 // says what each function answers and leaves in what it is lent.
+#![tactic(auto)]
+
 ghost use Rattle.std.specs.Prelude.{◌≡◌, List, ℕ, ◌*◌, ◌<◌, length};
 ghost use Rattle.wire.specs.Outcome.{value_or};
 ghost use Rattle.crew.specs.Parts.{crew_of};

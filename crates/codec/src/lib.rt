@@ -1,1 +1,2 @@
 // Reading and writing undo each other: theorems on the definitions of crate message, no code.
+#![tactic(auto)]

@@ -1,6 +1,8 @@
 // The drill on standard output, for programs that have a script. It steps and writes; each step's text goes out as it
 // comes, and what is kept does not grow with the script. What goes out is in no contract: no C function promises it,
 // and a program's output is compared with its file.
+#![tactic(auto)]
+
 ghost use Rattle.std.specs.Prelude.{◌≡◌, length};
 ghost use Rattle.drill.specs.Run.{drill_of};
 

@@ -1,6 +1,8 @@
 // A crew: how many nodes agree, how many of them may lie or be out of reach, how many votes decide, and how many nodes
 // validate in a phase. Accepting one is the ground of every other promise; specs/Acceptance.antt says when,
 // proofs/Facts.antt what follows. Which nodes validate stands in specs/Group.antt.
+#![tactic(auto)]
+
 ghost use Rattle.std.specs.Prelude.{◌≡◌, ◌+◌, ◌*◌, ◌%◌, ◌≤◌, ◌<◌};
 ghost use Rattle.wire.specs.Outcome.{is_accepted};
 ghost use Rattle.crew.specs.Parts.{blank_crew};
@@ -24,7 +26,7 @@ pub const MOST_NODES: usize = 32;
 const BYTE_VALUES: u16 = 256;
 
 // 01's crew: the controllers of one aisle that agree on a plan.
-#[derive(Drop)]
+#[derive(Clone, Copy)]
 pub struct Crew {
     // 1 to 3: which of the algorithm's three classes the crew runs.
     pub class: u8,
@@ -41,7 +43,7 @@ pub struct Crew {
 }
 
 // Why a crew is turned down; `accept_number` in specs/Acceptance.antt has the papers' numbers.
-#[derive(Drop)]
+#[derive(Clone, Copy)]
 pub enum AcceptRefusal {
     Class,
     Size,
@@ -51,7 +53,7 @@ pub enum AcceptRefusal {
     Group,
 }
 
-#[derive(Drop)]
+#[derive(Clone, Copy)]
 pub enum Acceptance {
     Accepted,
     Refused(AcceptRefusal),

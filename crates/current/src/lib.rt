@@ -1,5 +1,7 @@
 // Splitting a budget of current among shuttles. specs/Shares.antt says who gets what, specs/Fair.antt what holds of the
 // shares for any demands. All amounts are in mA.
+#![tactic(auto)]
+
 ghost use Rattle.std.specs.Prelude.{◌≡◌, ◌≤◌, ◌<◌, ltb, length};
 ghost use Rattle.wire.specs.Outcome.{verdict};
 ghost use Rattle.wire.specs.Below.{table};
@@ -42,20 +44,20 @@ pub const MOST_BUDGET: u32 = 1000000;
 const STEP: u64 = MOST_SHUTTLES as u64;
 
 // Why a split is turned down; `split_number` in specs/Shares.antt has 02's numbers.
-#[derive(Drop)]
+#[derive(Clone, Copy)]
 pub enum SplitRefusal {
     Count,
     Amount,
 }
 
-#[derive(Drop)]
+#[derive(Clone, Copy)]
 pub enum Splitting {
     Accepted,
     Refused(SplitRefusal),
 }
 
 // A demand's part of the budget: rounded down, and what the division leaves.
-#[derive(Drop)]
+#[derive(Clone, Copy)]
 struct Part {
     whole: u64,
     rest: u64,

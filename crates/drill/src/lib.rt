@@ -3,6 +3,8 @@
 // and prints, specs/Stepping.antt what a step does; proofs/Whole.antt shows that the texts of all steps, joined, are
 // what the script prints. What a go does among the nodes is crate aisle's. Nothing is read or written here but what is
 // lent.
+#![tactic(auto)]
+
 ghost use Rattle.std.specs.Prelude.{◌≡◌, false, ◌&&◌, ◌+◌, get_or, length, leb};
 ghost use Rattle.crew.specs.Parts.{most_nodes};
 ghost use Rattle.script.specs.Fields.{numbers_on};
@@ -54,7 +56,7 @@ const FIRST_LINE: u32 = 1;
 const SECOND_LINE: u32 = 2;
 
 // Where a drill stands in a script.
-#[derive(Drop)]
+#[derive(Clone, Copy)]
 pub struct Cursor {
     // Where the coming line begins.
     pub at: u32,
@@ -64,14 +66,14 @@ pub struct Cursor {
 }
 
 // Where a drill stands after a step, and how long the step's text is.
-#[derive(Drop)]
+#[derive(Clone, Copy)]
 pub struct Advance {
     pub next: Cursor,
     pub size: usize,
 }
 
 // What a line can be while cuts and says are noted: one that can wait for the coming round, or anything else.
-#[derive(Drop)]
+#[derive(Clone, Copy)]
 pub enum Noting {
     Fit(Note),
     Other,

@@ -1,6 +1,8 @@
 // A node record as bytes of fixed layout, for programs in other languages, which keep records as bytes.
 // specs/Layout.antt has the layout. Every 150 bytes are the image of one record and every record has one image:
 // proofs/RoundTrip.antt.
+#![tactic(auto)]
+
 ghost use Rattle.std.specs.Prelude.{◌≡◌, ◌+◌, ◌≤◌, length};
 ghost use Rattle.std.proofs.lemmas.List.Edits.{sets};
 ghost use Rattle.wire.specs.Bytes.{number_at};
@@ -127,7 +129,7 @@ fn record_in(s: &[u8]) -> Node
 }
 
 // What loading an image gives: the record, or a blank one where the slice is not as long as an image.
-#[derive(Drop)]
+#[derive(Clone, Copy)]
 pub struct Loaded {
     pub fits: bool,
     pub node: Node,

@@ -3,6 +3,8 @@
 // of histories, each slot's into a row of its own, where the array has room for the rows.
 // What a slot says stands in specs/Inbox.antt, the columns in specs/Columns.antt. Crate tally runs the rules over them,
 // and nothing after the walk looks at the inbox.
+#![tactic(auto)]
+
 ghost use Rattle.std.specs.Prelude.{◌≡◌, true, List, ℕ, ◌<◌, ◌≤◌, set};
 ghost use Rattle.std.proofs.Math.Option.{some};
 ghost use Rattle.crew.specs.Parts.{most_nodes};

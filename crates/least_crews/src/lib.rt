@@ -1,6 +1,8 @@
 // The least crews, for planners: how few nodes a class needs where b may lie and f be out of reach, and how few votes
 // decide among them. A constant table (table.rt) has them; specs/Search.antt says what stands in it, specs/Entries.antt
 // what is shown of it once over all entries.
+#![tactic(auto)]
+
 mod table;
 
 ghost use Rattle.std.specs.Prelude.{◌≡◌, true};
@@ -31,19 +33,19 @@ const D_BEHIND: usize = 1;
 const NUMBERS: usize = ENTRY_SIZE * CLASSES * B_VALUES * F_VALUES;
 
 // An entry: the least n that any D lets be accepted, and the least D for that n; both 0 where n would pass 32.
-#[derive(Drop)]
+#[derive(Clone, Copy)]
 pub struct Least {
     pub n: u8,
     pub d: u8,
 }
 
 // Why a lookup is turned down; `lookup_number` in specs/Search.antt has 02's number.
-#[derive(Drop)]
+#[derive(Clone, Copy)]
 pub enum LookupRefusal {
     Range,
 }
 
-#[derive(Drop)]
+#[derive(Clone, Copy)]
 pub enum Finding {
     Entry(Least),
     Refused(LookupRefusal),

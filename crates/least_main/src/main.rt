@@ -1,5 +1,7 @@
 // Answers a planner's question in one line: the least crew of the class, b and f that are its three arguments. The
 // command ./least runs it. For what is outside the table a line goes to standard error, and none to standard output.
+#![tactic(auto)]
+
 use crew::{Crew, MOST_NODES};
 use least_crews::{Finding, Least};
 use script::Number;

@@ -2,6 +2,8 @@
 // crews with bytes for n and D, by what `crew::accept` answers. It knows no formula and nothing of crate least_crews.
 // Its output is compared with the file stdout beside this folder, and the gate holds table.rt to that file. Where other
 // crews are accepted, make both anew: build it by `rt check least_table`, and put the output into both.
+#![tactic(auto)]
+
 use crew::{Acceptance, Crew};
 use libc::STDOUT_FILENO;
 

@@ -1,6 +1,8 @@
 // Runs every stored script of the drill. The file args has their names; each script's output comes after a line with
 // its name, and the check compares all of it with the file stdout. The scripts stand in data/, which is also the folder
 // scripts of the repository. Two more are made here, for their length alone.
+#![tactic(auto)]
+
 ghost use Rattle.std.specs.Prelude.{◌≡◌, ◌+◌, length};
 ghost use Rattle.drill.specs.Run.{most_bytes};
 

@@ -2,6 +2,8 @@
 // What a slice is read to stands in specs/Reading.antt, where a message is expected in specs/Laying.antt; a message's
 // bytes in specs/Encoding.antt, its bounds in specs/Bounds.antt. Crate writer
 // writes messages; that reading and writing undo each other is proved in crate codec.
+#![tactic(auto)]
+
 ghost use Rattle.std.specs.Prelude.{◌≡◌, true, ◌+◌, ◌*◌, ◌≤◌, length, get_or, drop, eqb};
 ghost use Rattle.wire.specs.Bytes.{number_at};
 ghost use Rattle.wire.specs.Sizes.{plan_size, run_size};
@@ -92,7 +94,7 @@ const BROKEN: u16 = 256;
 const BLOCK: usize = 32;
 
 // Why reading refuses; `read_number` in specs/Reading.antt has the papers' numbers.
-#[derive(Drop)]
+#[derive(Clone, Copy)]
 pub enum ReadRefusal {
     // The slice ends before the message does, or before its header does.
     Cut,
@@ -104,14 +106,14 @@ pub enum ReadRefusal {
 }
 
 // What a message says, by its kind. Of a history only how many entries there are: they stay where they stand.
-#[derive(Drop)]
+#[derive(Clone, Copy)]
 pub enum Body {
     Selection { vote: Plan, stamp: u8, count: u8 },
     Validation { plan: Plan },
     Decision { vote: Plan, stamp: u8 },
 }
 
-#[derive(Drop)]
+#[derive(Clone, Copy)]
 pub struct Message {
     pub run: u32,
     pub phase: u8,
@@ -119,14 +121,14 @@ pub struct Message {
 }
 
 // What reading a slice answers.
-#[derive(Drop)]
+#[derive(Clone, Copy)]
 pub enum Reading {
     Message(Message),
     Refused(ReadRefusal),
 }
 
 // What stands in the header of a message that is expected, beside its length.
-#[derive(Drop)]
+#[derive(Clone, Copy)]
 pub struct Header {
     pub kind: u16,
     pub run: u32,
@@ -135,14 +137,14 @@ pub struct Header {
 
 // What reading answers where a message with such a header is expected: what it says; or that the slice holds another
 // message or none.
-#[derive(Drop)]
+#[derive(Clone, Copy)]
 pub enum Expected {
     Body(Body),
     Other,
 }
 
 // An entry of a history: the plan of a phase.
-#[derive(Drop)]
+#[derive(Clone, Copy)]
 pub struct Entry {
     pub phase: u8,
     pub plan: Plan,

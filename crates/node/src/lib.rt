@@ -1,5 +1,7 @@
 // A node: its whole state as one value, how it starts, whether a record is sound, and the message of its coming round.
 // Each operation is what a definition says: specs/Starting.antt, specs/Soundness.antt and specs/Sending.antt.
+#![tactic(auto)]
+
 ghost use Rattle.std.specs.Prelude.{◌≡◌, ◌&&◌, leb, get_or};
 ghost use Rattle.wire.specs.Outcome.{refused};
 ghost use Rattle.writer.specs.Writing.{write_answer};
@@ -20,7 +22,7 @@ use wire::{LAST_PHASE, PHASES, Plan};
 use writer::Writing;
 
 // 01's node record. Any values may stand in it: `is_sound` says whether they are those of a node.
-#[derive(Drop)]
+#[derive(Clone, Copy)]
 pub struct Node {
     pub crew: Crew,
     // The node's own number, below the crew's n.
@@ -44,7 +46,7 @@ pub struct Node {
 }
 
 // Why a start is refused; `start_number` in specs/Starting.antt has the papers' numbers.
-#[derive(Drop)]
+#[derive(Clone, Copy)]
 pub enum StartRefusal {
     // The crew is turned down.
     Crew(crew::AcceptRefusal),
@@ -53,7 +55,7 @@ pub enum StartRefusal {
     NoPlan,
 }
 
-#[derive(Drop)]
+#[derive(Clone, Copy)]
 pub enum Starting {
     Accepted,
     Refused(StartRefusal),
@@ -61,14 +63,14 @@ pub enum Starting {
 
 // What a start answers. An enum cannot hold the history, so the record stands beside the answer; where the start is
 // refused it is blank: all 0, and not sound.
-#[derive(Drop)]
+#[derive(Clone, Copy)]
 pub struct Started {
     pub answer: Starting,
     pub node: Node,
 }
 
 // Why the coming message is not written; `send_number` in specs/Sending.antt has 01's numbers.
-#[derive(Drop)]
+#[derive(Clone, Copy)]
 pub enum SendRefusal {
     Unsound,
     Spent,
@@ -77,14 +79,14 @@ pub enum SendRefusal {
 }
 
 // What writing the coming message answers: its length, which is 0 where the node is silent, or a refusal.
-#[derive(Drop)]
+#[derive(Clone, Copy)]
 pub enum Sending {
     Bytes(usize),
     Refused(SendRefusal),
 }
 
 // The record comes back as it was handed in.
-#[derive(Drop)]
+#[derive(Clone, Copy)]
 pub struct Sent {
     pub answer: Sending,
     pub node: Node,

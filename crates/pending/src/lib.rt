@@ -1,13 +1,15 @@
 // The cuts and says of a drill that wait for its next go: what waits for one receiver, sender by sender.
 // Each function is what a definition says: specs/Pairs.antt; proofs/Rules.antt shows that 01's rules hold of them.
 // Nothing is kept of a sender that no crew has, and nothing waits from it.
+#![tactic(auto)]
+
 ghost use Rattle.std.specs.Prelude.{◌≡◌};
 ghost use Rattle.pending.specs.Pairs.{nothing, with_cut, with_say, waiting_from};
 
 use crew::MOST_NODES;
 use wire::Plan;
 
-#[derive(Drop)]
+#[derive(Clone, Copy)]
 pub struct Pending {
     // Whether what the sender sends is lost.
     pub cut: [bool; MOST_NODES],
@@ -17,7 +19,7 @@ pub struct Pending {
 }
 
 // What waits from one sender; plan 0 where there is no say.
-#[derive(Drop)]
+#[derive(Clone, Copy)]
 pub struct Waiting {
     pub cut: bool,
     pub plan: Plan,

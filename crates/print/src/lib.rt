@@ -1,6 +1,8 @@
 // The lines that a drill prints, each laid at the front of a lent buffer; each public function answers its line's size.
 // What would lie beyond the buffer's end is left out, so a caller lends MOST_LINE bytes: no line is longer.
 // specs/Texts.antt has the texts, and how long they can be.
+#![tactic(auto)]
+
 ghost use Rattle.std.specs.Prelude.{◌≡◌, ◌+◌, ◌*◌, ◌≤◌, set};
 ghost use Rattle.crew.specs.Parts.{most_nodes};
 ghost use Rattle.print.specs.Texts.{

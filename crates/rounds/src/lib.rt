@@ -3,6 +3,8 @@
 // What each answers stands in specs/Asking.antt, specs/Marking.antt and specs/Taking.antt, what private functions ask
 // and promise in specs/Steps.antt. Crate inbox walks the inbox into columns, crate tally runs the rules over these:
 // what is behind the walk has no inbox in its hands.
+#![tactic(auto)]
+
 ghost use Rattle.std.specs.Prelude.{◌≡◌, false, cond, List, ℕ, ◌^◌, ◌<◌, ◌≤◌, get_or};
 ghost use Rattle.wire.specs.Entry.{Entry};
 ghost use Rattle.wire.specs.Sizes.{last_phase, spent_phase};
@@ -52,7 +54,7 @@ const ALL_PLACES: usize = MOST_NODES * PHASES;
 const FEW_PLACES: usize = ALL_PLACES / 8;
 
 // Why a round is not taken, or a selection not told; `take_number` in specs/Taking.antt has 01's numbers.
-#[derive(Drop)]
+#[derive(Clone, Copy)]
 pub enum TakeRefusal {
     Unsound,
     Spent,
@@ -60,7 +62,7 @@ pub enum TakeRefusal {
     Inbox,
 }
 
-#[derive(Drop)]
+#[derive(Clone, Copy)]
 pub enum Taking {
     Accepted,
     Refused(TakeRefusal),
@@ -68,14 +70,14 @@ pub enum Taking {
 
 // What taking a round answers. An enum holds no array, so the record stands beside the answer: the next one, or,
 // where the round is not taken, the one that was handed in.
-#[derive(Drop)]
+#[derive(Clone, Copy)]
 pub struct Taken {
     pub answer: Taking,
     pub node: Node,
 }
 
 // What asking for the coming selection answers.
-#[derive(Drop)]
+#[derive(Clone, Copy)]
 pub enum Asking {
     Plan(Plan),
     Any,
@@ -84,14 +86,14 @@ pub enum Asking {
 }
 
 // What telling the slots that count answers: their marks, slot q its bit of weight 2 to the q.
-#[derive(Drop)]
+#[derive(Clone, Copy)]
 pub enum Marking {
     Marks(u32),
     Refused(TakeRefusal),
 }
 
 // The record comes back as it was handed in.
-#[derive(Drop)]
+#[derive(Clone, Copy)]
 pub struct Asked {
     pub answer: Asking,
     pub node: Node,
@@ -167,7 +169,7 @@ fn planned(plan: Plan) -> Choice
 }
 
 // A round that comes: of which crew, with what header on its messages, and whether its selection is only asked for.
-#[derive(Drop)]
+#[derive(Clone, Copy)]
 struct Round {
     crew: Crew,
     header: Header,

@@ -1,5 +1,7 @@
 // A drill's script, line by line: where a line ends, its decimal fields, and what it asks for.
 // Each function is what a definition says: specs/Lines.antt, specs/Fields.antt and specs/Commands.antt.
+#![tactic(auto)]
+
 ghost use Rattle.std.specs.Prelude.{◌≡◌, ◌+◌, drop};
 ghost use Rattle.script.specs.Lines.{until};
 ghost use Rattle.script.specs.Fields.{Digit, number_of, no_numbers, numbers_on, starts};
@@ -29,14 +31,14 @@ const MOST_NUMBERS: usize = MOST_NODES;
 pub type Field = Plan;
 
 // A decimal field, read up to a bound that the reader names.
-#[derive(Drop)]
+#[derive(Clone, Copy)]
 pub enum Number {
     Value(u32),
     Bad,
 }
 
 // The numbers of a line, in the order in which they stand there; none are good where one of them is bad.
-#[derive(Drop)]
+#[derive(Clone, Copy)]
 pub struct Numbers {
     pub good: bool,
     pub count: usize,
@@ -44,21 +46,21 @@ pub struct Numbers {
 }
 
 // Line 1: six numbers of one byte. Whether they are a crew that is accepted is not asked here.
-#[derive(Drop)]
+#[derive(Clone, Copy)]
 pub enum CrewLine {
     Crew(Crew),
     NoCrew,
 }
 
 // Line 2: the initial plan of each node, 0 for one that is not honest.
-#[derive(Drop)]
+#[derive(Clone, Copy)]
 pub struct Plans {
     pub good: bool,
     pub plans: [Plan; MOST_NODES],
 }
 
 // A cut or a say: it waits for the next go. A node's number and a stamp are one byte each: no larger one is allowed.
-#[derive(Drop)]
+#[derive(Clone, Copy)]
 pub enum Note {
     Cut {
         sender: u8,
@@ -73,14 +75,14 @@ pub enum Note {
 }
 
 // What a line from the third on asks for.
-#[derive(Drop)]
+#[derive(Clone, Copy)]
 pub enum Command {
     Note(Note),
     Go,
 }
 
 // Such a line: a command, or bad for how it is written.
-#[derive(Drop)]
+#[derive(Clone, Copy)]
 pub enum Line {
     Good(Command),
     Bad,

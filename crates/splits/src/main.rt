@@ -1,6 +1,8 @@
 // Splits a budget of current among shuttles, in mA. With a budget and demands as its arguments it shows that split in
 // one line, with no arguments worked splits, a line each. The command ./split runs it. For arguments that are refused a
 // line goes to standard error, and none to standard output.
+#![tactic(auto)]
+
 ghost use Rattle.std.specs.Prelude.{◌<◌, ◌≤◌, length};
 
 use current::{MOST_BUDGET, MOST_DEMAND, MOST_SHUTTLES, SplitRefusal, Splitting};

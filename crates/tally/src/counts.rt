@@ -159,7 +159,7 @@ fn first_alike(
 
 // What a slot needs to be possible, and in class 3 to back its vote: that so many slots support what it says, and that
 // so many list its vote at its stamp. `slots` and `phases` say how far the columns and the rows of the histories go.
-#[derive(Drop)]
+#[derive(Clone, Copy)]
 pub(crate) struct Needed {
     pub slots: usize,
     pub phases: u8,
@@ -240,7 +240,7 @@ pub(crate) fn mark_stamped(
 }
 
 // Which plans are found: none, one, or several, and then the least of them.
-#[derive(Drop)]
+#[derive(Clone, Copy)]
 pub(crate) enum Plans {
     Nothing,
     Sole(Plan),

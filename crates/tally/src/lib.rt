@@ -3,6 +3,8 @@
 // the others answer holds whatever these are.
 // Each rule's answer is that of crate ballot on the ballots of the columns, for every crew and any columns:
 // specs/Rules.antt. Crate rounds acts on the answers.
+#![tactic(auto)]
+
 mod counts;
 
 ghost use Rattle.std.specs.Prelude.{◌≡◌, List, ℕ};
@@ -23,7 +25,7 @@ use node::Node;
 use wire::Plan;
 
 // What selection answers.
-#[derive(Drop)]
+#[derive(Clone, Copy)]
 pub enum Choice {
     Plan(Plan),
     Any,

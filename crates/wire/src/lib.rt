@@ -1,5 +1,7 @@
 // The words that every crate above shares: plans, phases, and numbers in bytes, which are taken from bytes and laid as
 // bytes here and nowhere else. specs/Sizes.antt has the sizes as the definitions have them, specs/Bytes.antt the bytes.
+#![tactic(auto)]
+
 ghost use Rattle.std.specs.Prelude.{◌≡◌, [], ◌∷◌, ◌+◌, ◌*◌, ◌<◌, leb};
 ghost use Rattle.wire.specs.Plan.{plan_ok, phase_ok};
 ghost use Rattle.wire.specs.Sizes.{plan_size};

@@ -1,6 +1,8 @@
 // Writing messages from fields within their bounds. It knows nothing of crews.
 // What a writer answers and leaves in the buffer stands in specs/Writing.antt; the layout and the bounds are crate
 // message's.
+#![tactic(auto)]
+
 ghost use Rattle.std.specs.Prelude.{◌≡◌, ◌+◌, ◌≤◌, length, ◌++◌};
 ghost use Rattle.std.proofs.lemmas.List.Edits.{sets};
 ghost use Rattle.wire.specs.Sizes.{plan_size, last_phase};
@@ -27,7 +29,7 @@ use message::{
 use wire::{PHASES, Plan};
 
 // Why writing refuses; `write_number` in specs/Writing.antt has 01's numbers.
-#[derive(Drop)]
+#[derive(Clone, Copy)]
 pub enum WriteRefusal {
     // The fields break a bound of the message.
     OutOfBounds,
@@ -36,7 +38,7 @@ pub enum WriteRefusal {
 }
 
 // What writing a message answers: its length, or a refusal.
-#[derive(Drop)]
+#[derive(Clone, Copy)]
 pub enum Writing {
     Bytes(usize),
     Refused(WriteRefusal),

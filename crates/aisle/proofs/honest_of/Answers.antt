@@ -1,0 +1,14 @@
+use Rattle.wire.proofs.Arrays.{filling_none, filling_more}
+use Rattle.wire.proofs.Tables.{filled_table}
+use Prim.Native.Nat.{◌-◌}
+use mathlib.Core.Path.{refl}
+use Rattle.aisle.proofs.honest_of.Goals as goal
+
+pub loop-i-init : goal.loop-i-init
+loop-i-init c = filling_none _ refl
+
+pub loop-i-preserved : goal.loop-i-preserved
+loop-i-preserved c = filling_more _ c.loop-i-test.true c.loop-i.invariant refl
+
+pub returns : goal.returns
+returns c = filled_table c.loop-i.invariant c.loop-i-test.false

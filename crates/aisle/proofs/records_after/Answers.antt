@@ -1,0 +1,32 @@
+use mathlib.Core.Path.{refl, sym}
+use mathlib.Core.Logic.{inl, inr}
+use Prim.Native.Nat.{◌-◌}
+use native.Mathlib.Omega.{arith}
+use lib.Seq.{length-take-le}
+use Rattle.wire.proofs.Arrays.{filling_none}
+use Rattle.wire.proofs.Tables.{filled_table}
+use Rattle.aisle.proofs.Tables.{length_mapped}
+use Rattle.aisle.proofs.Records.{inbox_is, honest_takes, others_stay}
+use borrow.Author.Rules.{rules}
+use Rattle.aisle.proofs.records_after.Goals as goal
+
+pub loop-receiver-init : goal.loop-receiver-init
+loop-receiver-init c =
+    record { taken = filling_none _ (search (rules, length_mapped)); others = λ k later. refl }
+
+pub slice_bounds-take-end : goal.slice_bounds-take-end
+slice_bounds-take-end c = sym (length-take-le _ _ (omega (arith, c.fill_inbox.ensures.size)))
+
+pub loop-receiver-preserved : goal.loop-receiver-preserved
+loop-receiver-preserved c =
+    let inv = c.loop-receiver.invariant in
+    let less = c.loop-receiver-test.true in
+    elim c.if-honest-receiver.branch [
+      | inl takes ↦
+          let is = inbox_is c.args.setup c.args.moment _ _ _ c.requires c.messages-sent.ensures takes.4.ensures in
+          rw takes.10 (honest_takes _ _ _ _ less inv _ _ takes.0.taken is takes.8.ensures.node)
+      | inr stays ↦ rw stays.1 (others_stay _ _ _ _ less inv stays.0.left)
+    ]
+
+pub returns : goal.returns
+returns c = filled_table c.loop-receiver.invariant.taken c.loop-receiver-test.false

@@ -1,0 +1,41 @@
+use mathlib.Core.Path.{◌≡◌, sym, ap, ◌∙◌}
+use Prim.Native.Nat.{ℕ, ◌+◌, ◌-◌, ◌*◌, ◌/◌, ◌%◌, ◌≤◌, ◌<◌}
+use native.Mathlib.Omega.{arith}
+use native.Mathlib.Nat.{add-mul, one-mul, mod-eq_of_lt, add-mul-mod_self_right, mul-le-mul, mul-le-mul_right}
+use native.Mathlib.Decide.{dec_le}
+use Rattle.crew.proofs.left_over.Goals as goal
+
+-- half of the times are tried: they are taken away, or they were not in it; then the others are enough
+half_tried : (n rest left half next : ℕ) → half + half ≤ left → rest < left * n
+    → (half * n ≤ rest → next + half * n ≡ rest) × (rest < half * n → next ≡ rest)
+    → (next % n ≡ rest % n) × (next < (left - half) * n)
+half_tried n rest left half next fewer below is = elim (dec_le (half * n) rest) [
+  | yes there ↦
+      let taken = is.0 there in
+      let parts : left * n ≡ (left - half) * n + half * n =
+      ap (λ x. x * n) (omega arith) ∙ add-mul (left - half) half n in
+      (sym (add-mul-mod_self_right next half n) ∙ ap (λ x. x % n) taken, omega (arith, parts))
+  | no away ↦
+      let same = is.1 (omega arith) in
+      let enough : half * n ≤ (left - half) * n = mul-le-mul_right n (omega arith) in
+      (ap (λ x. x % n) same, omega (arith, enough))
+]
+
+pub overflow_mul-half : goal.overflow_mul-half
+overflow_mul-half c =
+    let half : c.loop-left.left / 2 ≤ 128 = omega arith in
+    let byte : c.args.n ≤ 255 = omega arith in
+    record { fits = omega (arith, mul-le-mul half byte) }
+
+pub loop-left-preserved : goal.loop-left-preserved
+loop-left-preserved c =
+    let n = c.args.n in
+    let next = half_tried n c.loop-left.rest c.loop-left.left (c.loop-left.left / 2) _ (omega arith) c.loop-left.invariant.1 c.without-rest.ensures in
+    (next.0 ∙ c.loop-left.invariant.0, next.1, omega arith)
+
+pub returns : goal.returns
+returns c =
+    let n = c.args.n in
+    let once : c.loop-left.left * n ≤ 1 * n = mul-le-mul_right n (omega arith) in
+    let below : c.loop-left.rest < n = omega (arith, once, one-mul n) in
+    (sym (mod-eq_of_lt below) ∙ c.loop-left.invariant.0, below)

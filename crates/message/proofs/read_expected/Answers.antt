@@ -1,0 +1,38 @@
+-- `read_expected` meets its contract.
+use mathlib.Core.Path.{◌≡◌, sym, ap, ◌∙◌}
+use Rattle.message.specs.Reading.{front_of}
+use Rattle.message.specs.Laying.{expected_as, expected_in}
+use Rattle.message.proofs.ExpectedLaws.{expected_framed, expected_clear, nothing_expected}
+use Rattle.message.proofs.read_expected.Goals as goal
+
+pub is_clear-requires : goal.is_clear-requires
+is_clear-requires c =
+    let front : (expected_as (Found c.in-Body.body) slice) ≡ expected_in (start.args.header) (front_of (start.args.s.now)) = ap (λ r. expected_as r slice) (sym c.in-Body.is) ∙ called.read-expected-front.ensures.answer in
+    expected_framed (header) (slice) _ (front)
+
+pub returns-then-is_clear : goal.returns-then-is_clear
+returns-then-is_clear c =
+    let front : (expected_as (Found c.in-Body.body) slice) ≡ expected_in (start.args.header) (front_of (start.args.s.now)) = ap (λ r. expected_as r slice) (sym c.in-Body.is) ∙ called.read-expected-front.ensures.answer in
+    let clear = sym c.is_clear.ensures ∙ c.if-is_clear.true in
+    record {
+      answer = simp (expected_clear, clear) (front);
+      lays = (called).read-expected-front.ensures.lays;
+    }
+
+pub returns-else-is_clear : goal.returns-else-is_clear
+returns-else-is_clear c =
+    let residue = sym c.is_clear.ensures ∙ c.if-is_clear.false in
+    record {
+      answer = simp (expected_clear, residue);
+      lays = (called).read-expected-front.ensures.lays;
+    }
+
+pub returns-in-Other : goal.returns-in-Other
+returns-in-Other c =
+    let s = c.args.s.now in
+    let other =
+    ap (λ r. expected_as r s) (sym c.in-Other.is) ∙ c.read_expected_front-front.ensures.answer in
+    record {
+      answer = nothing_expected c.args.header s other;
+      lays = c.read_expected_front-front.ensures.lays;
+    }

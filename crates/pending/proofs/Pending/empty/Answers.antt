@@ -1,0 +1,8 @@
+-- `Pending::empty` meets its contract.
+use Rattle.pending.specs.Pairs.{nothing}
+use mathlib.Core.Path.{refl}
+use Rattle.pending.proofs.Pending.empty.Goals as goal
+
+pub returns : goal.returns
+unfolding nothing
+returns c = refl

@@ -1,0 +1,12 @@
+-- `Pending::with_cut` meets its contract.
+use Rattle.pending.specs.Pairs.{with_cut}
+use borrow.Author.Tests.{lt-ltb, le-ltb}
+use Rattle.pending.proofs.Pending.with_cut.Goals as goal
+
+pub returns-then-sender-lt-MOST_NODES : goal.returns-then-sender-lt-MOST_NODES
+unfolding with_cut
+returns-then-sender-lt-MOST_NODES c = rw (lt-ltb _ _ c.if-sender-lt-MOST_NODES.true)
+
+pub returns-else-sender-lt-MOST_NODES : goal.returns-else-sender-lt-MOST_NODES
+unfolding with_cut
+returns-else-sender-lt-MOST_NODES c = rw (le-ltb _ _ c.if-sender-lt-MOST_NODES.false)
