@@ -14,19 +14,19 @@ slice_bounds-deliver-end c = search (rules, laid_size _ _ _ _ c.loop-sender.inva
 
 pub deliver-requires : goal.deliver-requires
 deliver-requires c =
-    let room : c.loop-sender.sender < most_nodes = omega (arith, c.loop-sender-test.true, (started).pre.small) in
-    lent_long _ _ _ _ (room) c.loop-sender.invariant.1
+    let room : c.loop-sender.sender < most_nodes = omega (arith, c.loop-sender-test.true, c.requires.small) in
+    lent_long _ _ _ _ room c.loop-sender.invariant.1
 
 pub loop-sender-preserved : goal.loop-sender-preserved
 loop-sender-preserved c =
-    let room : c.loop-sender.sender < most_nodes = omega (arith, c.loop-sender-test.true, (started).pre.small) in
+    let room : c.loop-sender.sender < most_nodes = omega (arith, c.loop-sender-test.true, c.requires.small) in
     let inv = c.loop-sender.invariant in
     let waiting = c.from-waiting.ensures in
-    let is = rw (lent_old _ _ _ _ (room) inv.1, waiting) at c.deliver.ensures in
-    (omega arith, laid_more _ _ _ _ (room) inv.1 _ is c.deliver.auto.0)
+    let is = rw (lent_old _ _ _ _ room inv.1, waiting) at c.deliver.ensures in
+    (omega arith, laid_more _ _ _ _ room inv.1 _ is c.deliver.auto.0)
 
 pub shape_of-inbox : goal.shape_of-inbox
-shape_of-inbox c = laid_size _ _ _ _ c.loop-sender.invariant.1 ∙ sym (started).pre.whole
+shape_of-inbox c = laid_size _ _ _ _ c.loop-sender.invariant.1 ∙ sym c.requires.whole
 
 pub returns : goal.returns
 returns c =

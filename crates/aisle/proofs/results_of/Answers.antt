@@ -38,7 +38,7 @@ loop-i-smaller c =
     let n = c.args.n in
     let both = both_true (ltb i most_nodes) (ltb i n) c.loop-i-test.true in
     (ltb-true i most_nodes both.0, ltb-true i n both.1) in
-    omega (arith, (asked).0)
+    omega (arith, asked.0)
 
 pub loop-i-preserved : goal.loop-i-preserved
 loop-i-preserved c =

@@ -17,13 +17,13 @@ slice_bounds-show-end c =
 pub overflow_add-size : goal.overflow_add-size
 overflow_add-size c =
     let runs_on : c.loop-cursor.cursor.line ≡ 0 → ⊥ = λ e. omega (arith, c.loop-cursor-test.true) in
-    let near = c.loop-cursor.invariant.shows.near (runs_on) in
+    let near = c.loop-cursor.invariant.shows.near runs_on in
     search (rules, near.lines, near.low, c.step-step.ensures.made.within)
 
 pub loop-cursor-smaller : goal.loop-cursor-smaller
 loop-cursor-smaller c =
     let runs_on : c.loop-cursor.cursor.line ≡ 0 → ⊥ = λ e. omega (arith, c.loop-cursor-test.true) in
-    rw c.step-step.ensures.made.next (step_goes_on _ _ (runs_on))
+    rw c.step-step.ensures.made.next (step_goes_on _ _ runs_on)
 
 pub loop-cursor-preserved : goal.loop-cursor-preserved
 loop-cursor-preserved c =
@@ -32,7 +32,7 @@ loop-cursor-preserved c =
     let so_far = c.loop-cursor.invariant in
     record {
       room = c.step-step.auto.1.1.0 ∙ so_far.room;
-      shows = shows_more so_far.shows (runs_on) _ _ made.next made.size made.within;
+      shows = shows_more so_far.shows runs_on _ _ made.next made.size made.within;
     }
 
 pub returns : goal.returns

@@ -9,16 +9,16 @@ pub returns-then-is_high_enough : goal.returns-then-is_high_enough
 returns-then-is_high_enough c =
     let class_known_lem : class_known c.args.crew ≡ true = sym c.is_class.ensures ∙ c.if-is_class.true in
     let size_known_lem : size_known c.args.crew ≡ true = sym c.is_size.ensures ∙ c.if-is_size.true in
-    let last_left : quorum_of (sized.before.before.before.before.args.crew) ≡ require (high_enough (sized.before.before.before.before.args.crew)) 4 (accepted tt) = let reached = sym c.is_reachable.ensures ∙ c.if-is_reachable.true in
-    simp (class_known_lem sized.before.before, size_known_lem sized, reached) in
+    let last_left : quorum_of c.args.crew ≡ require (high_enough c.args.crew) 4 (accepted tt) = let reached = sym c.is_reachable.ensures ∙ c.if-is_reachable.true in
+    simp (class_known_lem, size_known_lem, reached) in
     sym (last_left ∙ simp (sym c.is_high_enough.ensures ∙ c.if-is_high_enough.true))
 
 pub returns-then-is_reachable : goal.returns-then-is_reachable
 returns-then-is_reachable c =
     let class_known_lem : class_known c.args.crew ≡ true = sym c.is_class.ensures ∙ c.if-is_class.true in
     let size_known_lem : size_known c.args.crew ≡ true = sym c.is_size.ensures ∙ c.if-is_size.true in
-    let last_left : quorum_of (sized.before.before.before.before.args.crew) ≡ require (high_enough (sized.before.before.before.before.args.crew)) 4 (accepted tt) = let reached = sym c.is_reachable.ensures ∙ c.if-is_reachable.true in
-    simp (class_known_lem sized.before.before, size_known_lem sized, reached) in
+    let last_left : quorum_of c.args.crew ≡ require (high_enough c.args.crew) 4 (accepted tt) = let reached = sym c.is_reachable.ensures ∙ c.if-is_reachable.true in
+    simp (class_known_lem, size_known_lem, reached) in
     sym (last_left ∙ simp (sym c.is_high_enough.ensures ∙ c.if-is_high_enough.false))
 
 pub returns-then-is_size : goal.returns-then-is_size
@@ -26,7 +26,7 @@ returns-then-is_size c =
     let class_known_lem : class_known c.args.crew ≡ true = sym c.is_class.ensures ∙ c.if-is_class.true in
     let size_known_lem : size_known c.args.crew ≡ true = sym c.is_size.ensures ∙ c.if-is_size.true in
     let beyond = sym c.is_reachable.ensures ∙ c.if-is_reachable.false in
-    simp (class_known_lem, size_known_lem sized, beyond)
+    simp (class_known_lem, size_known_lem, beyond)
 
 pub returns-then-is_class : goal.returns-then-is_class
 returns-then-is_class c =

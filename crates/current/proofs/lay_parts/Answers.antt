@@ -47,9 +47,9 @@ loop-i-preserved c =
     let few = c.requires.0.small.few in
     let laid = c.loop-i.invariant in
     record {
-      wholes = filling_more _ (search rules) laid.wholes (whole_here);
+      wholes = filling_more _ (search rules) laid.wholes whole_here;
       order = filling_more _ (omega (arith, few)) laid.order
-          (c.priority.ensures ∙ ap (λ (r : ℕ). priority_of r c.loop-i.i) (rest_here));
+          (c.priority.ensures ∙ ap (λ (r : ℕ). priority_of r c.loop-i.i) rest_here);
     }
 
 pub returns : goal.returns

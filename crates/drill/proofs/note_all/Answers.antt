@@ -14,7 +14,7 @@ returns-then-input-end c =
     let found_line : Found c.args.input.now c.loop-setup.at c.find-end.result = record { inside = c.loop-setup.invariant.standing.inside; found = c.find-end.ensures } in
     let turn = c.loop-setup.invariant in
     record {
-      same = rw c.settle.ensures (turn.same ∙ unended_finishes _ _ _ (found_line) c.if-input-end.true);
+      same = rw c.settle.ensures (turn.same ∙ unended_finishes _ _ _ found_line c.if-input-end.true);
       standing = rw c.settle.ensures turn.standing;
     }
 
@@ -26,7 +26,7 @@ returns-in_default c =
     record {
       same = rw c.settle-in_default.ensures
           (turn.same
-          ∙ other_finishes _ _ _ (found_line) c.if-input-end.false
+          ∙ other_finishes _ _ _ found_line c.if-input-end.false
           (told_line _ c.in_default.is));
       standing = rw c.settle-in_default.ensures turn.standing;
     }
@@ -55,7 +55,7 @@ pub loop-setup-preserved : goal.loop-setup-preserved
 loop-setup-preserved c =
     let found_line : Found c.args.input.now c.loop-setup.at c.find-end.result = record { inside = c.loop-setup.invariant.standing.inside; found = c.find-end.ensures } in
     let told_line : ) (k : Noting) → c.noting_of-noting.result ≡ k → let moment = c.args.cursor.state.moment in noting_of c.args.cursor.state.setup moment.phase moment.round (line_of (here c.args.input.now c.loop-setup.at c.find-end.result)) ≡ k = λ k is. sym c.noting_of-noting.ensures ∙ is in
-    let turn_notes : Notes c.args.cursor c.args.input.now c.loop-setup.at c.loop-setup.line c.find-end.result c.loop-setup.pending (found_line) c.if-input-end.false c.in-Fit.note c.receiver_of-receiver.result c.with_note-more.result = record {
+    let turn_notes : Notes c.args.cursor c.args.input.now c.loop-setup.at c.loop-setup.line c.find-end.result c.loop-setup.pending found_line c.if-input-end.false c.in-Fit.note c.receiver_of-receiver.result c.with_note-more.result = record {
       told = told_line _ c.in-Fit.is;
       for = c.receiver_of-receiver.ensures;
       waiting = c.with_note-more.ensures;
@@ -63,6 +63,6 @@ loop-setup-preserved c =
     let turn = c.loop-setup.invariant in
     let before = c.if-input-end.false in
     record {
-      same = turn.same ∙ goes_on _ _ _ _ _ _ (found_line) before _ _ _ (turn_notes);
-      standing = goes_standing _ _ _ _ _ _ (found_line) before _ _ _ (turn_notes) turn.standing;
+      same = turn.same ∙ goes_on _ _ _ _ _ _ found_line before _ _ _ turn_notes;
+      standing = goes_standing _ _ _ _ _ _ found_line before _ _ _ turn_notes turn.standing;
     }

@@ -8,17 +8,17 @@ pub returns-then-cursor-eq-FIRST_LINE : goal.returns-then-cursor-eq-FIRST_LINE
 returns-then-cursor-eq-FIRST_LINE c =
     let found_line : Found c.args.input.now c.args.cursor.at c.find-end.result = record { inside = c.requires.standing.inside; found = c.find-end.ensures } in
     let crew = c.if-cursor-eq-FIRST_LINE.true in
-    rw (eq-eqb _ _ crew, first_ended (cursor) _ _ (found_line) c.if-end-input.true)
+    rw (eq-eqb _ _ crew, first_ended c.args.cursor _ _ found_line c.if-end-input.true)
     c.pass_crew.ensures
 
 pub returns-then-end-input : goal.returns-then-end-input
 returns-then-end-input c =
     let found_line : Found c.args.input.now c.args.cursor.at c.find-end.result = record { inside = c.requires.standing.inside; found = c.find-end.ensures } in
     let plans = c.if-cursor-eq-FIRST_LINE.false in
-    rw (ne_eqb _ _ plans, second_ended (cursor) _ _ (found_line) c.if-end-input.true)
+    rw (ne_eqb _ _ plans, second_ended c.args.cursor _ _ found_line c.if-end-input.true)
     c.pass_plans.ensures
 
 pub returns : goal.returns
 returns c =
     let found_line : Found c.args.input.now c.args.cursor.at c.find-end.result = record { inside = c.requires.standing.inside; found = c.find-end.ensures } in
-    rw (head_unended (cursor) _ _ (found_line) c.if-end-input.false) c.over_bad.ensures
+    rw (head_unended c.args.cursor _ _ found_line c.if-end-input.false) c.over_bad.ensures

@@ -16,7 +16,7 @@ pub returns-then-after-eq0 : goal.returns-then-after-eq0
 returns-then-after-eq0 c =
     let between : (Left c.args.s.now c.args.count c.args.phase (c.loop-i.i + 1) c.least_after-between.result) = entry_passes c.loop-i.invariant _ c.least_after-between.ensures (omega arith) c.if-between-eq0.false in
     let more = c.loop-i-test.true in
-    entry_breaks (between) _ c.least_after-after.ensures more c.if-after-eq0.true
+    entry_breaks between _ c.least_after-after.ensures more c.if-after-eq0.true
 
 pub loop-i-preserved : goal.loop-i-preserved
 loop-i-preserved c =
@@ -24,7 +24,7 @@ loop-i-preserved c =
     let more = c.loop-i-test.true in
     let i = c.loop-i.i in
     let two : i + 2 ≡ i + 1 + 1 = omega arith in
-    rw two (entry_passes (between) _ c.least_after-after.ensures more c.if-after-eq0.false)
+    rw two (entry_passes between _ c.least_after-after.ensures more c.if-after-eq0.false)
 
 pub returns-then-least-eq0 : goal.returns-then-least-eq0
 returns-then-least-eq0 c =

@@ -11,25 +11,24 @@ use Rattle.message.proofs.is_clear.Goals as goal
 
 pub u16_at-size-requires : goal.u16_at-size-requires
 u16_at-size-requires c =
-    let held : (header_size ≤ length (c.args.s.now)) × (length_at (c.args.s.now) ≤ length (c.args.s.now)) = framed_long s c.requires in
-    omega (arith, (held).0)
+    let held : (header_size ≤ length c.args.s.now) × (length_at c.args.s.now ≤ length c.args.s.now) = framed_long c.args.s.now c.requires in
+    omega (arith, held.0)
 
 pub slice_bounds-are_zeros-count : goal.slice_bounds-are_zeros-count
 slice_bounds-are_zeros-count c =
-    let held : (header_size ≤ length (c.args.s.now)) × (length_at (c.args.s.now) ≤ length (c.args.s.now)) = framed_long s c.requires in
+    let held : (header_size ≤ length c.args.s.now) × (length_at c.args.s.now ≤ length c.args.s.now) = framed_long c.args.s.now c.requires in
     let fits = held in
     omega (arith, fits.0, fits.1, c.u16_at-size.ensures)
 
 pub slice_bounds-are_zeros-start : goal.slice_bounds-are_zeros-start
 slice_bounds-are_zeros-start c =
-    let held : (header_size ≤ length (c.args.s.now)) × (length_at (c.args.s.now) ≤ length (c.args.s.now)) = framed_long s c.requires in
+    let held : (header_size ≤ length c.args.s.now) × (length_at c.args.s.now ≤ length c.args.s.now) = framed_long c.args.s.now c.requires in
     let fits = held in
     omega (arith, fits.0, fits.1, c.u16_at-size.ensures)
 
 pub returns : goal.returns
 returns c =
-    let s = c.args.s.now in
     let size = c.u16_at-size.result in
     c.are_zeros.ensures
-    ∙ ap all_zero (between_rest s size)
-    ∙ ap (λ size. all_zero (drop size s)) c.u16_at-size.ensures
+    ∙ ap all_zero (between_rest c.args.s.now size)
+    ∙ ap (λ size. all_zero (drop size c.args.s.now)) c.u16_at-size.ensures

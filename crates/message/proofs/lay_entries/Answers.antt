@@ -24,23 +24,23 @@ returns-then-later-eq-BROKEN c =
 pub lay_entry-earlier-requires : goal.lay_entry-earlier-requires
 lay_entry-earlier-requires c =
     let between : (Laying c.args.s.now c.args.count c.args.phase c.args.row.now (c.loop-i.i - 1) c.lay_entry-later.result c.lay_entry-later.new.1.1.1.0) = entry_laid c.loop-i.invariant _ (omega arith) c.lay_entry-later.ensures c.if-later-eq-BROKEN.false in
-    record { room = omega (arith, c.requires.room); places = (between).places }
+    record { room = omega (arith, c.requires.room); places = between.places }
 
 pub shape_of-row-then-earlier-eq-BROKEN : goal.shape_of-row-then-earlier-eq-BROKEN
 shape_of-row-then-earlier-eq-BROKEN c =
     let between : (Laying c.args.s.now c.args.count c.args.phase c.args.row.now (c.loop-i.i - 1) c.lay_entry-later.result c.lay_entry-later.new.1.1.1.0) = entry_laid c.loop-i.invariant _ (omega arith) c.lay_entry-later.ensures c.if-later-eq-BROKEN.false in
-    c.lay_entry-earlier.auto.1.1.1.0 ∙ (between).long
+    c.lay_entry-earlier.auto.1.1.1.0 ∙ between.long
 
 pub returns-then-earlier-eq-BROKEN : goal.returns-then-earlier-eq-BROKEN
 returns-then-earlier-eq-BROKEN c =
     let between : (Laying c.args.s.now c.args.count c.args.phase c.args.row.now (c.loop-i.i - 1) c.lay_entry-later.result c.lay_entry-later.new.1.1.1.0) = entry_laid c.loop-i.invariant _ (omega arith) c.lay_entry-later.ensures c.if-later-eq-BROKEN.false in
-    entry_stops (between) _ (omega arith) c.lay_entry-earlier.ensures
+    entry_stops between _ (omega arith) c.lay_entry-earlier.ensures
     (omega (arith, c.if-earlier-eq-BROKEN.true))
 
 pub loop-i-preserved : goal.loop-i-preserved
 loop-i-preserved c =
     let between : (Laying c.args.s.now c.args.count c.args.phase c.args.row.now (c.loop-i.i - 1) c.lay_entry-later.result c.lay_entry-later.new.1.1.1.0) = entry_laid c.loop-i.invariant _ (omega arith) c.lay_entry-later.ensures c.if-later-eq-BROKEN.false in
-    entry_laid (between) _ (omega arith) c.lay_entry-earlier.ensures c.if-earlier-eq-BROKEN.false
+    entry_laid between _ (omega arith) c.lay_entry-earlier.ensures c.if-earlier-eq-BROKEN.false
 
 pub lay_entry-requires : goal.lay_entry-requires
 lay_entry-requires c =

@@ -6,18 +6,18 @@ use Rattle.message.proofs.read.Goals as goal
 
 pub is_clear-requires : goal.is_clear-requires
 is_clear-requires c =
-    let front : front_of (called.before.before.args.s.now) ≡ (read_answer (Read c.in-Message.message) slice) = sym called.read_front.ensures ∙ ap (λ r. read_answer r slice) c.in-Message.is in
-    (front_passes (slice) _ (front)).is_framed
+    let front : front_of c.args.s.now ≡ (read_answer (Read c.in-Message.message) c.args.s.now) = sym c.read_front-front.ensures ∙ ap (λ r. read_answer r c.args.s.now) c.in-Message.is in
+    (front_passes c.args.s.now _ front).is_framed
 
 pub returns-then-is_clear : goal.returns-then-is_clear
 returns-then-is_clear c =
-    let front : front_of (called.before.before.args.s.now) ≡ (read_answer (Read c.in-Message.message) slice) = sym called.read_front.ensures ∙ ap (λ r. read_answer r slice) c.in-Message.is in
-    simp (rest_left (slice) _ (front), sym c.is_clear.ensures ∙ c.if-is_clear.true)
+    let front : front_of c.args.s.now ≡ (read_answer (Read c.in-Message.message) c.args.s.now) = sym c.read_front-front.ensures ∙ ap (λ r. read_answer r c.args.s.now) c.in-Message.is in
+    simp (rest_left c.args.s.now _ front, sym c.is_clear.ensures ∙ c.if-is_clear.true)
 
 pub returns-else-is_clear : goal.returns-else-is_clear
 returns-else-is_clear c =
-    let front : front_of (called.before.before.args.s.now) ≡ (read_answer (Read c.in-Message.message) slice) = sym called.read_front.ensures ∙ ap (λ r. read_answer r slice) c.in-Message.is in
-    simp (rest_left (slice) _ (front), sym c.is_clear.ensures ∙ c.if-is_clear.false)
+    let front : front_of c.args.s.now ≡ (read_answer (Read c.in-Message.message) c.args.s.now) = sym c.read_front-front.ensures ∙ ap (λ r. read_answer r c.args.s.now) c.in-Message.is in
+    simp (rest_left c.args.s.now _ front, sym c.is_clear.ensures ∙ c.if-is_clear.false)
 
 pub returns-in-Refused : goal.returns-in-Refused
 returns-in-Refused c =

@@ -7,16 +7,16 @@ use Rattle.message.proofs.read_expected.Goals as goal
 
 pub is_clear-requires : goal.is_clear-requires
 is_clear-requires c =
-    let front : (expected_as (Found c.in-Body.body) slice) ≡ expected_in (start.args.header) (front_of (start.args.s.now)) = ap (λ r. expected_as r slice) (sym c.in-Body.is) ∙ called.read-expected-front.ensures.answer in
-    expected_framed (header) (slice) _ (front)
+    let front : (expected_as (Found c.in-Body.body) c.args.s.now) ≡ expected_in c.args.header (front_of c.args.s.now) = ap (λ r. expected_as r c.args.s.now) (sym c.in-Body.is) ∙ c.read_expected_front-front.ensures.answer in
+    expected_framed c.args.header c.args.s.now _ front
 
 pub returns-then-is_clear : goal.returns-then-is_clear
 returns-then-is_clear c =
-    let front : (expected_as (Found c.in-Body.body) slice) ≡ expected_in (start.args.header) (front_of (start.args.s.now)) = ap (λ r. expected_as r slice) (sym c.in-Body.is) ∙ called.read-expected-front.ensures.answer in
+    let front : (expected_as (Found c.in-Body.body) c.args.s.now) ≡ expected_in c.args.header (front_of c.args.s.now) = ap (λ r. expected_as r c.args.s.now) (sym c.in-Body.is) ∙ c.read_expected_front-front.ensures.answer in
     let clear = sym c.is_clear.ensures ∙ c.if-is_clear.true in
     record {
-      answer = simp (expected_clear, clear) (front);
-      lays = (called).read-expected-front.ensures.lays;
+      answer = simp (expected_clear, clear) front;
+      lays = c.read_expected_front-front.ensures.lays;
     }
 
 pub returns-else-is_clear : goal.returns-else-is_clear
@@ -24,7 +24,7 @@ returns-else-is_clear c =
     let residue = sym c.is_clear.ensures ∙ c.if-is_clear.false in
     record {
       answer = simp (expected_clear, residue);
-      lays = (called).read-expected-front.ensures.lays;
+      lays = c.read_expected_front-front.ensures.lays;
     }
 
 pub returns-in-Other : goal.returns-in-Other

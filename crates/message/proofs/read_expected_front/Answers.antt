@@ -18,68 +18,68 @@ use Rattle.message.proofs.read_expected_front.Goals as goal
 
 pub has_length-requires : goal.has_length-requires
 has_length-requires c =
-    let headed_so : headed (start.args.header) (start.args.s.now) ≡ true = sym c.has_header.ensures ∙ c.if-has_header.true in
-    let has : HasHeader (start.args.header) (start.args.s.now) = has_header asked slice headed_so in
-    let long = framed_long (slice) (has).frame in
-    record { header = long.0; whole = long.1; of_kind = (has).kind }
+    let headed_so : headed c.args.header c.args.s.now ≡ true = sym c.has_header.ensures ∙ c.if-has_header.true in
+    let has : HasHeader c.args.header c.args.s.now = has_header c.args.header c.args.s.now headed_so in
+    let long = framed_long c.args.s.now has.frame in
+    record { header = long.0; whole = long.1; of_kind = has.kind }
 
 pub keeps_bounds_laying-requires : goal.keeps_bounds_laying-requires
 keeps_bounds_laying-requires c =
-    let headed_so : headed (start.args.header) (start.args.s.now) ≡ true = sym c.has_header.ensures ∙ c.if-has_header.true in
-    let has : HasHeader (start.args.header) (start.args.s.now) = has_header asked slice headed_so in
-    let sized : eqb (length_at (slice found)) (size_of (body_at (slice found))) ≡ true = sym c.has_length.ensures ∙ c.if-has_length.true in
-    let held : HeldInFull (slice found) header.kind = record { whole = size_held s (has found).frame sized; of_kind = (has found).kind } in
+    let headed_so : headed c.args.header c.args.s.now ≡ true = sym c.has_header.ensures ∙ c.if-has_header.true in
+    let has : HasHeader c.args.header c.args.s.now = has_header c.args.header c.args.s.now headed_so in
+    let sized : eqb (length_at (c.args.s.now c)) (size_of (body_at (c.args.s.now c))) ≡ true = sym c.has_length.ensures ∙ c.if-has_length.true in
+    let held : HeldInFull (c.args.s.now c) header.kind = record { whole = size_held (c.args.s.now c) has.frame sized; of_kind = has.kind } in
     held
 
 pub body_in-requires : goal.body_in-requires
 body_in-requires c =
-    let headed_so : headed (start.args.header) (start.args.s.now) ≡ true = sym c.has_header.ensures ∙ c.if-has_header.true in
-    let has : HasHeader (start.args.header) (start.args.s.now) = has_header asked slice headed_so in
-    let sized : eqb (length_at (slice found)) (size_of (body_at (slice found))) ≡ true = sym c.has_length.ensures ∙ c.if-has_length.true in
-    let held : HeldInFull (slice found) header.kind = record { whole = size_held s (has found).frame sized; of_kind = (has found).kind } in
+    let headed_so : headed c.args.header c.args.s.now ≡ true = sym c.has_header.ensures ∙ c.if-has_header.true in
+    let has : HasHeader c.args.header c.args.s.now = has_header c.args.header c.args.s.now headed_so in
+    let sized : eqb (length_at (c.args.s.now c)) (size_of (body_at (c.args.s.now c))) ≡ true = sym c.has_length.ensures ∙ c.if-has_length.true in
+    let held : HeldInFull (c.args.s.now c) header.kind = record { whole = size_held (c.args.s.now c) has.frame sized; of_kind = has.kind } in
     held
 
 pub returns-then-keeps_bounds_laying : goal.returns-then-keeps_bounds_laying
 unfolding front_of tested
 returns-then-keeps_bounds_laying c =
-    let headed_so : headed (start.args.header) (start.args.s.now) ≡ true = sym c.has_header.ensures ∙ c.if-has_header.true in
-    let has : HasHeader (start.args.header) (start.args.s.now) = has_header asked slice headed_so in
-    let known : is_kind asked.kind ≡ true = sym c.is_kind.ensures ∙ c.if-is_kind.true in
-    let kind_known_lem : kind_known (start.args.s.now) ≡ true = rw has.kind.same at known in
-    let sized : eqb (length_at (slice found)) (size_of (body_at (slice found))) ≡ true = sym c.has_length.ensures ∙ c.if-has_length.true in
-    let row_left : (row : List ℕ) → row_after (asked found) (slice found) row ≡ cond (eqb header.kind 1 && leb (get_or (slice found) phase_place 0) (length row)) (row_with row (kept_of (get_or (slice found) phase_place 0) (entries_at (slice found)))) row = λ row. simp (headed_so found, sized) (simp (has found).phase) in
+    let headed_so : headed c.args.header c.args.s.now ≡ true = sym c.has_header.ensures ∙ c.if-has_header.true in
+    let has : HasHeader c.args.header c.args.s.now = has_header c.args.header c.args.s.now headed_so in
+    let known : is_kind c.args.header.kind ≡ true = sym c.is_kind.ensures ∙ c.if-is_kind.true in
+    let kind_known_lem : kind_known c.args.s.now ≡ true = rw has.kind.same at known in
+    let sized : eqb (length_at (c.args.s.now c)) (size_of (body_at (c.args.s.now c))) ≡ true = sym c.has_length.ensures ∙ c.if-has_length.true in
+    let row_left : (row : List ℕ) → row_after (c.args.header c) (c.args.s.now c) row ≡ cond (eqb (c.args.header c).kind 1 && leb (get_or (c.args.s.now c) phase_place 0) (length row)) (row_with row (kept_of (get_or (c.args.s.now c) phase_place 0) (entries_at (c.args.s.now c)))) row = λ row. simp (headed_so, sized) (simp has.phase) in
     let kept = sym c.keeps_bounds_laying.ensures.answer ∙ c.if-keeps_bounds_laying.true in
-    let borne = header_borne (has (found)) (known (found)) in
+    let borne = header_borne has known in
     record {
-      answer = simp ((has (found)).frame, kind_known_lem (found), sized, kept, borne, c.body_in.ensures);
-      lays = rw (row_left) c.keeps_bounds_laying.ensures.lays;
+      answer = simp (has.frame, kind_known_lem, sized, kept, borne, c.body_in.ensures);
+      lays = rw row_left c.keeps_bounds_laying.ensures.lays;
     }
 
 pub returns-else-keeps_bounds_laying : goal.returns-else-keeps_bounds_laying
 unfolding front_of tested
 returns-else-keeps_bounds_laying c =
-    let headed_so : headed (start.args.header) (start.args.s.now) ≡ true = sym c.has_header.ensures ∙ c.if-has_header.true in
-    let has : HasHeader (start.args.header) (start.args.s.now) = has_header asked slice headed_so in
-    let known : is_kind asked.kind ≡ true = sym c.is_kind.ensures ∙ c.if-is_kind.true in
-    let kind_known_lem : kind_known (start.args.s.now) ≡ true = rw has.kind.same at known in
-    let sized : eqb (length_at (slice found)) (size_of (body_at (slice found))) ≡ true = sym c.has_length.ensures ∙ c.if-has_length.true in
-    let row_left : (row : List ℕ) → row_after (asked found) (slice found) row ≡ cond (eqb header.kind 1 && leb (get_or (slice found) phase_place 0) (length row)) (row_with row (kept_of (get_or (slice found) phase_place 0) (entries_at (slice found)))) row = λ row. simp (headed_so found, sized) (simp (has found).phase) in
+    let headed_so : headed c.args.header c.args.s.now ≡ true = sym c.has_header.ensures ∙ c.if-has_header.true in
+    let has : HasHeader c.args.header c.args.s.now = has_header c.args.header c.args.s.now headed_so in
+    let known : is_kind c.args.header.kind ≡ true = sym c.is_kind.ensures ∙ c.if-is_kind.true in
+    let kind_known_lem : kind_known c.args.s.now ≡ true = rw has.kind.same at known in
+    let sized : eqb (length_at (c.args.s.now c)) (size_of (body_at (c.args.s.now c))) ≡ true = sym c.has_length.ensures ∙ c.if-has_length.true in
+    let row_left : (row : List ℕ) → row_after (c.args.header c) (c.args.s.now c) row ≡ cond (eqb (c.args.header c).kind 1 && leb (get_or (c.args.s.now c) phase_place 0) (length row)) (row_with row (kept_of (get_or (c.args.s.now c) phase_place 0) (entries_at (c.args.s.now c)))) row = λ row. simp (headed_so, sized) (simp has.phase) in
     let broken = sym c.keeps_bounds_laying.ensures.answer ∙ c.if-keeps_bounds_laying.false in
     record {
-      answer = simp ((has (found)).frame, kind_known_lem (found), sized, broken);
-      lays = rw (row_left) c.keeps_bounds_laying.ensures.lays;
+      answer = simp (has.frame, kind_known_lem, sized, broken);
+      lays = rw row_left c.keeps_bounds_laying.ensures.lays;
     }
 
 pub returns-else-has_length : goal.returns-else-has_length
 unfolding front_of tested row_after
 returns-else-has_length c =
-    let headed_so : headed (start.args.header) (start.args.s.now) ≡ true = sym c.has_header.ensures ∙ c.if-has_header.true in
-    let has : HasHeader (start.args.header) (start.args.s.now) = has_header asked slice headed_so in
-    let known : is_kind asked.kind ≡ true = sym c.is_kind.ensures ∙ c.if-is_kind.true in
-    let kind_known_lem : kind_known (start.args.s.now) ≡ true = rw has.kind.same at known in
+    let headed_so : headed c.args.header c.args.s.now ≡ true = sym c.has_header.ensures ∙ c.if-has_header.true in
+    let has : HasHeader c.args.header c.args.s.now = has_header c.args.header c.args.s.now headed_so in
+    let known : is_kind c.args.header.kind ≡ true = sym c.is_kind.ensures ∙ c.if-is_kind.true in
+    let kind_known_lem : kind_known c.args.s.now ≡ true = rw has.kind.same at known in
     let other = sym c.has_length.ensures ∙ c.if-has_length.false in
     record {
-      answer = simp ((has).frame, kind_known_lem, other);
+      answer = simp (has.frame, kind_known_lem, other);
       lays = simp (headed_so, other);
     }
 

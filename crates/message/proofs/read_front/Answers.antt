@@ -16,15 +16,15 @@ use Rattle.message.proofs.read_front.Goals as goal
 
 pub u16_at-kind-requires : goal.u16_at-kind-requires
 u16_at-kind-requires c =
-    let frame : framed (c.args.s.now) ≡ true = sym c.is_framed.ensures ∙ c.if-is_framed.true in
-    let header_held : header_size ≤ length (c.args.s.now) = (framed_long slice frame).0 in
+    let frame : framed c.args.s.now ≡ true = sym c.is_framed.ensures ∙ c.if-is_framed.true in
+    let header_held : header_size ≤ length c.args.s.now = (framed_long c.args.s.now frame).0 in
     omega (arith, header_held)
 
 pub has_length-requires : goal.has_length-requires
 has_length-requires c =
-    let frame : framed (c.args.s.now) ≡ true = sym c.is_framed.ensures ∙ c.if-is_framed.true in
-    let header_held : header_size ≤ length (c.args.s.now) = (framed_long slice frame).0 in
-    let length_held : length_at (c.args.s.now) ≤ length (c.args.s.now) = (framed_long slice frame).1 in
+    let frame : framed c.args.s.now ≡ true = sym c.is_framed.ensures ∙ c.if-is_framed.true in
+    let header_held : header_size ≤ length c.args.s.now = (framed_long c.args.s.now frame).0 in
+    let length_held : length_at c.args.s.now ≤ length c.args.s.now = (framed_long c.args.s.now frame).1 in
     record {
       header = header_held;
       whole = length_held;
@@ -33,42 +33,42 @@ has_length-requires c =
 
 pub keeps_bounds-requires : goal.keeps_bounds-requires
 keeps_bounds-requires c =
-    let frame : framed (c.args.s.now) ≡ true = sym c.is_framed.ensures ∙ c.if-is_framed.true in
-    let sized : eqb (length_at (slice framed_at)) (size_of (body_at (slice framed_at))) ≡ true = sym c.has_length.ensures ∙ c.if-has_length.true in
-    let held : HeldInFull (slice framed_at) ((c)).u16-at.result = record {
-      whole = size_held s (frame framed_at) sized;
-      of_kind = record { same = (kind_read).u16-at.ensures };
+    let frame : framed c.args.s.now ≡ true = sym c.is_framed.ensures ∙ c.if-is_framed.true in
+    let sized : eqb (length_at (c.args.s.now c)) (size_of (body_at (c.args.s.now c))) ≡ true = sym c.has_length.ensures ∙ c.if-has_length.true in
+    let held : HeldInFull (c.args.s.now c).u16_at-kind.result = record {
+      whole = size_held (c.args.s.now c) (frame c) sized;
+      of_kind = record { same = c.u16_at-kind.ensures };
     } in
     held
 
 pub run_of-requires : goal.run_of-requires
 run_of-requires c =
-    let frame : framed (c.args.s.now) ≡ true = sym c.is_framed.ensures ∙ c.if-is_framed.true in
-    let header_held : header_size ≤ length (c.args.s.now) = (framed_long slice frame).0 in
-    header_held (framed_at)
+    let frame : framed c.args.s.now ≡ true = sym c.is_framed.ensures ∙ c.if-is_framed.true in
+    let header_held : header_size ≤ length c.args.s.now = (framed_long c.args.s.now frame).0 in
+    header_held c
 
 pub bounds-s-8 : goal.bounds-s-8
 bounds-s-8 c =
-    let frame : framed (c.args.s.now) ≡ true = sym c.is_framed.ensures ∙ c.if-is_framed.true in
-    let header_held : header_size ≤ length (c.args.s.now) = (framed_long slice frame).0 in
-    omega (arith, header_held (framed_at))
+    let frame : framed c.args.s.now ≡ true = sym c.is_framed.ensures ∙ c.if-is_framed.true in
+    let header_held : header_size ≤ length c.args.s.now = (framed_long c.args.s.now frame).0 in
+    omega (arith, header_held c)
 
 pub body_in-requires : goal.body_in-requires
 body_in-requires c =
-    let frame : framed (c.args.s.now) ≡ true = sym c.is_framed.ensures ∙ c.if-is_framed.true in
-    let sized : eqb (length_at (slice framed_at)) (size_of (body_at (slice framed_at))) ≡ true = sym c.has_length.ensures ∙ c.if-has_length.true in
-    let held : HeldInFull (slice framed_at) ((c)).u16-at.result = record {
-      whole = size_held s (frame framed_at) sized;
-      of_kind = record { same = (kind_read).u16-at.ensures };
+    let frame : framed c.args.s.now ≡ true = sym c.is_framed.ensures ∙ c.if-is_framed.true in
+    let sized : eqb (length_at (c.args.s.now c)) (size_of (body_at (c.args.s.now c))) ≡ true = sym c.has_length.ensures ∙ c.if-has_length.true in
+    let held : HeldInFull (c.args.s.now c).u16_at-kind.result = record {
+      whole = size_held (c.args.s.now c) (frame c) sized;
+      of_kind = record { same = c.u16_at-kind.ensures };
     } in
     held
 
 pub returns-then-keeps_bounds : goal.returns-then-keeps_bounds
 returns-then-keeps_bounds c =
-    let frame : framed (c.args.s.now) ≡ true = sym c.is_framed.ensures ∙ c.if-is_framed.true in
-    let known : kind_known ((c.args.s.now) kind_read.before) ≡ true = rw kind_read.u16-at.ensures at (sym c.is_kind.ensures ∙ c.if-is_kind.true) in
-    let sized : eqb (length_at (slice framed_at)) (size_of (body_at (slice framed_at))) ≡ true = sym c.has_length.ensures ∙ c.if-has_length.true in
-    let bounds_left : front_of (slice framed_at) ≡ require (within (message_with (slice framed_at) (body_at (slice framed_at)))) 13 (accepted (message_with (slice framed_at) (body_at (slice framed_at)))) = simp (frame framed_at, known, sized) in
+    let frame : framed c.args.s.now ≡ true = sym c.is_framed.ensures ∙ c.if-is_framed.true in
+    let known : kind_known c.args.s.now ≡ true = rw c.u16_at-kind.ensures at (sym c.is_kind.ensures ∙ c.if-is_kind.true) in
+    let sized : eqb (length_at (c.args.s.now c)) (size_of (body_at (c.args.s.now c))) ≡ true = sym c.has_length.ensures ∙ c.if-has_length.true in
+    let bounds_left : front_of (c.args.s.now c) ≡ require (within (message_with (c.args.s.now c) (body_at (c.args.s.now c)))) 13 (accepted (message_with (c.args.s.now c) (body_at (c.args.s.now c)))) = simp (frame c, known, sized) in
     simp (
       bounds_left,
       sym c.keeps_bounds.ensures ∙ c.if-keeps_bounds.true,
@@ -78,24 +78,24 @@ returns-then-keeps_bounds c =
 
 pub returns-then-has_length : goal.returns-then-has_length
 returns-then-has_length c =
-    let frame : framed (c.args.s.now) ≡ true = sym c.is_framed.ensures ∙ c.if-is_framed.true in
-    let known : kind_known ((c.args.s.now) kind_read.before) ≡ true = rw kind_read.u16-at.ensures at (sym c.is_kind.ensures ∙ c.if-is_kind.true) in
-    let sized : eqb (length_at (slice framed_at)) (size_of (body_at (slice framed_at))) ≡ true = sym c.has_length.ensures ∙ c.if-has_length.true in
-    let bounds_left : front_of (slice framed_at) ≡ require (within (message_with (slice framed_at) (body_at (slice framed_at)))) 13 (accepted (message_with (slice framed_at) (body_at (slice framed_at)))) = simp (frame framed_at, known, sized) in
+    let frame : framed c.args.s.now ≡ true = sym c.is_framed.ensures ∙ c.if-is_framed.true in
+    let known : kind_known c.args.s.now ≡ true = rw c.u16_at-kind.ensures at (sym c.is_kind.ensures ∙ c.if-is_kind.true) in
+    let sized : eqb (length_at (c.args.s.now c)) (size_of (body_at (c.args.s.now c))) ≡ true = sym c.has_length.ensures ∙ c.if-has_length.true in
+    let bounds_left : front_of (c.args.s.now c) ≡ require (within (message_with (c.args.s.now c) (body_at (c.args.s.now c)))) 13 (accepted (message_with (c.args.s.now c) (body_at (c.args.s.now c)))) = simp (frame c, known, sized) in
     simp (bounds_left, sym c.keeps_bounds.ensures ∙ c.if-keeps_bounds.false)
 
 pub returns-then-is_kind : goal.returns-then-is_kind
 unfolding front_of tested
 returns-then-is_kind c =
-    let frame : framed (c.args.s.now) ≡ true = sym c.is_framed.ensures ∙ c.if-is_framed.true in
-    let known : kind_known ((c.args.s.now) kind_read.before) ≡ true = rw kind_read.u16-at.ensures at (sym c.is_kind.ensures ∙ c.if-is_kind.true) in
+    let frame : framed c.args.s.now ≡ true = sym c.is_framed.ensures ∙ c.if-is_framed.true in
+    let known : kind_known c.args.s.now ≡ true = rw c.u16_at-kind.ensures at (sym c.is_kind.ensures ∙ c.if-is_kind.true) in
     let other-size = sym c.has_length.ensures ∙ c.if-has_length.false in
-    simp (frame (kind_read).before, known, other-size)
+    simp (frame, known, other-size)
 
 pub returns-then-is_framed : goal.returns-then-is_framed
 unfolding front_of
 returns-then-is_framed c =
-    let frame : framed (c.args.s.now) ≡ true = sym c.is_framed.ensures ∙ c.if-is_framed.true in
+    let frame : framed c.args.s.now ≡ true = sym c.is_framed.ensures ∙ c.if-is_framed.true in
     let unknown = rw c.u16_at-kind.ensures at (sym c.is_kind.ensures ∙ c.if-is_kind.false) in
     simp (frame, unknown)
 

@@ -21,7 +21,7 @@ returns-then-count-ge-MOST_NUMBERS c =
       gives = laid.rest;
     } in
     c.no_numbers.ensures
-    ∙ turn_full (turn) _ c.in-Value.is c.if-count-ge-MOST_NUMBERS.true
+    ∙ turn_full turn _ c.in-Value.is c.if-count-ge-MOST_NUMBERS.true
 
 pub overflow_cast-values : goal.overflow_cast-values
 overflow_cast-values c = omega (arith, number_at_most _ _ _ (sym c.decimal.ensures ∙ c.in-Value.is))
@@ -35,7 +35,7 @@ returns-then-s-end c =
       read = c.decimal.ensures;
       gives = laid.rest;
     } in
-    turn_last (turn) _ c.in-Value.is c.if-count-ge-MOST_NUMBERS.false c.if-s-end.true
+    turn_last turn _ c.in-Value.is c.if-count-ge-MOST_NUMBERS.false c.if-s-end.true
 
 pub loop-value-preserved : goal.loop-value-preserved
 loop-value-preserved c =
@@ -50,7 +50,7 @@ loop-value-preserved c =
       within = search rules;
       room = search rules;
       long = simp length-set c.loop-value.invariant.long;
-      rest = turn_more (turn) _ c.in-Value.is c.if-count-ge-MOST_NUMBERS.false c.if-s-end.false;
+      rest = turn_more turn _ c.in-Value.is c.if-count-ge-MOST_NUMBERS.false c.if-s-end.false;
     }
 
 pub returns-in-Bad : goal.returns-in-Bad
@@ -62,4 +62,4 @@ returns-in-Bad c =
       read = c.decimal.ensures;
       gives = laid.rest;
     } in
-    c.no_numbers-in-Bad.ensures ∙ turn_bad (turn) c.in-Bad.is
+    c.no_numbers-in-Bad.ensures ∙ turn_bad turn c.in-Bad.is

@@ -22,7 +22,7 @@ pub returns-then-buf-size : goal.returns-then-buf-size
 returns-then-buf-size c =
     let fields_allowed : Allows c.args.run c.args.phase c.args.vote c.args.stamp c.args.history c.args.phases = allows _ _ _ _ _ _
     (simp (c.is_phase.ensures, c.is_plan.ensures) at c.if-allowed.true) in
-    selection_too_short (fields_allowed) _
+    selection_too_short fields_allowed _
     (omega (arith, c.count_entries-count.ensures.same, c.if-buf-size.true))
 
 pub bounds-buf-12 : goal.bounds-buf-12
@@ -35,7 +35,7 @@ put_entries-requires c =
     let long = entry_bytes_length (entries_from c.args.history 0 c.args.phases) in
     let count = c.count_entries-count.ensures.same in
     record {
-      few = (fields_allowed).few;
+      few = fields_allowed.few;
       room = simp length-set (omega (arith, long, count, c.put_front.auto.0, c.if-buf-size.false));
     }
 
@@ -48,7 +48,7 @@ returns-then-allowed c =
     let fields_allowed : Allows c.args.run c.args.phase c.args.vote c.args.stamp c.args.history c.args.phases = allows _ _ _ _ _ _
     (simp (c.is_phase.ensures, c.is_plan.ensures) at c.if-allowed.true) in
     let count = c.count_entries-count.ensures.same in
-    let done = selection_written (fields_allowed) c.args.buf.now
+    let done = selection_written fields_allowed c.args.buf.now
     (omega (arith, count, c.if-buf-size.false)) in
     record {
       answer = ap (λ (k : ℕ). accepted (entries_place + entry_size * k)) count ∙ done.answer;

@@ -25,7 +25,7 @@ returns-then-self-lt-SPENT c =
 pub returns-then-is_sound : goal.returns-then-is_sound
 returns-then-is_sound c =
     let tested_sound : sound c.args.self ≡ true = sym c.is_sound.ensures ∙ c.if-is_sound.true in
-    record { written = spent_refused _ _ (tested_sound) c.if-self-lt-SPENT.false; node = refl }
+    record { written = spent_refused _ _ tested_sound c.if-self-lt-SPENT.false; node = refl }
 
 pub returns : goal.returns
 returns c =
