@@ -66,4 +66,4 @@ shape_of-row c = c.loop-i.invariant.long
 pub returns : goal.returns
 returns c =
     let none : c.loop-i.i ≡ 0 = omega (arith, c.if-i-gt0.false) in
-    all_laid (rw none c c.loop-i.invariant)
+    all_laid (rw none at c.loop-i.invariant)

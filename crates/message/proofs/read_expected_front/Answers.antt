@@ -27,16 +27,16 @@ pub keeps_bounds_laying-requires : goal.keeps_bounds_laying-requires
 keeps_bounds_laying-requires c =
     let headed_so : headed c.args.header c.args.s.now ≡ true = sym c.has_header.ensures ∙ c.if-has_header.true in
     let has : HasHeader c.args.header c.args.s.now = has_header c.args.header c.args.s.now headed_so in
-    let sized : eqb (length_at (c.args.s.now c)) (size_of (body_at (c.args.s.now c))) ≡ true = sym c.has_length.ensures ∙ c.if-has_length.true in
-    let held : HeldInFull (c.args.s.now c) header.kind = record { whole = size_held (c.args.s.now c) has.frame sized; of_kind = has.kind } in
+    let sized : eqb (length_at c.args.s.now) (size_of (body_at c.args.s.now)) ≡ true = sym c.has_length.ensures ∙ c.if-has_length.true in
+    let held : HeldInFull c.args.s.now header.kind = record { whole = size_held c.args.s.now has.frame sized; of_kind = has.kind } in
     held
 
 pub body_in-requires : goal.body_in-requires
 body_in-requires c =
     let headed_so : headed c.args.header c.args.s.now ≡ true = sym c.has_header.ensures ∙ c.if-has_header.true in
     let has : HasHeader c.args.header c.args.s.now = has_header c.args.header c.args.s.now headed_so in
-    let sized : eqb (length_at (c.args.s.now c)) (size_of (body_at (c.args.s.now c))) ≡ true = sym c.has_length.ensures ∙ c.if-has_length.true in
-    let held : HeldInFull (c.args.s.now c) header.kind = record { whole = size_held (c.args.s.now c) has.frame sized; of_kind = has.kind } in
+    let sized : eqb (length_at c.args.s.now) (size_of (body_at c.args.s.now)) ≡ true = sym c.has_length.ensures ∙ c.if-has_length.true in
+    let held : HeldInFull c.args.s.now header.kind = record { whole = size_held c.args.s.now has.frame sized; of_kind = has.kind } in
     held
 
 pub returns-then-keeps_bounds_laying : goal.returns-then-keeps_bounds_laying
@@ -46,13 +46,13 @@ returns-then-keeps_bounds_laying c =
     let has : HasHeader c.args.header c.args.s.now = has_header c.args.header c.args.s.now headed_so in
     let known : is_kind c.args.header.kind ≡ true = sym c.is_kind.ensures ∙ c.if-is_kind.true in
     let kind_known_lem : kind_known c.args.s.now ≡ true = rw has.kind.same at known in
-    let sized : eqb (length_at (c.args.s.now c)) (size_of (body_at (c.args.s.now c))) ≡ true = sym c.has_length.ensures ∙ c.if-has_length.true in
-    let row_left : (row : List ℕ) → row_after (c.args.header c) (c.args.s.now c) row ≡ cond (eqb (c.args.header c).kind 1 && leb (get_or (c.args.s.now c) phase_place 0) (length row)) (row_with row (kept_of (get_or (c.args.s.now c) phase_place 0) (entries_at (c.args.s.now c)))) row = λ row. simp (headed_so, sized) (simp has.phase) in
+    let sized : eqb (length_at c.args.s.now) (size_of (body_at c.args.s.now)) ≡ true = sym c.has_length.ensures ∙ c.if-has_length.true in
+    let row_left : (row : List ℕ) → row_after c.args.header c.args.s.now row ≡ cond (eqb (c.args.header).kind 1 && leb (get_or c.args.s.now phase_place 0) (length row)) (row_with row (kept_of (get_or c.args.s.now phase_place 0) (entries_at c.args.s.now))) row = λ row. simp (headed_so, sized) (simp has.phase) in
     let kept = sym c.keeps_bounds_laying.ensures.answer ∙ c.if-keeps_bounds_laying.true in
     let borne = header_borne has known in
     record {
-      answer = simp (has.frame, kind_known_lem, sized, kept, borne, c.body_in.ensures);
-      lays = rw row_left c.keeps_bounds_laying.ensures.lays;
+      answer = simp (has.frame, kind_known_lem, sized at, kept, borne, c.body_in.ensures);
+      lays = rw (row_left at) c.keeps_bounds_laying.ensures.lays;
     }
 
 pub returns-else-keeps_bounds_laying : goal.returns-else-keeps_bounds_laying
@@ -62,12 +62,12 @@ returns-else-keeps_bounds_laying c =
     let has : HasHeader c.args.header c.args.s.now = has_header c.args.header c.args.s.now headed_so in
     let known : is_kind c.args.header.kind ≡ true = sym c.is_kind.ensures ∙ c.if-is_kind.true in
     let kind_known_lem : kind_known c.args.s.now ≡ true = rw has.kind.same at known in
-    let sized : eqb (length_at (c.args.s.now c)) (size_of (body_at (c.args.s.now c))) ≡ true = sym c.has_length.ensures ∙ c.if-has_length.true in
-    let row_left : (row : List ℕ) → row_after (c.args.header c) (c.args.s.now c) row ≡ cond (eqb (c.args.header c).kind 1 && leb (get_or (c.args.s.now c) phase_place 0) (length row)) (row_with row (kept_of (get_or (c.args.s.now c) phase_place 0) (entries_at (c.args.s.now c)))) row = λ row. simp (headed_so, sized) (simp has.phase) in
+    let sized : eqb (length_at c.args.s.now) (size_of (body_at c.args.s.now)) ≡ true = sym c.has_length.ensures ∙ c.if-has_length.true in
+    let row_left : (row : List ℕ) → row_after c.args.header c.args.s.now row ≡ cond (eqb (c.args.header).kind 1 && leb (get_or c.args.s.now phase_place 0) (length row)) (row_with row (kept_of (get_or c.args.s.now phase_place 0) (entries_at c.args.s.now))) row = λ row. simp (headed_so, sized) (simp has.phase) in
     let broken = sym c.keeps_bounds_laying.ensures.answer ∙ c.if-keeps_bounds_laying.false in
     record {
-      answer = simp (has.frame, kind_known_lem, sized, broken);
-      lays = rw row_left c.keeps_bounds_laying.ensures.lays;
+      answer = simp (has.frame, kind_known_lem, sized at, broken);
+      lays = rw (row_left at) c.keeps_bounds_laying.ensures.lays;
     }
 
 pub returns-else-has_length : goal.returns-else-has_length
@@ -79,8 +79,8 @@ returns-else-has_length c =
     let kind_known_lem : kind_known c.args.s.now ≡ true = rw has.kind.same at known in
     let other = sym c.has_length.ensures ∙ c.if-has_length.false in
     record {
-      answer = simp (has.frame, kind_known_lem, other);
-      lays = simp (headed_so, other);
+      answer = simp ((has at).frame, kind_known_lem at, other);
+      lays = simp (headed_so at, other);
     }
 
 pub returns-else-has_header : goal.returns-else-has_header

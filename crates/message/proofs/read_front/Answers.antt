@@ -34,9 +34,9 @@ has_length-requires c =
 pub keeps_bounds-requires : goal.keeps_bounds-requires
 keeps_bounds-requires c =
     let frame : framed c.args.s.now ≡ true = sym c.is_framed.ensures ∙ c.if-is_framed.true in
-    let sized : eqb (length_at (c.args.s.now c)) (size_of (body_at (c.args.s.now c))) ≡ true = sym c.has_length.ensures ∙ c.if-has_length.true in
-    let held : HeldInFull (c.args.s.now c).u16_at-kind.result = record {
-      whole = size_held (c.args.s.now c) (frame c) sized;
+    let sized : eqb (length_at c.args.s.now) (size_of (body_at c.args.s.now)) ≡ true = sym c.has_length.ensures ∙ c.if-has_length.true in
+    let held : HeldInFull (c.args.s.now).u16_at-kind.result = record {
+      whole = size_held c.args.s.now frame sized;
       of_kind = record { same = c.u16_at-kind.ensures };
     } in
     held
@@ -45,20 +45,20 @@ pub run_of-requires : goal.run_of-requires
 run_of-requires c =
     let frame : framed c.args.s.now ≡ true = sym c.is_framed.ensures ∙ c.if-is_framed.true in
     let header_held : header_size ≤ length c.args.s.now = (framed_long c.args.s.now frame).0 in
-    header_held c
+    header_held
 
 pub bounds-s-8 : goal.bounds-s-8
 bounds-s-8 c =
     let frame : framed c.args.s.now ≡ true = sym c.is_framed.ensures ∙ c.if-is_framed.true in
     let header_held : header_size ≤ length c.args.s.now = (framed_long c.args.s.now frame).0 in
-    omega (arith, header_held c)
+    omega (arith, header_held)
 
 pub body_in-requires : goal.body_in-requires
 body_in-requires c =
     let frame : framed c.args.s.now ≡ true = sym c.is_framed.ensures ∙ c.if-is_framed.true in
-    let sized : eqb (length_at (c.args.s.now c)) (size_of (body_at (c.args.s.now c))) ≡ true = sym c.has_length.ensures ∙ c.if-has_length.true in
-    let held : HeldInFull (c.args.s.now c).u16_at-kind.result = record {
-      whole = size_held (c.args.s.now c) (frame c) sized;
+    let sized : eqb (length_at c.args.s.now) (size_of (body_at c.args.s.now)) ≡ true = sym c.has_length.ensures ∙ c.if-has_length.true in
+    let held : HeldInFull (c.args.s.now).u16_at-kind.result = record {
+      whole = size_held c.args.s.now frame sized;
       of_kind = record { same = c.u16_at-kind.ensures };
     } in
     held
@@ -67,8 +67,8 @@ pub returns-then-keeps_bounds : goal.returns-then-keeps_bounds
 returns-then-keeps_bounds c =
     let frame : framed c.args.s.now ≡ true = sym c.is_framed.ensures ∙ c.if-is_framed.true in
     let known : kind_known c.args.s.now ≡ true = rw c.u16_at-kind.ensures at (sym c.is_kind.ensures ∙ c.if-is_kind.true) in
-    let sized : eqb (length_at (c.args.s.now c)) (size_of (body_at (c.args.s.now c))) ≡ true = sym c.has_length.ensures ∙ c.if-has_length.true in
-    let bounds_left : front_of (c.args.s.now c) ≡ require (within (message_with (c.args.s.now c) (body_at (c.args.s.now c)))) 13 (accepted (message_with (c.args.s.now c) (body_at (c.args.s.now c)))) = simp (frame c, known, sized) in
+    let sized : eqb (length_at c.args.s.now) (size_of (body_at c.args.s.now)) ≡ true = sym c.has_length.ensures ∙ c.if-has_length.true in
+    let bounds_left : front_of c.args.s.now ≡ require (within (message_with c.args.s.now (body_at c.args.s.now))) 13 (accepted (message_with c.args.s.now (body_at c.args.s.now))) = simp (frame, known, sized) in
     simp (
       bounds_left,
       sym c.keeps_bounds.ensures ∙ c.if-keeps_bounds.true,
@@ -80,8 +80,8 @@ pub returns-then-has_length : goal.returns-then-has_length
 returns-then-has_length c =
     let frame : framed c.args.s.now ≡ true = sym c.is_framed.ensures ∙ c.if-is_framed.true in
     let known : kind_known c.args.s.now ≡ true = rw c.u16_at-kind.ensures at (sym c.is_kind.ensures ∙ c.if-is_kind.true) in
-    let sized : eqb (length_at (c.args.s.now c)) (size_of (body_at (c.args.s.now c))) ≡ true = sym c.has_length.ensures ∙ c.if-has_length.true in
-    let bounds_left : front_of (c.args.s.now c) ≡ require (within (message_with (c.args.s.now c) (body_at (c.args.s.now c)))) 13 (accepted (message_with (c.args.s.now c) (body_at (c.args.s.now c)))) = simp (frame c, known, sized) in
+    let sized : eqb (length_at c.args.s.now) (size_of (body_at c.args.s.now)) ≡ true = sym c.has_length.ensures ∙ c.if-has_length.true in
+    let bounds_left : front_of c.args.s.now ≡ require (within (message_with c.args.s.now (body_at c.args.s.now))) 13 (accepted (message_with c.args.s.now (body_at c.args.s.now))) = simp (frame, known, sized) in
     simp (bounds_left, sym c.keeps_bounds.ensures ∙ c.if-keeps_bounds.false)
 
 pub returns-then-is_kind : goal.returns-then-is_kind

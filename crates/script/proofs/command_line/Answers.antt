@@ -28,18 +28,18 @@ returns-then-begins c =
 
 pub slice_bounds-numbers_on-count-then-begins-2 : goal.slice_bounds-numbers_on-count-then-begins-2
 slice_bounds-numbers_on-count-then-begins-2 c =
-    let is_say : starts say_word (c.args.s.now c) ≡ true = sym c.begins-2.ensures ∙ c.if-begins-2.true in
+    let is_say : starts say_word c.args.s.now ≡ true = sym c.begins-2.ensures ∙ c.if-begins-2.true in
     starts_long say_word _ is_say
 
 pub slice_bounds-numbers_on-start-then-begins-2 : goal.slice_bounds-numbers_on-start-then-begins-2
 slice_bounds-numbers_on-start-then-begins-2 c =
-    let is_say : starts say_word (c.args.s.now c) ≡ true = sym c.begins-2.ensures ∙ c.if-begins-2.true in
+    let is_say : starts say_word c.args.s.now ≡ true = sym c.begins-2.ensures ∙ c.if-begins-2.true in
     starts_long say_word _ is_say
 
 pub returns-then-begins-2 : goal.returns-then-begins-2
 returns-then-begins-2 c =
     let no_cut : starts cut_word c.args.s.now ≡ false = sym c.begins.ensures ∙ c.if-begins.false in
-    let is_say : starts say_word (c.args.s.now c) ≡ true = sym c.begins-2.ensures ∙ c.if-begins-2.true in
+    let is_say : starts say_word c.args.s.now ≡ true = sym c.begins-2.ensures ∙ c.if-begins-2.true in
     c.to_say.ensures
     ∙ ap say_of c.numbers_on-then-begins-2.ensures
     ∙ say_case _ no_cut is_say
@@ -47,15 +47,15 @@ returns-then-begins-2 c =
 pub returns-then-begins-s : goal.returns-then-begins-s
 returns-then-begins-s c =
     let no_cut : starts cut_word c.args.s.now ≡ false = sym c.begins.ensures ∙ c.if-begins.false in
-    let no_say : starts say_word (c.args.s.now c) ≡ false = sym c.begins-2.ensures ∙ c.if-begins-2.false in
-    let neither : ) (go : Bool) → let l = c.args.s.now c in c.begins-3.result && eqb (length l) 2 ≡ go → cond go (Good Go) Bad ≡ line_of l = λ go e. let is-go = rw c.begins-3.ensures at e in
+    let no_say : starts say_word c.args.s.now ≡ false = sym c.begins-2.ensures ∙ c.if-begins-2.false in
+    let neither : ) (go : Bool) → let l = c.args.s.now in c.begins-3.result && eqb (length l) 2 ≡ go → cond go (Good Go) Bad ≡ line_of l = λ go e. let is-go = rw c.begins-3.ensures at e in
     sym (line_cases _ false false go no_cut no_say is-go) in
     neither true c.if-begins-s.true
 
 pub returns : goal.returns
 returns c =
     let no_cut : starts cut_word c.args.s.now ≡ false = sym c.begins.ensures ∙ c.if-begins.false in
-    let no_say : starts say_word (c.args.s.now c) ≡ false = sym c.begins-2.ensures ∙ c.if-begins-2.false in
-    let neither : ) (go : Bool) → let l = c.args.s.now c in c.begins-3.result && eqb (length l) 2 ≡ go → cond go (Good Go) Bad ≡ line_of l = λ go e. let is-go = rw c.begins-3.ensures at e in
+    let no_say : starts say_word c.args.s.now ≡ false = sym c.begins-2.ensures ∙ c.if-begins-2.false in
+    let neither : ) (go : Bool) → let l = c.args.s.now in c.begins-3.result && eqb (length l) 2 ≡ go → cond go (Good Go) Bad ≡ line_of l = λ go e. let is-go = rw c.begins-3.ensures at e in
     sym (line_cases _ false false go no_cut no_say is-go) in
     neither false c.if-begins-s.false

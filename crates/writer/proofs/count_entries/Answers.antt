@@ -16,4 +16,4 @@ loop-phase-preserved c =
 pub returns : goal.returns
 returns c =
     let done = listed_end c.args.t1 c.loop-phase.phase c.args.phases c.loop-phase-test.false in
-    omega (arith, simp done c c.loop-phase.invariant.whole)
+    omega (arith, simp done at c.loop-phase.invariant.whole)
