@@ -1,3 +1,4 @@
+-- In `mark_with_needed` a slot that says what an earlier one said has what it needs where that one has.
 use Rattle.tally.proofs.Finding.{alike_needed}
 use Rattle.wire.proofs.Arrays.{filling_none, filling_more, filling_until}
 use native.Mathlib.Omega.{arith}
