@@ -114,31 +114,16 @@ module _ (n first q : ℕ) (l : q < n) where
         | no e ↦ shorter same (inr (omega arith))
       ]
 
--- in a row that is as long as the crew every node is, wherever it starts
-row_all : (n first count q : ℕ) → n ≤ count → q < n → row n first count q ≡ true
-row_all n first count q long l = same_test (row n first count q) true (λ t. tt) λ t. T-row n first count q
-    (elim (dec_le first q) [
-      | yes h ↦ inl (h, omega arith)
-      | no h ↦ inr (omega arith)
-    ])
-
--- Who validates, by the group's first node, which is any where all nodes validate.
-pub validates_row : (crew : Crew) (phase first q : ℕ) → (crew.c < crew.n → first ≡ phase * crew.c % crew.n)
+-- Who validates, by the group's first node.
+pub validates_row : (crew : Crew) (phase first q : ℕ) → (0 < crew.n → first ≡ phase * crew.c % crew.n)
     → validates crew phase q ≡ in_row crew first q
 unfolding validates
 validates_row crew phase first q is = by_number (ltb q crew.n) refl
   where
-    rows : q < crew.n → row crew.n (phase * crew.c % crew.n) crew.c q ≡ row crew.n first crew.c q
-    rows l = elim (dec_lt crew.c crew.n) [
-      | yes few ↦ ap (λ x. row crew.n x crew.c q) (sym (is few))
-      | no all ↦
-          row_all crew.n _ crew.c q (omega arith) l
-          ∙ sym (row_all crew.n first crew.c q (omega arith) l)
-    ]
-
     by_number : (b : Bool) → ltb q crew.n ≡ b
         → (b && among crew.n (phase * crew.c) crew.c q) ≡ (b && row crew.n first crew.c q)
     by_number true e =
         let l = ltb-true q crew.n e in
-        among_row crew.n (phase * crew.c) q l crew.c ∙ rows l
+        among_row crew.n (phase * crew.c) q l crew.c
+        ∙ ap (λ x. row crew.n x crew.c q) (sym (is (omega arith)))
     by_number false e = refl

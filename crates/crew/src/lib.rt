@@ -208,15 +208,26 @@ fn left_over(number: u16, n: u16, times: u16) -> u16
     rest
 }
 
-// The first node of a phase's group: c nodes on for each phase, round the end of the crew. It is worked out by
-// subtracting (02, C-14): in round 2 there is no division by n. Where all nodes validate, any is the first.
-fn first_validator(crew: Crew, phase: u8) -> u8
-    ensures { (result ≤ crew.n) × (crew.c < crew.n → result ≡ phase * crew.c % crew.n) }
+// How far a phase moves the group's first node on: c nodes, less whole rounds of the crew.
+fn moved(crew: Crew) -> u16
+    requires { 0 < crew.n }
+    ensures { (result ≡ crew.c % crew.n) × (result < crew.n) }
 {
-    if crew.n <= crew.c {
+    if crew.c < crew.n {
+        return crew.c as u16;
+    }
+    left_over(crew.c as u16, crew.n as u16, BYTE_VALUES)
+}
+
+// The first node of a phase's group: c nodes on for each phase, round the end of the crew. It is worked out by
+// subtracting (02, C-14): in round 2 there is no division by n.
+fn first_validator(crew: Crew, phase: u8) -> u8
+    ensures { 0 < crew.n → result ≡ phase * crew.c % crew.n }
+{
+    if crew.n == 0 {
         return 0;
     }
-    left_over(phase as u16 * crew.c as u16, crew.n as u16, BYTE_VALUES) as u8
+    left_over(phase as u16 * moved(crew), crew.n as u16, BYTE_VALUES) as u8
 }
 
 // How many nodes after the first node q comes, round the end of the crew. It is a byte: so the compiler tests 16 nodes
@@ -231,11 +242,23 @@ fn distance(crew: Crew, first: u8, q: u8) -> u8
     q + (crew.n - first)
 }
 
-// Whether node q is one of the c nodes from the first on, round the end of the crew.
-fn is_in_row(crew: Crew, first: u8, q: u8) -> bool
-    requires { first ≤ crew.n }
+// The same where the row starts beyond the crew, as no group does: by what row says of it.
+fn is_in_row_beyond(crew: Crew, first: u8, q: u8) -> bool
     ensures { result ≡ in_row crew first q }
 {
+    let end = wide(first) + wide(crew.c);
+    let reached = (first <= q) & (wide(q) < end);
+    let reached_round_the_end = wide(q) + wide(crew.n) < end;
+    (q < crew.n) & (reached | reached_round_the_end)
+}
+
+// Whether node q is one of the c nodes from the first on, round the end of the crew.
+fn is_in_row(crew: Crew, first: u8, q: u8) -> bool
+    ensures { result ≡ in_row crew first q }
+{
+    if crew.n < first {
+        return is_in_row_beyond(crew, first, q);
+    }
     (q < crew.n) & (distance(crew, first, q) < crew.c)
 }
 

@@ -5,4 +5,4 @@ use Rattle.crew.proofs.is_validator.Goals as goal
 
 pub returns : goal.returns
 returns c =
-    c.is_in_row.ensures ∙ sym (validates_row c.args.crew c.args.phase _ c.args.q c.first_validator-first.ensures.1)
+    c.is_in_row.ensures ∙ sym (validates_row c.args.crew c.args.phase _ c.args.q c.first_validator-first.ensures)

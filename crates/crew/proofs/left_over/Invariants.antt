@@ -1,7 +1,7 @@
 -- `left_over` meets its contract. The invariant: what is left by now leaves the same, and n is in it fewer times than
 -- are left to try.
 use mathlib.Core.Path.{◌≡◌}
-use Prim.Native.Nat.{◌-◌, ◌*◌, ◌%◌, ◌≤◌, ◌<◌}
+use Prim.Native.Nat.{◌*◌, ◌%◌, ◌≤◌, ◌<◌}
 use Rattle.crew.proofs.left_over.Given as goal
 
 abbrev pub invariant-loop-left : goal.invariant-loop-left
