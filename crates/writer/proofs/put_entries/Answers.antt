@@ -1,4 +1,3 @@
-use Prim.Native.Nat.{◌-◌}
 use Rattle.message.specs.Layout.{entries_place}
 use Rattle.writer.proofs.HistoryLaws.{putting_none, room_here, putting_more, putting_all}
 use Rattle.writer.proofs.put_entries.Goals as goal
