@@ -67,7 +67,8 @@ selection_shown coming slot m first e =
     && leb (length (entries_at slot)) most_entries in
     let bounds = both_true (phase_ok phase) (body_ok phase (body_at slot))
     (ap within passes.fields ∙ passes.in_bounds) in
-    let rises = (both_true scalars (entries_ok 0 phase (entries_at slot)) (ap (body_ok phase) (sym body) ∙ bounds.1)).1 in
+    let passing = ap (body_ok phase) (sym body) ∙ bounds.1 in
+    let rises = (both_true scalars (entries_ok 0 phase (entries_at slot)) passing).1 in
     let size = passes.long ∙ ap (λ (k : Message). size_of k.body) (sym passes.fields) in
     record {
       is = simp (

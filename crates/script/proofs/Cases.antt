@@ -35,3 +35,8 @@ module _ (l : List ℕ) where
   pub say_case : starts cut_word l ≡ false → starts say_word l ≡ true
       → say_of (numbers_on (take (length l - 4) (drop 4 l))) ≡ line_of l
   say_case p q = ap (λ (k : List ℕ). say_of (numbers_on k)) (rest_all l) ∙ sym (line_cases l false true _ p q refl)
+
+  -- a line that begins with neither word is `go` or bad
+  pub go_case : (begun go : Bool) → starts cut_word l ≡ false → starts say_word l ≡ false → begun ≡ starts go_word l
+      → begun && eqb (length l) 2 ≡ go → cond go (Good Go) Bad ≡ line_of l
+  go_case begun go p q r e = sym (line_cases l false false go p q (rw r at e))

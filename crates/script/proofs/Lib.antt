@@ -1,4 +1,3 @@
 pub mod Walk
 pub mod Words
-pub mod Bytes
 pub mod Cases

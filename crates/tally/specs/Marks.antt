@@ -37,7 +37,8 @@ is_lister present histories phases plan phase q =
 
 -- how many slots support what slot q says, and how many list its vote at its stamp
 abbrev pub supporters_of : List Bool → List ℕ → List ℕ → ℕ → ℕ → ℕ
-supporters_of present votes stamps n q = tally (supporting present votes stamps (get_or votes q 0) (get_or stamps q 0)) n
+supporters_of present votes stamps n q =
+    tally (supporting present votes stamps (get_or votes q 0) (get_or stamps q 0)) n
 
 abbrev pub listers_of : List Bool → List ℕ → List ℕ → List ℕ → ℕ → ℕ → ℕ → ℕ
 listers_of present votes stamps histories phases n q =

@@ -1,3 +1,4 @@
+-- Each slot of `marks_in` adds the weight of its bit where it counts; so few weights fit.
 use mathlib.Core.Path.{refl}
 use mathlib.Core.Bool.{false}
 use Prim.Native.Nat.{◌-◌}

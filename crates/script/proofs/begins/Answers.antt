@@ -1,5 +1,5 @@
+-- The answers to the goals of `begins`.
 use mathlib.Core.Path.{sym}
-use Prim.Native.Nat.{◌-◌}
 use Rattle.script.proofs.Walk.{starts_short, starts_more, starts_stop, starts_end}
 use borrow.Author.Rules.{rules}
 use Rattle.script.proofs.begins.Goals as goal

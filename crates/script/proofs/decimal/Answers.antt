@@ -1,6 +1,6 @@
+-- The answers to the goals of `decimal`.
 use Rattle.script.proofs.Walk.{value_low, value_more, value_stop, value_end}
 use mathlib.Core.Path.{refl}
-use Prim.Native.Nat.{◌-◌}
 use borrow.Author.Tests.{eq-eqb, ne_eqb}
 use Rattle.script.specs.Fields.{number_of}
 use borrow.Author.Rules.{rules}

@@ -1,4 +1,4 @@
-use Prim.Native.Nat.{◌-◌}
+-- The answers to the goals of `find`.
 use Rattle.script.proofs.Walk.{found_here, found_later, found_none}
 use Rattle.script.proofs.find.Goals as goal
 

@@ -1,3 +1,4 @@
+-- `is_repeated` finds a slot that has the vote among those before slot q, or has looked at all of them.
 use native.Mathlib.Numerals.{add-one}
 use lib.Dec.{T}
 use Prim.Native.Nat.{◌-◌}

@@ -1,3 +1,4 @@
+-- Each slot of `mark_stamped` is marked as `stamped_with` says of it.
 use mathlib.Core.Bool.{false}
 use mathlib.Core.Path.{refl}
 use Prim.Native.Nat.{◌-◌}

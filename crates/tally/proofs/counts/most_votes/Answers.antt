@@ -1,3 +1,4 @@
+-- Each slot of `most_votes` raises the count to what it has, where that is higher.
 use Rattle.tally.proofs.Finding.{most_more}
 use Rattle.ballot.proofs.Loops.{through_all}
 use Rattle.tally.specs.Marks.{told}
