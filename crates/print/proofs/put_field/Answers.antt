@@ -1,7 +1,7 @@
 -- `put_field` meets its contract.
 use Rattle.print.specs.Texts.{field_of}
 use native.Mathlib.Omega.{arith}
-use Rattle.print.proofs.Writing.{within_then, within_one}
+use Rattle.print.proofs.Writing.{within_then, within_one, within_more}
 use Rattle.print.proofs.put_field.Goals as goal
 
 pub returns-then-honest : goal.returns-then-honest
@@ -13,7 +13,5 @@ returns-then-honest c =
 pub returns-else-honest : goal.returns-else-honest
 unfolding field_of
 returns-else-honest c =
-    let parted = not-honest.before.before.before in
-    let dashed = c.put-else-honest.ensures in
-    let both = within_then (within_one _ _ _ _ parted.put.ensures) (within_one _ _ _ _ dashed) in
-    rw not-honest.if1.false (record { wrote = both.wrote; within = omega arith })
+    let both = within_then (within_one _ _ _ _ c.put.ensures) (within_one _ _ _ _ c.put-else-honest.ensures) in
+    rw c.if-honest.false (within_more both (omega arith))

@@ -1,6 +1,6 @@
+-- The answers to the goals of `put_fields`.
 use mathlib.Core.Path.{refl, ◌∙◌}
 use native.Mathlib.Omega.{arith}
-use Prim.Native.Nat.{◌-◌}
 use native.Mathlib.Nat.{sub-zero}
 use Rattle.print.proofs.Writing.{wrote_none, wrote_all, fields_none, fields_more}
 use borrow.Author.Rules.{rules}
@@ -21,7 +21,7 @@ loop-i-preserved c =
     record {
       within = search rules;
       near = omega (arith, c.put_field-at.ensures.within, laying.near);
-      same_size = c.put_field-at.auto.0 ∙ laying.same_size;
+      same_size = c.put_field-at.auto.buf ∙ laying.same_size;
       left = fields_more _ _ _ _ c.loop-i-test.true c.put_field-at.ensures.wrote laying.left;
     }
 

@@ -6,7 +6,7 @@ use Rattle.print.proofs.put_number.Goals as goal
 pub returns : goal.returns
 unfolding decimal_of
 returns c =
-    within_then ten-thousands.put-place.ensures
+    within_then c.put_place-a.ensures
     (within_then c.put_place-b.ensures
     (within_then c.put_place-c.ensures
     (within_then c.put_place-d.ensures (within_one _ _ _ _ c.put.ensures))))
