@@ -37,6 +37,10 @@ pub record Found (input : List ℕ) (at e : ℕ) : Type 0 where
   pub inside : at ≤ length input
   pub found : e ≡ at + until newline (drop at input)
 
+pub found_there : (input : List ℕ) (at e : ℕ) → at ≤ length input → e ≡ at + until newline (drop at input)
+    → Found input at e
+found_there input at e inside found = record { inside = inside; found = found }
+
 module _ {input : List ℕ} {at e : ℕ} (line : Found input at e) where
   pub ended : e < length input → lines_from input at ≡ here input at e ∷ lines_from input (e + 1)
   ended = piece_first newline at e input line.inside line.found

@@ -1,4 +1,4 @@
-use Prim.Native.Nat.{ℕ, ◌-◌}
+use Prim.Native.Nat.{ℕ}
 use mathlib.Core.Path.{refl, sym, ◌∙◌}
 use lib.ListN.{length, length-replicate}
 use Rattle.wire.proofs.Arrays.{filling_none, filling_more, filled_all, same_everywhere}

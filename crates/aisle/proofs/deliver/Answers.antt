@@ -6,4 +6,4 @@ pub returns-then-waiting : goal.returns-then-waiting
 returns-then-waiting c = c.clear.ensures ∙ rw (c.if-waiting.true, c.requires)
 
 pub returns : goal.returns
-returns c = rw (not-honest.before.if1.false, not-honest.if2.false) c.write_say.ensures
+returns c = rw (c.if-waiting.false, c.if-honest.false) c.write_say.ensures

@@ -23,7 +23,7 @@ loop-sender-preserved c =
     let inv = c.loop-sender.invariant in
     let waiting = c.from-waiting.ensures in
     let is = rw (lent_old _ _ _ _ room inv.1, waiting) at c.deliver.ensures in
-    (omega arith, laid_more _ _ _ _ room inv.1 _ is c.deliver.auto.0)
+    (omega arith, laid_more _ _ _ _ room inv.1 _ is c.deliver.auto.slot)
 
 pub shape_of-inbox : goal.shape_of-inbox
 shape_of-inbox c = laid_size _ _ _ _ c.loop-sender.invariant.1 ∙ sym c.requires.whole

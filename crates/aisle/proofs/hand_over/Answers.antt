@@ -1,5 +1,4 @@
 use mathlib.Core.Path.{refl, sym}
-use Prim.Native.Nat.{◌-◌}
 use Rattle.wire.proofs.Arrays.{filling_none, filling_more, filled_all}
 use borrow.Author.Rules.{rules}
 use Rattle.aisle.proofs.hand_over.Goals as goal

@@ -17,7 +17,7 @@ loop-sender-preserved c =
     let inv = c.loop-sender.invariant in
     let less = c.loop-sender-test.true in
     let is = rw (lent_old _ _ _ _ less inv, empty_there _ less) at c.write_message.ensures in
-    laid_more _ _ _ _ less inv _ is c.write_message.auto.0
+    laid_more _ _ _ _ less inv _ is c.write_message.auto.slot
 
 pub returns : goal.returns
 returns c =

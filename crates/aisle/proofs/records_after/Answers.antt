@@ -1,5 +1,4 @@
 use mathlib.Core.Path.{refl, sym}
-use mathlib.Core.Logic.{inl, inr}
 use Prim.Native.Nat.{◌-◌}
 use native.Mathlib.Omega.{arith}
 use lib.Seq.{length-take-le}
@@ -8,6 +7,7 @@ use Rattle.wire.proofs.Tables.{filled_table}
 use Rattle.aisle.proofs.Tables.{length_mapped}
 use Rattle.aisle.proofs.Records.{inbox_is, honest_takes, others_stay}
 use borrow.Author.Rules.{rules}
+use Rattle.aisle.proofs.records_after.Goals.{then-honest-receiver, else-honest-receiver}
 use Rattle.aisle.proofs.records_after.Goals as goal
 
 pub loop-receiver-init : goal.loop-receiver-init
@@ -22,10 +22,12 @@ loop-receiver-preserved c =
     let inv = c.loop-receiver.invariant in
     let less = c.loop-receiver-test.true in
     elim c.if-honest-receiver.branch [
-      | inl takes ↦
-          let is = inbox_is c.args.setup c.args.moment _ _ _ c.requires c.messages-sent.ensures takes.4.ensures in
-          rw takes.10 (honest_takes _ _ _ _ less inv _ _ takes.0.taken is takes.8.ensures.node)
-      | inr stays ↦ rw stays.1 (others_stay _ _ _ _ less inv stays.0.left)
+      | then-honest-receiver w ↦
+          let all = c.messages-sent.ensures in
+          let is = inbox_is c.args.setup c.args.moment _ _ _ c.requires all w.fill_inbox.ensures in
+          let after = w.take-taken.ensures.node in
+          rw w.nodes-is (honest_takes _ _ _ _ less inv _ _ w.if-honest-receiver.true is after)
+      | else-honest-receiver w ↦ rw w.nodes-is (others_stay _ _ _ _ less inv w.if-honest-receiver.false)
     ]
 
 pub returns : goal.returns

@@ -1,6 +1,5 @@
 use Rattle.wire.proofs.Arrays.{filling_none, filling_more}
 use Rattle.wire.proofs.Tables.{filled_table}
-use Prim.Native.Nat.{◌-◌}
 use mathlib.Core.Path.{refl}
 use Rattle.aisle.proofs.start_nodes.Goals as goal
 

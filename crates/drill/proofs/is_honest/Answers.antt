@@ -5,4 +5,4 @@ use borrow.Author.Rules.{rules}
 use Rattle.drill.proofs.is_honest.Goals as goal
 
 pub returns : goal.returns
-returns c = sym (get_or-eq_default c.args.t1 _ (search rules))
+returns c = sym (get_or-eq_default c.args.honest _ (search rules))

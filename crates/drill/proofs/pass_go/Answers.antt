@@ -10,7 +10,7 @@ returns-then-moment-lt-SPENT c =
     let cursor = c.args.cursor in
     let round = c.go-after.ensures
     ∙ gone_round cursor.state.setup cursor.state.moment
-    (record { small = c.requires.small; c = c.if-moment-lt-SPENT.true }) in
+    (record { small = c.requires.small; unspent = c.if-moment-lt-SPENT.true }) in
     rw (lt-ltb _ _ c.if-moment-lt-SPENT.true, ← round, ← c.results_of-results.ensures)
     (printed c.result_line-size.ensures c.pass-next.ensures)
 
