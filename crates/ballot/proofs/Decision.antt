@@ -13,9 +13,8 @@ use Rattle.crew.specs.Thresholds.{Class, one, two, three}
 use Rattle.ballot.specs.Count.{count_if}
 use Rattle.ballot.specs.Ballot.{Ballot, votes}
 use Rattle.ballot.specs.Decision.{fresh, decides, decision}
-use Rattle.ballot.specs.Least.{least, least_of}
 use Rattle.ballot.proofs.Counting.{count_le}
-use Rattle.ballot.proofs.Least.{passes, least_of_passes, least_of_some, least_of_least}
+use Rattle.ballot.proofs.Least.{least_of_passes, least_of_some, least_of_least}
 
 -- classes 2 and 3, in which validation stamps a vote
 abbrev pub Stamps : Class → Type 0

@@ -6,7 +6,7 @@ use Prim.Native.Nat.{ℕ, zero, suc, ◌+◌, ◌-◌, ◌*◌, ◌%◌, ◌≤�
 use native.Mathlib.Omega.{arith}
 use native.Mathlib.Nat.{mod-lt, mod-eq_of_lt, add-mod_right, mul_comm, suc-mul, add-mul}
 use native.Mathlib.Decide.{ℕ_discrete}
-use lib.Dec.{T, ltb, eqb}
+use lib.Dec.{ltb, eqb}
 use borrow.Author.Tests.{lt-ltb}
 use Rattle.wire.proofs.Tests.{tests, T_and}
 use Rattle.crew.specs.declared.Crew.{Crew}

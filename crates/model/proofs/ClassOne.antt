@@ -76,9 +76,9 @@ module _ (crew : Crew) (honest : ℕ → Bool) (few : FewByzantine crew honest)
         (sym (says_vote crew s.round o s.phase q (s.node q) m m-is) ∙ d.1, omega arith);
   }
 
-  lock_step_lem : (i : Inboxes) (s : State) → InClassOne s.round → Faithful one crew honest i s
+  lock_step : (i : Inboxes) (s : State) → InClassOne s.round → Faithful one crew honest i s
       → (v : ℕ) → Lock v s → Lock v (step one crew i s)
-  lock_step_lem i s o f v l = record {
+  lock_step i s o f v l = record {
     core = l.core;
     ample = l.ample;
     members = λ q lq k.
@@ -128,7 +128,7 @@ module _ (crew : Crew) (honest : ℕ → Bool) (few : FewByzantine crew honest)
       members = λ q lq hq. (hq, all q lq hq);
     };
     inv_step = λ i s t o f. in_class_one_after s.round o;
-    lock_step_lem = lock_step_lem;
+    lock_step = lock_step;
     decision_locks = decision_locks;
     decision_locked = decision_locked;
   }

@@ -251,19 +251,19 @@ module _ (class : Class) (stamps : Stamps class) (crew : Crew) (honest : ℕ →
 
 module _ (class : Class) (stamps : Stamps class) (crew : Crew) (honest : ℕ → Bool) (few : FewByzantine crew honest)
     (bounds : Bounds crew) (i : Inboxes) where
-  lock_step_lem : (phase : ℕ) (round : Round) (nodes : ℕ → Voter)
+  lock_step : (phase : ℕ) (round : Round) (nodes : ℕ → Voter)
       → Invariant crew honest (at phase round nodes) → Faithful class crew honest i (at phase round nodes)
       → (v : ℕ) → Lock crew honest v (at phase round nodes)
       → Lock crew honest v (step class crew i (at phase round nodes))
-  lock_step_lem phase selecting nodes j f v l = go class stamps f
+  lock_step phase selecting nodes j f v l = go class stamps f
     where
       go : (class : Class) → Stamps class → Faithful class crew honest i (at phase selecting nodes)
           → Lock crew honest v (step class crew i (at phase selecting nodes))
       go one a f = absurd a
       go two a f = lock_selects two a crew honest few bounds i phase nodes j f v l
       go three a f = lock_selects three a crew honest few bounds i phase nodes j f v l
-  lock_step_lem phase validating nodes j f v l = lock_confirms class stamps crew honest few bounds i phase nodes f v l
-  lock_step_lem phase deciding nodes j f v l = lock_settles class stamps crew honest few bounds i phase nodes v l
+  lock_step phase validating nodes j f v l = lock_confirms class stamps crew honest few bounds i phase nodes f v l
+  lock_step phase deciding nodes j f v l = lock_settles class stamps crew honest few bounds i phase nodes v l
 
   -- what is decided is locked, and is what was locked before
   locks : (phase : ℕ) (round : Round) (nodes : ℕ → Voter)
@@ -286,7 +286,7 @@ module _ (class : Class) (stamps : Stamps class) (crew : Crew) (honest : ℕ →
     begins = invariant_begins crew honest;
     common = common_locks crew honest few bounds.reach;
     inv_step = λ i s. invariant_step class stamps crew honest few bounds.small i s.phase s.round s.node;
-    lock_step_lem = λ i s. lock_step_lem class stamps crew honest few bounds i s.phase s.round s.node;
+    lock_step = λ i s. lock_step class stamps crew honest few bounds i s.phase s.round s.node;
     decision_locks = λ i s j f p lp hp v d.
         (locks class stamps crew honest few bounds i s.phase s.round s.node j f p lp hp v d).0;
     decision_locked = λ i s j f p lp hp v w d.

@@ -26,7 +26,7 @@ pub record Locking (class : Class) (crew : Crew) (honest : ℕ → Bool) : Type 
   pub common : (plans : ℕ → ℕ) (v : ℕ) → Each crew honest (λ q. plans q ≡ v) → Lock v (opening plans)
   pub inv_step : (i : Inboxes) (s : State) → s.phase < spent_phase → Inv s → Faithful class crew honest i s
       → Inv (step class crew i s)
-  pub lock_step_lem : (i : Inboxes) (s : State) → Inv s → Faithful class crew honest i s
+  pub lock_step : (i : Inboxes) (s : State) → Inv s → Faithful class crew honest i s
       → (v : ℕ) → Lock v s → Lock v (step class crew i s)
   pub decision_locks : (i : Inboxes) (s : State) → Inv s → Faithful class crew honest i s
       → Each crew honest λ p. (v : ℕ) → Decides class crew i s p v → Lock v s

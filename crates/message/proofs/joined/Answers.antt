@@ -1,5 +1,4 @@
 use mathlib.Core.Path.{refl, sym, ◌∙◌}
-use Prim.Native.Nat.{◌-◌}
 use Rattle.message.proofs.Zeros.{zero_here, zeros_end}
 use Rattle.message.proofs.joined.Goals as goal
 

@@ -1,10 +1,10 @@
-use mathlib.Core.Path.{◌≡◌, ◌∙◌}
+use mathlib.Core.Path.{◌≡◌}
 use Prim.Native.Nat.{◌-◌, ◌≤◌}
 use native.Mathlib.Omega.{arith}
 use native.Mathlib.Decide.{dec_lt}
 use borrow.Author.Tests.{lt-ltb, le-ltb}
 use Rattle.message.specs.Promises.{broken}
-use Rattle.message.proofs.LayLaws.{Laying, none_laid, all_laid, entry_laid, entry_stops}
+use Rattle.message.proofs.LayLaws.{none_laid, all_laid, entry_laid, entry_stops}
 use Rattle.message.proofs.lay_entries.Goals as goal
 
 pub loop-i-init : goal.loop-i-init
@@ -14,40 +14,35 @@ pub lay_entry-later-requires : goal.lay_entry-later-requires
 lay_entry-later-requires c =
     record { room = omega (arith, c.requires.room); places = c.loop-i.invariant.places }
 
-pub shape_of-row-then-later-eq-BROKEN : goal.shape_of-row-then-later-eq-BROKEN
-shape_of-row-then-later-eq-BROKEN c = c.lay_entry-later.auto.1.1.1.0 ∙ c.loop-i.invariant.long
-
 pub returns-then-later-eq-BROKEN : goal.returns-then-later-eq-BROKEN
 returns-then-later-eq-BROKEN c =
     entry_stops c.loop-i.invariant _ (omega arith) c.lay_entry-later.ensures (omega (arith, c.if-later-eq-BROKEN.true))
 
 pub lay_entry-earlier-requires : goal.lay_entry-earlier-requires
 lay_entry-earlier-requires c =
-    let between : (Laying c.args.s.now c.args.count c.args.phase c.args.row.now (c.loop-i.i - 1) c.lay_entry-later.result c.lay_entry-later.new.1.1.1.0) = entry_laid c.loop-i.invariant _ (omega arith) c.lay_entry-later.ensures c.if-later-eq-BROKEN.false in
+    let between =
+    entry_laid c.loop-i.invariant (c.loop-i.i - 1) (omega arith) c.lay_entry-later.ensures
+    c.if-later-eq-BROKEN.false in
     record { room = omega (arith, c.requires.room); places = between.places }
-
-pub shape_of-row-then-earlier-eq-BROKEN : goal.shape_of-row-then-earlier-eq-BROKEN
-shape_of-row-then-earlier-eq-BROKEN c =
-    let between : (Laying c.args.s.now c.args.count c.args.phase c.args.row.now (c.loop-i.i - 1) c.lay_entry-later.result c.lay_entry-later.new.1.1.1.0) = entry_laid c.loop-i.invariant _ (omega arith) c.lay_entry-later.ensures c.if-later-eq-BROKEN.false in
-    c.lay_entry-earlier.auto.1.1.1.0 ∙ between.long
 
 pub returns-then-earlier-eq-BROKEN : goal.returns-then-earlier-eq-BROKEN
 returns-then-earlier-eq-BROKEN c =
-    let between : (Laying c.args.s.now c.args.count c.args.phase c.args.row.now (c.loop-i.i - 1) c.lay_entry-later.result c.lay_entry-later.new.1.1.1.0) = entry_laid c.loop-i.invariant _ (omega arith) c.lay_entry-later.ensures c.if-later-eq-BROKEN.false in
+    let between =
+    entry_laid c.loop-i.invariant (c.loop-i.i - 1) (omega arith) c.lay_entry-later.ensures
+    c.if-later-eq-BROKEN.false in
     entry_stops between _ (omega arith) c.lay_entry-earlier.ensures
     (omega (arith, c.if-earlier-eq-BROKEN.true))
 
 pub loop-i-preserved : goal.loop-i-preserved
 loop-i-preserved c =
-    let between : (Laying c.args.s.now c.args.count c.args.phase c.args.row.now (c.loop-i.i - 1) c.lay_entry-later.result c.lay_entry-later.new.1.1.1.0) = entry_laid c.loop-i.invariant _ (omega arith) c.lay_entry-later.ensures c.if-later-eq-BROKEN.false in
+    let between =
+    entry_laid c.loop-i.invariant (c.loop-i.i - 1) (omega arith) c.lay_entry-later.ensures
+    c.if-later-eq-BROKEN.false in
     entry_laid between _ (omega arith) c.lay_entry-earlier.ensures c.if-earlier-eq-BROKEN.false
 
 pub lay_entry-requires : goal.lay_entry-requires
 lay_entry-requires c =
     record { room = omega (arith, c.requires.room); places = c.loop-i.invariant.places }
-
-pub shape_of-row-then-i-gt0 : goal.shape_of-row-then-i-gt0
-shape_of-row-then-i-gt0 c = c.lay_entry.auto.1.1.1.0 ∙ c.loop-i.invariant.long
 
 pub returns-then-i-gt0 : goal.returns-then-i-gt0
 returns-then-i-gt0 c =
@@ -59,9 +54,6 @@ returns-then-i-gt0 c =
           let breaks : broken ≤ c.lay_entry.result = omega (arith, large) in
           rw (le-ltb _ _ breaks) (entry_stops c.loop-i.invariant 0 one told breaks)
     ]
-
-pub shape_of-row : goal.shape_of-row
-shape_of-row c = c.loop-i.invariant.long
 
 pub returns : goal.returns
 returns c =

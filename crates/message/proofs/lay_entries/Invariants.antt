@@ -1,5 +1,4 @@
 -- `lay_entries` meets its contract. The invariant: the entries from i on are laid, and keep their bounds.
-use Prim.Native.Nat.{◌-◌}
 use Rattle.message.proofs.LayLaws.{Laying}
 use Rattle.message.proofs.lay_entries.Given as goal
 

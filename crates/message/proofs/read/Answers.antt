@@ -1,23 +1,26 @@
 -- `read` meets its contract.
-use mathlib.Core.Path.{◌≡◌, sym, ap, ◌∙◌}
-use Rattle.message.specs.Reading.{front_of, read_answer}
+use mathlib.Core.Path.{sym, ap, ◌∙◌}
+use Rattle.message.specs.Reading.{read_answer}
 use Rattle.message.proofs.ReadLaws.{front_passes, rest_left, front_refused}
 use Rattle.message.proofs.read.Goals as goal
 
 pub is_clear-requires : goal.is_clear-requires
 is_clear-requires c =
-    let front : front_of c.args.s.now ≡ (read_answer (Read c.in-Message.message) c.args.s.now) = sym c.read_front-front.ensures ∙ ap (λ r. read_answer r c.args.s.now) c.in-Message.is in
-    (front_passes c.args.s.now _ front).is_framed
+    let s = c.args.s.now in
+    let front = sym c.read_front-front.ensures ∙ ap (λ r. read_answer r s) c.in-Message.is in
+    (front_passes s _ front).is_framed
 
 pub returns-then-is_clear : goal.returns-then-is_clear
 returns-then-is_clear c =
-    let front : front_of c.args.s.now ≡ (read_answer (Read c.in-Message.message) c.args.s.now) = sym c.read_front-front.ensures ∙ ap (λ r. read_answer r c.args.s.now) c.in-Message.is in
-    simp (rest_left c.args.s.now _ front, sym c.is_clear.ensures ∙ c.if-is_clear.true)
+    let s = c.args.s.now in
+    let front = sym c.read_front-front.ensures ∙ ap (λ r. read_answer r s) c.in-Message.is in
+    simp (rest_left s _ front, sym c.is_clear.ensures ∙ c.if-is_clear.true)
 
 pub returns-else-is_clear : goal.returns-else-is_clear
 returns-else-is_clear c =
-    let front : front_of c.args.s.now ≡ (read_answer (Read c.in-Message.message) c.args.s.now) = sym c.read_front-front.ensures ∙ ap (λ r. read_answer r c.args.s.now) c.in-Message.is in
-    simp (rest_left c.args.s.now _ front, sym c.is_clear.ensures ∙ c.if-is_clear.false)
+    let s = c.args.s.now in
+    let front = sym c.read_front-front.ensures ∙ ap (λ r. read_answer r s) c.in-Message.is in
+    simp (rest_left s _ front, sym c.is_clear.ensures ∙ c.if-is_clear.false)
 
 pub returns-in-Refused : goal.returns-in-Refused
 returns-in-Refused c =

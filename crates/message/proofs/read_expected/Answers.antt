@@ -1,18 +1,19 @@
 -- `read_expected` meets its contract.
-use mathlib.Core.Path.{◌≡◌, sym, ap, ◌∙◌}
-use Rattle.message.specs.Reading.{front_of}
-use Rattle.message.specs.Laying.{expected_as, expected_in}
+use mathlib.Core.Path.{sym, ap, ◌∙◌}
+use Rattle.message.specs.Laying.{expected_as}
 use Rattle.message.proofs.ExpectedLaws.{expected_framed, expected_clear, nothing_expected}
 use Rattle.message.proofs.read_expected.Goals as goal
 
 pub is_clear-requires : goal.is_clear-requires
 is_clear-requires c =
-    let front : (expected_as (Found c.in-Body.body) c.args.s.now) ≡ expected_in c.args.header (front_of c.args.s.now) = ap (λ r. expected_as r c.args.s.now) (sym c.in-Body.is) ∙ c.read_expected_front-front.ensures.answer in
-    expected_framed c.args.header c.args.s.now _ front
+    let s = c.args.s.now in
+    let front = ap (λ r. expected_as r s) (sym c.in-Body.is) ∙ c.read_expected_front-front.ensures.answer in
+    expected_framed c.args.header s _ front
 
 pub returns-then-is_clear : goal.returns-then-is_clear
 returns-then-is_clear c =
-    let front : (expected_as (Found c.in-Body.body) c.args.s.now) ≡ expected_in c.args.header (front_of c.args.s.now) = ap (λ r. expected_as r c.args.s.now) (sym c.in-Body.is) ∙ c.read_expected_front-front.ensures.answer in
+    let s = c.args.s.now in
+    let front = ap (λ r. expected_as r s) (sym c.in-Body.is) ∙ c.read_expected_front-front.ensures.answer in
     let clear = sym c.is_clear.ensures ∙ c.if-is_clear.true in
     record {
       answer = simp (expected_clear, clear) front;
@@ -30,8 +31,7 @@ returns-else-is_clear c =
 pub returns-in-Other : goal.returns-in-Other
 returns-in-Other c =
     let s = c.args.s.now in
-    let other =
-    ap (λ r. expected_as r s) (sym c.in-Other.is) ∙ c.read_expected_front-front.ensures.answer in
+    let other = ap (λ r. expected_as r s) (sym c.in-Other.is) ∙ c.read_expected_front-front.ensures.answer in
     record {
       answer = nothing_expected c.args.header s other;
       lays = c.read_expected_front-front.ensures.lays;

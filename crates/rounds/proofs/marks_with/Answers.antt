@@ -6,7 +6,7 @@ use Rattle.rounds.proofs.marks_with.Goals as goal
 
 pub returns : goal.returns
 returns c =
-    let last = c.read_slots.new.1.1 in
+    let read = c.read_slots.new in
     c.marks_in.ensures
-    ∙ marks_heard c.args.round _ (columns last.0 last.1.0 last.1.1.0) last.1.1.1.0
+    ∙ marks_heard c.args.round _ (columns read.present read.votes read.stamps) read.histories
     c.speaking-counting.result c.requires c.read_slots.ensures c.speaking-counting.ensures

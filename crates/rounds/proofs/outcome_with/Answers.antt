@@ -6,7 +6,6 @@ use Rattle.rounds.proofs.outcome_with.Goals as goal
 
 pub returns : goal.returns
 returns c =
-    let last = c.read_slots.new.1.1 in
-    on_heard c.requires (columns last.0 last.1.0 last.1.1.0) last.1.1.1.0
-    c.read_slots.ensures c.speaking-counting.result c.speaking-counting.ensures
-    (ruled c.args.round) _ c.rule_on_columns.ensures
+    let read = c.read_slots.new in
+    on_heard c.requires (columns read.present read.votes read.stamps) read.histories c.read_slots.ensures
+    c.speaking-counting.result c.speaking-counting.ensures (ruled c.args.round) _ c.rule_on_columns.ensures

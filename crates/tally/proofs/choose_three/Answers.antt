@@ -12,10 +12,10 @@ returns c =
     let h = listed_in histories c.args.phase in
     let n = c.slots_of-n.result in
     let e = c.bound-e.ensures in
-    let marks = c.mark_with_needed.new.0 in
+    let marks = c.mark_with_needed.new.out in
     let backs = three_marks read histories n c.args.phase c.args.crew e marks c.mark_with_needed.ensures in
     rw (← c.slots_of-n.ensures.same)
     (selection_found c.args.crew read h n three c.find_plans-backed.result c.answer_three.ensures
     (backing_three c.args.crew read h n marks backs c.find_plans-backed.ensures)
-    (enough_three c.args.crew read h n c.mark_stamped.new.0 c.count_marks.ensures e
+    (enough_three c.args.crew read h n c.mark_stamped.new.out c.count_marks.ensures e
     c.mark_stamped.ensures))

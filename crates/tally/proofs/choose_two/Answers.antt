@@ -12,7 +12,7 @@ returns c =
     let read = columns c.args.present.now c.args.votes.now c.args.stamps.now in
     let n = c.slots_of-n.result in
     let e = c.bound-e.ensures in
-    let marks = c.mark_with_needed.new.0 in
+    let marks = c.mark_with_needed.new.out in
     let possible = possible_marks read h n c.args.crew e (replicate 1 0) 0 marks c.mark_with_needed.ensures in
     rw (← c.slots_of-n.ensures.same)
     (selection_found c.args.crew read h n two c.find_plans-backed.result c.answer_below_three.ensures.in_two

@@ -27,7 +27,7 @@ returns c =
     λ h.
     let read = columns c.args.present.now c.args.votes.now c.args.stamps.now in
     let n = c.slots_of-n.result in
-    let marks = c.mark_stamped.new.0 in
+    let marks = c.mark_stamped.new.out in
     let class = cond (eqb c.args.crew.class 2) two three in
     let fresh = fresh_later read h n (eqb c.args.crew.class 2) c.args.phase marks c.mark_stamped.ensures in
     rw (ne_eqb _ _ c.if-crew-eq-CLASS_ONE.false, ← c.slots_of-n.ensures.same)

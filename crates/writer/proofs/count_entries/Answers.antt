@@ -10,10 +10,10 @@ loop-phase-init c =
 
 pub loop-phase-preserved : goal.loop-phase-preserved
 loop-phase-preserved c =
-    let turn = count_turn c.args.t1 c.loop-phase.phase c.args.phases c.loop-phase-test.true in
+    let turn = count_turn c.args.history c.loop-phase.phase c.args.phases c.loop-phase-test.true in
     omega (arith, turn, c.one_if_plan-count.ensures)
 
 pub returns : goal.returns
 returns c =
-    let done = listed_end c.args.t1 c.loop-phase.phase c.args.phases c.loop-phase-test.false in
+    let done = listed_end c.args.history c.loop-phase.phase c.args.phases c.loop-phase-test.false in
     omega (arith, simp done at c.loop-phase.invariant.whole)

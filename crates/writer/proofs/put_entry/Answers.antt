@@ -12,11 +12,6 @@ pub bounds-buf-place : goal.bounds-buf-place
 unfolding entry_bytes
 bounds-buf-place c = omega (arith, simp (sym c.is_plan.ensures ∙ c.if-is_plan.true) at c.requires)
 
-pub shape_of-buf : goal.shape_of-buf
-shape_of-buf c =
-    let kept = c.put_plan.auto.0 in
-    omega (arith, kept, simp length-set at kept)
-
 pub returns-then-is_plan : goal.returns-then-is_plan
 unfolding entry_bytes
 returns-then-is_plan c =

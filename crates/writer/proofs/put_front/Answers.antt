@@ -5,7 +5,7 @@ use Rattle.writer.proofs.put_front.Goals as goal
 
 pub returns : goal.returns
 returns c =
-    let header-put = plan-put.before.before.before.before in
-    let header = header-put.put-header in
-    let room = header-put.before.before.before.requires in
-    simp (laid_room _ _ _ plan-put.put-plan.ensures (omega (arith, header.auto.0, room)), header.ensures)
+    simp (
+      laid_room _ _ _ c.put_plan.ensures (omega (arith, c.put_header.auto.buf, c.requires)),
+      c.put_header.ensures,
+    )

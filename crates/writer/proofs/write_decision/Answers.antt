@@ -11,7 +11,8 @@ use Rattle.writer.proofs.write_decision.Goals as goal
 
 pub returns-then-buf : goal.returns-then-buf
 returns-then-buf c =
-    let in_bounds : within (decision_of c.args.run c.args.phase c.args.vote c.args.stamp) ≡ true = simp (c.is_phase.ensures, c.is_plan.ensures) at c.if-allowed.true in
+    let in_bounds : within (decision_of c.args.run c.args.phase c.args.vote c.args.stamp) ≡ true =
+        simp (c.is_phase.ensures, c.is_plan.ensures) at c.if-allowed.true in
     too_short _ _ in_bounds c.if-buf.true
 
 pub shape_of-buf-then-allowed : goal.shape_of-buf-then-allowed
@@ -20,7 +21,8 @@ shape_of-buf-then-allowed c = simp length-set (search rules)
 pub returns-then-allowed : goal.returns-then-allowed
 unfolding encode
 returns-then-allowed c =
-    let in_bounds : within (decision_of c.args.run c.args.phase c.args.vote c.args.stamp) ≡ true = simp (c.is_phase.ensures, c.is_plan.ensures) at c.if-allowed.true in
+    let in_bounds : within (decision_of c.args.run c.args.phase c.args.vote c.args.stamp) ≡ true =
+        simp (c.is_phase.ensures, c.is_plan.ensures) at c.if-allowed.true in
     rw c.put_front.ensures (written _ _ in_bounds c.if-buf.false)
 
 pub returns : goal.returns

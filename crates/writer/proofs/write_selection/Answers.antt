@@ -1,5 +1,6 @@
 -- `write_selection` meets its contract.
-use mathlib.Core.Path.{ap, ◌∙◌}
+use mathlib.Core.Path.{◌≡◌, ap, ◌∙◌}
+use mathlib.Core.Bool.{true}
 use Prim.Native.Nat.{ℕ, ◌+◌, ◌*◌}
 use native.Mathlib.Omega.{arith}
 use lib.ListN.{length-set}
@@ -8,45 +9,47 @@ use Rattle.wire.specs.Outcome.{accepted}
 use Rattle.message.specs.Layout.{entries_place, entry_size}
 use Rattle.message.specs.Encoding.{encode}
 use Rattle.message.proofs.EncodeLaws.{entry_bytes_length}
-use Rattle.writer.proofs.WriteLaws.{Allows, allows}
+use Rattle.writer.proofs.WriteLaws.{allowed, allows}
 use Rattle.writer.proofs.WriteLaws.{selection_written, selection_too_short, selection_out_of_bounds}
 use Rattle.writer.proofs.write_selection.Goals as goal
 
 pub count_entries-count-requires : goal.count_entries-count-requires
 count_entries-count-requires c =
-    let fields_allowed : Allows c.args.run c.args.phase c.args.vote c.args.stamp c.args.history c.args.phases = allows _ _ _ _ _ _
-    (simp (c.is_phase.ensures, c.is_plan.ensures) at c.if-allowed.true) in
-    (fields_allowed).few
+    let a = c.args in
+    let passed : allowed a.phase a.vote a.stamp a.phases ≡ true =
+        simp (c.is_phase.ensures, c.is_plan.ensures) at c.if-allowed.true in
+    let fields_allowed = allows a.run a.phase a.vote a.stamp a.history a.phases passed in
+    fields_allowed.few
 
 pub returns-then-buf-size : goal.returns-then-buf-size
 returns-then-buf-size c =
-    let fields_allowed : Allows c.args.run c.args.phase c.args.vote c.args.stamp c.args.history c.args.phases = allows _ _ _ _ _ _
-    (simp (c.is_phase.ensures, c.is_plan.ensures) at c.if-allowed.true) in
+    let a = c.args in
+    let passed : allowed a.phase a.vote a.stamp a.phases ≡ true =
+        simp (c.is_phase.ensures, c.is_plan.ensures) at c.if-allowed.true in
+    let fields_allowed = allows a.run a.phase a.vote a.stamp a.history a.phases passed in
     selection_too_short fields_allowed _
     (omega (arith, c.count_entries-count.ensures.same, c.if-buf-size.true))
 
-pub bounds-buf-12 : goal.bounds-buf-12
-bounds-buf-12 c = simp length-set (omega (arith, c.put_front.auto.0, c.if-buf-size.false))
-
 pub put_entries-requires : goal.put_entries-requires
 put_entries-requires c =
-    let fields_allowed : Allows c.args.run c.args.phase c.args.vote c.args.stamp c.args.history c.args.phases = allows _ _ _ _ _ _
-    (simp (c.is_phase.ensures, c.is_plan.ensures) at c.if-allowed.true) in
+    let a = c.args in
+    let passed : allowed a.phase a.vote a.stamp a.phases ≡ true =
+        simp (c.is_phase.ensures, c.is_plan.ensures) at c.if-allowed.true in
+    let fields_allowed = allows a.run a.phase a.vote a.stamp a.history a.phases passed in
     let long = entry_bytes_length (entries_from c.args.history 0 c.args.phases) in
     let count = c.count_entries-count.ensures.same in
     record {
       few = fields_allowed.few;
-      room = simp length-set (omega (arith, long, count, c.put_front.auto.0, c.if-buf-size.false));
+      room = simp length-set (omega (arith, long, count, c.put_front.auto.buf, c.if-buf-size.false));
     }
-
-pub shape_of-buf-then-allowed : goal.shape_of-buf-then-allowed
-shape_of-buf-then-allowed c = omega (arith, simp length-set at c.put_entries.auto.0, c.put_front.auto.0)
 
 pub returns-then-allowed : goal.returns-then-allowed
 unfolding encode
 returns-then-allowed c =
-    let fields_allowed : Allows c.args.run c.args.phase c.args.vote c.args.stamp c.args.history c.args.phases = allows _ _ _ _ _ _
-    (simp (c.is_phase.ensures, c.is_plan.ensures) at c.if-allowed.true) in
+    let a = c.args in
+    let passed : allowed a.phase a.vote a.stamp a.phases ≡ true =
+        simp (c.is_phase.ensures, c.is_plan.ensures) at c.if-allowed.true in
+    let fields_allowed = allows a.run a.phase a.vote a.stamp a.history a.phases passed in
     let count = c.count_entries-count.ensures.same in
     let done = selection_written fields_allowed c.args.buf.now
     (omega (arith, count, c.if-buf-size.false)) in

@@ -9,13 +9,15 @@ use Rattle.writer.proofs.write_validation.Goals as goal
 
 pub returns-then-buf : goal.returns-then-buf
 returns-then-buf c =
-    let in_bounds : within (validation_of c.args.run c.args.phase c.args.plan) ≡ true = simp (c.is_phase.ensures, c.is_plan.ensures) at c.if-allowed.true in
+    let in_bounds : within (validation_of c.args.run c.args.phase c.args.plan) ≡ true =
+        simp (c.is_phase.ensures, c.is_plan.ensures) at c.if-allowed.true in
     too_short _ _ in_bounds c.if-buf.true
 
 pub returns-then-allowed : goal.returns-then-allowed
 unfolding encode
 returns-then-allowed c =
-    let in_bounds : within (validation_of c.args.run c.args.phase c.args.plan) ≡ true = simp (c.is_phase.ensures, c.is_plan.ensures) at c.if-allowed.true in
+    let in_bounds : within (validation_of c.args.run c.args.phase c.args.plan) ≡ true =
+        simp (c.is_phase.ensures, c.is_plan.ensures) at c.if-allowed.true in
     rw c.put_front.ensures (written _ _ in_bounds c.if-buf.false)
 
 pub returns : goal.returns
