@@ -54,7 +54,7 @@ loop-setup-preserved c =
     let turn = c.loop-setup.invariant in
     let before = c.if-input-end.false in
     let turn_notes : Notes c.args.cursor c.args.input.now c.loop-setup.at c.loop-setup.line c.find-end.result
-        c.loop-setup.pending found_line before c.in-Fit.note c.receiver_of-receiver.result c.with_note-more.result =
+    c.loop-setup.pending found_line before c.in-Fit.note c.receiver_of-receiver.result c.with_note-more.result =
     record {
       told = sym c.noting_of-noting.ensures ∙ c.in-Fit.is;
       for = c.receiver_of-receiver.ensures;
