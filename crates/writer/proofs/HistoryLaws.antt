@@ -57,8 +57,8 @@ pub listed_ok : (history : List ℕ) (from count least phase : ℕ) → least �
 unfolding entries_ok entries_from
 listed_ok history from zero least phase a b = refl
 listed_ok history from (suc count) least phase a b =
-    entry_ok from (get_or history from 0) least phase (leb 1 (get_or history from 0)) (entries_from history (from + 1) count)
-    refl a
+    entry_ok from (get_or history from 0) least phase (leb 1 (get_or history from 0))
+    (entries_from history (from + 1) count) refl a
     (omega arith) (λ low h. listed_ok history (from + 1) count low phase h (omega arith))
 
 -- A turn of a loop over the phases: phase j is done, those after it are left.
