@@ -108,16 +108,20 @@ fails_quietly() {
 # which prints its arguments.
 starts_anywhere() {
     local copy=$room/copy
-    mkdir -p "$copy/crates" "$copy/bin"
+    mkdir -p "$copy"/crates/one/{src,specs,proofs} "$copy/crates/$crate/src" "$copy/bin"
     cp -r "$name" tools "$copy"
     printf 'one:\n%s: one io\nother: one\n' "$crate" >"$copy/crates.txt"
     cat >"$copy/bin/rt" <<RT
 #!/bin/sh
-[ "\$*" = "check $crate" ] || exit 1
-for name in one $crate; do echo "rt: \$name proved (1 s)"; done
-mkdir -p target/bin
-printf '#!/bin/sh\necho "\$@"\n' >target/bin/$crate
-chmod +x target/bin/$crate
+case "\$*, \${PWD##*/}" in
+    'lib, one') ;;
+    'run, $crate')
+        mkdir -p out
+        printf '#!/bin/sh\necho "\$@"\n' >out/$crate
+        chmod +x out/$crate
+        ;;
+    *) exit 1 ;;
+esac
 RT
     chmod +x "$copy/bin/rt"
     ln -s "$copy/$name" "$room/link"

@@ -1,7 +1,6 @@
 /*
- * The rail agreement engine for C and C++: the functions of target/staticlib/libboundary.a, which
- * `rt staticlib boundary` proves and writes. docs/LINKING.md says how to build, link and call it, and what each
- * function promises.
+ * The rail agreement engine for C and C++: the functions of target/staticlib/libboundary.a, which rust/build_archive
+ * proves and writes. docs/LINKING.md says how to build, link and call it, and what each function promises.
  *
  * Bytes are lent as a pointer and a length, and so are the numbers of rail_split, whose length is how many there are.
  * The pointer is not null, not even for a length of 0; what is lent to one call does not overlap; and no pointer is

@@ -1,4 +1,4 @@
-//! Finds the archive of the proved engine, which `rt staticlib boundary` writes, and has it linked.
+//! Finds the archive of the proved engine, which `rust/build_archive` writes, and has it linked.
 
 use std::path::Path;
 use std::process::exit;
@@ -8,7 +8,7 @@ fn main() {
     let archive = folder.join("libboundary.a");
     println!("cargo:rerun-if-changed={}", archive.display());
     if !archive.is_file() {
-        eprintln!("target/staticlib/libboundary.a is missing: write it with `rt staticlib boundary` in the repository");
+        eprintln!("target/staticlib/libboundary.a is missing: `rust/build_archive` in the repository proves and writes it");
         exit(1);
     }
     println!("cargo:rustc-link-search=native={}", folder.display());

@@ -1,6 +1,6 @@
 // The engine for C and Rust: functions on numbers and lent bytes, each the engine's own operation on the record whose
 // image (crate image) it is lent, and the splitting of a budget (crate current) on lent numbers of four bytes.
-// docs/LINKING.md says how to link and call it, rail.h declares it for C.
+// docs/LINKING.md says how to call it. Crate boundary_c exports these functions, under their names, from an archive.
 // An answer is one number of eight bytes: a value below 2^56, or 2^56 times the number of a refusal. specs/Answers.antt
 // says what each function answers and leaves in what it is lent.
 #![tactic(auto)]
@@ -235,8 +235,7 @@ fn crew_of(class: u8, n: u8, b: u8, f: u8, d: u8, c: u8) -> Crew
 }
 
 // Accepts a crew.
-#[unsafe(no_mangle)]
-pub extern "C" fn rail_accept(class: u8, n: u8, b: u8, f: u8, d: u8, c: u8) -> u64
+pub fn rail_accept(class: u8, n: u8, b: u8, f: u8, d: u8, c: u8) -> u64
     ensures { Answered done (accept_of (crew_of class n b f d c)) result }
 {
     accepting_answer(crew::accept(crew_of(class, n, b, f, d, c)))
@@ -253,16 +252,14 @@ fn finding_answer(answer: Finding) -> u64
 }
 
 // Looks up the least n that any D lets be accepted, and the least D for that n.
-#[unsafe(no_mangle)]
-pub extern "C" fn rail_least(class: u8, b: u8, f: u8) -> u64
+pub fn rail_least(class: u8, b: u8, f: u8) -> u64
     ensures { Answered least_number (lookup_of class b f) result }
 {
     finding_answer(least_crews::lookup(class, b, f))
 }
 
 // Starts a node and writes its record's image.
-#[unsafe(no_mangle)]
-pub extern "C" fn rail_start(
+pub fn rail_start(
     class: u8,
     n: u8,
     b: u8,
@@ -305,8 +302,7 @@ fn sending_answer(answer: Sending) -> u64
 }
 
 // Writes the coming message to the front of a buffer; the value is its length, 0 for silence.
-#[unsafe(no_mangle)]
-pub extern "C" fn rail_write(image: &[u8], buffer: &mut [u8]) -> u64
+pub fn rail_write(image: &[u8], buffer: &mut [u8]) -> u64
     ensures { Leaves itself (write_from image.now buffer.old)
         (buffer_from image.now buffer.old) result buffer.new }
 {
@@ -320,8 +316,7 @@ pub extern "C" fn rail_write(image: &[u8], buffer: &mut [u8]) -> u64
 }
 
 // Takes a round: the image becomes the next record's.
-#[unsafe(no_mangle)]
-pub extern "C" fn rail_take(image: &mut [u8], inbox: &[u8]) -> u64
+pub fn rail_take(image: &mut [u8], inbox: &[u8]) -> u64
     ensures { Leaves done (take_from image.old inbox.now)
         (record_after image.old) result image.new }
 {
@@ -355,8 +350,7 @@ fn asking_answer(answer: Asking) -> u64
 }
 
 // Asks for the coming selection.
-#[unsafe(no_mangle)]
-pub extern "C" fn rail_ask(image: &[u8], inbox: &[u8]) -> u64
+pub fn rail_ask(image: &[u8], inbox: &[u8]) -> u64
     ensures { Answered choice_number (ask_from image.now inbox.now) result }
 {
     let loaded = image::load(image);
@@ -379,8 +373,7 @@ fn marking_answer(answer: Marking) -> u64
 }
 
 // Tells the slots that count in the coming round.
-#[unsafe(no_mangle)]
-pub extern "C" fn rail_marks(image: &[u8], inbox: &[u8]) -> u64
+pub fn rail_marks(image: &[u8], inbox: &[u8]) -> u64
     ensures { Answered itself (marks_from image.now inbox.now) result }
 {
     let loaded = image::load(image);
@@ -391,8 +384,7 @@ pub extern "C" fn rail_marks(image: &[u8], inbox: &[u8]) -> u64
 }
 
 // The record's standing result, 0 before it has one.
-#[unsafe(no_mangle)]
-pub extern "C" fn rail_result(image: &[u8]) -> u64
+pub fn rail_result(image: &[u8]) -> u64
     ensures { Answered itself (result_from image.now) result }
 {
     let loaded = image::load(image);
@@ -440,8 +432,7 @@ fn put_message(fields: &mut [u8], message: Message)
 }
 
 // Reads the message that a slice holds, with nothing but zeros behind it, and lays its fields out.
-#[unsafe(no_mangle)]
-pub extern "C" fn rail_read(bytes: &[u8], fields: &mut [u8]) -> u64
+pub fn rail_read(bytes: &[u8], fields: &mut [u8]) -> u64
     ensures { Leaves done (read_into bytes.now fields.old)
         (fields_after fields.old) result fields.new }
 {
@@ -472,8 +463,7 @@ fn entry_in(part: &[u8], i: usize) -> u64
 }
 
 // Entry i of the message that a slice holds, read in the same way: its phase times 2^32, and its plan.
-#[unsafe(no_mangle)]
-pub extern "C" fn rail_entry(bytes: &[u8], i: usize) -> u64
+pub fn rail_entry(bytes: &[u8], i: usize) -> u64
     ensures { Answered entry_number (entry_from bytes.now i) result }
 {
     let reading = message::read(bytes);
@@ -484,8 +474,7 @@ pub extern "C" fn rail_entry(bytes: &[u8], i: usize) -> u64
 }
 
 // Splits a budget among shuttles, into the lent shares.
-#[unsafe(no_mangle)]
-pub extern "C" fn rail_split(demands: &[u32], budget: u32, shares: &mut [u32]) -> u64
+pub fn rail_split(demands: &[u32], budget: u32, shares: &mut [u32]) -> u64
     ensures { Leaves done (split_of demands.now budget (length shares.old))
         (value_or shares.old) result shares.new }
 {

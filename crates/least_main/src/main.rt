@@ -3,13 +3,10 @@
 #![tactic(auto)]
 
 use crew::{Crew, MOST_NODES};
-use least_crews::{Finding, Least};
+use least_crews::{Finding, Least, MOST_B, MOST_F};
 use script::Number;
-
-// Where answers go, and where refusals.
-const ANSWERS: i32 = libc::STDOUT_FILENO;
-
-const REFUSALS: i32 = libc::STDERR_FILENO;
+use std::io;
+use std::rt::Env;
 
 // The arguments, by their places; the program's own name is at 0.
 const CLASS: usize = 1;
@@ -21,11 +18,8 @@ const F: usize = 3;
 // Outside of every range: what an argument is taken for that is no number, or none of one byte.
 const OUTSIDE: u8 = 255;
 
-// A number, after some text.
-fn show_number(file: i32, text: &[u8], number: u64) {
-    io::write_all(file, text);
-    io::print_decimal(file, number);
-}
+// No number of one byte has more digits.
+const MOST_DIGITS: usize = 3;
 
 // No number that is read is larger than OUTSIDE; to test it here spares a proof of that.
 fn byte_of(number: u32) -> u8 {
@@ -35,9 +29,11 @@ fn byte_of(number: u32) -> u8 {
     OUTSIDE
 }
 
-fn argument(i: usize) -> u8 {
-    let mut text = io::buffer();
-    let length = os::arg(i, &mut text);
+fn argument(rt: &impl Env, i: usize) -> u8 {
+    let mut text = [0u8; MOST_DIGITS];
+    let Ok(length) = rt.arg(i, &mut text) else {
+        return OUTSIDE;
+    };
     match script::decimal(&text[..length], OUTSIDE as u32) {
         Number::Value(number) => byte_of(number),
         Number::Bad => OUTSIDE,
@@ -45,40 +41,34 @@ fn argument(i: usize) -> u8 {
 }
 
 // The end of the line: the entry's two numbers, or why there are none.
-fn show_entry(least: Least) {
+fn show_entry(rt: &impl Print, least: Least) -> io::Result<()> {
     if 0 < least.n {
-        show_number(ANSWERS, b"n ", least.n as u64);
-        show_number(ANSWERS, b", D ", least.d as u64);
+        println!(rt; "n {}, D {}", least.n, least.d)
     } else {
-        show_number(ANSWERS, b"none, as n would pass ", MOST_NODES as u64);
+        println!(rt; "none, as n would pass {MOST_NODES}")
     }
-    io::write_all(ANSWERS, b"\n");
 }
 
 // What lies outside of the ranges is no crew's (accepted-in-range in least_crews/proofs/Ranges.antt).
-fn refuse() {
-    show_number(REFUSALS, b"least: class is 1 to ", Crew::CLASS_THREE as u64);
-    show_number(REFUSALS, b", b 0 to ", least_crews::MOST_B as u64);
-    show_number(REFUSALS, b", f 0 to ", least_crews::MOST_F as u64);
-    io::write_all(
-        REFUSALS,
-        b", without leading zeros; no crew is accepted with others\n",
-    );
+fn refuse(rt: &impl Eprint) -> io::Result<()> {
+    let classes = Crew::CLASS_THREE;
+    eprint!(rt; "least: class is 1 to {classes}, b 0 to {MOST_B}, f 0 to {MOST_F}")?;
+    eprintln!(rt; ", without leading zeros; no crew is accepted with others")
 }
 
-fn answer(class: u8, b: u8, f: u8) {
+fn answer(rt: &(impl Print + Eprint), class: u8, b: u8, f: u8) -> io::Result<()> {
     match least_crews::lookup(class, b, f) {
         Finding::Entry(least) => {
-            show_number(ANSWERS, b"class ", class as u64);
-            show_number(ANSWERS, b", b ", b as u64);
-            show_number(ANSWERS, b", f ", f as u64);
-            io::write_all(ANSWERS, b": ");
-            show_entry(least);
+            print!(rt; "class {class}, b {b}, f {f}: ")?;
+            show_entry(rt, least)
         }
-        Finding::Refused(_) => refuse(),
+        Finding::Refused(_) => refuse(rt),
     }
 }
 
-fn main() {
-    answer(argument(CLASS), argument(B), argument(F));
+fn main(rt: HostRuntime) -> io::Result<()> {
+    let class = argument(&rt, CLASS);
+    let b = argument(&rt, B);
+    let f = argument(&rt, F);
+    answer(&rt, class, b, f)
 }

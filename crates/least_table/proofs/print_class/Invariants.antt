@@ -3,7 +3,7 @@ use Prim.Native.Nat.{◌≤◌, ◌-◌}
 use Rattle.least_table.proofs.print_class.Given as goal
 
 abbrev pub invariant-loop-entry : goal.invariant-loop-entry
-invariant-loop-entry l = l.entry ≤ 176
+invariant-loop-entry g l = l.entry ≤ 176
 
 abbrev pub decreases-loop-entry : goal.decreases-loop-entry
-decreases-loop-entry l = 176 - l.entry
+decreases-loop-entry g l = 176 - l.entry

@@ -11,7 +11,7 @@ room = most_shuttles + 1
 
 -- n demands are read, each into its place
 abbrev pub invariant-loop-n : goal.invariant-loop-n
-invariant-loop-n l = (l.n ≤ room) × (length l.demands ≡ room)
+invariant-loop-n g l = (l.n ≤ room) × (length l.demands ≡ room)
 
 abbrev pub decreases-loop-n : goal.decreases-loop-n
-decreases-loop-n l = room - l.n
+decreases-loop-n g l = room - l.n

@@ -5,7 +5,7 @@ use Rattle.splits.proofs.show_numbers.Given as goal
 
 -- the numbers before place i are shown
 abbrev pub invariant-loop-i : goal.invariant-loop-i
-invariant-loop-i l = l.i ≤ length l.numbers
+invariant-loop-i g l = l.i ≤ length l.numbers
 
 abbrev pub decreases-loop-i : goal.decreases-loop-i
-decreases-loop-i l = length l.numbers - l.i
+decreases-loop-i g l = length l.numbers - l.i
