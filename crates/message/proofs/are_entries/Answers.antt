@@ -1,3 +1,4 @@
+-- `are_entries` meets its contract: a turn of the loop tests two more entries, and of an odd number the last is left.
 use mathlib.Core.Path.{◌≡◌}
 use Prim.Native.Nat.{◌+◌}
 use native.Mathlib.Omega.{arith}

@@ -1,3 +1,4 @@
+-- `lay_entries` meets its contract: a turn of the loop lays two more entries, and of an odd number the first is left.
 use mathlib.Core.Path.{◌≡◌}
 use Prim.Native.Nat.{◌-◌, ◌≤◌}
 use native.Mathlib.Omega.{arith}
