@@ -1,5 +1,6 @@
 -- Decimal fields: document 01, 'The drill'.
-use Rattle.std.specs.Prelude.{ℕ, ◌+◌, ◌*◌, ◌-◌, ◌≤◌, ◌≡◌, Bool, true, false, cond, ◌&&◌, List, [], ◌∷◌, length, get_or, set, replicate, ltb, leb, eqb}
+use Rattle.std.specs.Prelude.{ℕ, ◌+◌, ◌*◌, ◌-◌, ◌≤◌, ◌≡◌, Bool, true, false, cond, ◌&&◌}
+use Rattle.std.specs.Prelude.{List, [], ◌∷◌, length, get_or, set, replicate, ltb, leb, eqb}
 use Rattle.wire.specs.Sizes.{plan_limit}
 use Rattle.crew.specs.Parts.{most_nodes}
 use Rattle.script.specs.Lines.{space, split}
