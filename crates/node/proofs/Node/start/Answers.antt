@@ -7,6 +7,7 @@ use Rattle.node.proofs.StartLaws.{start_begins, start_without_plan, start_beyond
 use Rattle.node.proofs.StartLaws.{refusal_shown}
 use Rattle.node.proofs.Node.start.Goals as goal
 
+-- behind the first arm: the crew is accepted
 pub returns-then-plan-gt-NO_PLAN : goal.returns-then-plan-gt-NO_PLAN
 returns-then-plan-gt-NO_PLAN c =
     let crew_accepted : accept_of c.args.crew ≡ accepted tt =
