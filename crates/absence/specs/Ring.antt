@@ -1,7 +1,8 @@
 -- The window as it is kept: numbers and marks of the records in a ring of 100 places, and a count for each node.
 -- What adding does is said of any window, also of one that no adds have made; what adds make from an empty one is
 -- `Holds`.
-use Rattle.std.specs.Prelude.{ℕ, zero, suc, ◌+◌, ◌-◌, ◌%◌, ◌<◌, min, ◌≡◌, Bool, true, not, cond, ◌&&◌, List, [], ◌∷◌, leb, ltb, eqb, get_or, set, replicate}
+use Rattle.std.specs.Prelude.{ℕ, zero, suc, ◌+◌, ◌-◌, ◌%◌, ◌<◌, min, ◌≡◌, Bool, true, not}
+use Rattle.std.specs.Prelude.{cond, ◌&&◌, List, [], ◌∷◌, leb, ltb, eqb, get_or, set, replicate}
 use Rattle.wire.specs.Outcome.{Outcome, accepted, refused, require, verdict, value_or}
 use Rattle.wire.specs.Marks.{marks_of}
 use Rattle.wire.specs.Below.{table}

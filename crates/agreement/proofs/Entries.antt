@@ -27,7 +27,7 @@ listed_said crew a history phase = go (eqb crew.class 1) (eqb crew.class 2) (eqb
         absurd (omega (arith, eqb-true crew.class 2 second, eqb-true crew.class 3 third))
     go false false true first second third = refl
     go false false false first second third =
-        let not-one = eqb-false crew.class 1 first in
-        let not-two = eqb-false crew.class 2 second in
+        let not_one = eqb-false crew.class 1 first in
+        let not_two = eqb-false crew.class 2 second in
         let not_three = eqb-false crew.class 3 third in
         absurd (omega (arith, a.class_from, a.class_to))

@@ -160,8 +160,9 @@ drill_decides p h =
 pub drill_refuses : (answer_to (begins 3 0) ≡ refused 6)
     × (write_coming_of (record_at drill 0 0) [] ≡ refused 9)
     × (take_of (record_at drill 0 0) [] ≡ refused 14)
-unfolding accept_of start_of begun made record_of record_at sound empty_from write_coming_of take_of coming_of encode entry_bytes
-    entries_from
+unfolding
+    accept_of start_of begun made record_of record_at sound empty_from write_coming_of take_of coming_of encode
+    entry_bytes entries_from
 drill_refuses = (refl, refl, refl)
 
 -- The premises.
@@ -190,8 +191,8 @@ goes p h j i =
       wrote = wrote_front_lem (record_at drill p j) (calls drill p j) (slot_at (box j) p) wrote.1;
       whole = whole_is 4 (calls drill p j) whole.1;
       hears = λ q l.
-          let at-q = every_below_lem (counts_ok p j) 3 counts.1 q l in
-          let there = holds_T (λ m. true) (ballot_at (record_at drill p j) (box j) q) at-q in
+          let at_q = every_below_lem (counts_ok p j) 3 counts.1 q l in
+          let there = holds_T (λ m. true) (ballot_at (record_at drill p j) (box j) q) at_q in
           (there.0, there.1);
     }
 
@@ -232,7 +233,8 @@ box_bytes (suc zero) = are_bytes (box 1) tt
 box_bytes (suc (suc j)) = are_bytes (box 2) tt
 
 -- an inbox that was taken is that of one of the three rounds
-taken_box : (p j : ℕ) (inbox : List ℕ) → T (honest drill p) → inbox_at drill p j ≡ some inbox → (j < 3) × (box j ≡ inbox)
+taken_box : (p j : ℕ) (inbox : List ℕ) → T (honest drill p) → inbox_at drill p j ≡ some inbox
+    → (j < 3) × (box j ≡ inbox)
 taken_box p j inbox h e =
     let inside = taken_inside drill p j inbox e in
     (inside, some-injective (box j) inbox (sym (goes p (honest_three p h) j inside).takes ∙ e))

@@ -42,12 +42,13 @@ module _ (l : Execution) (crew : Crew) (run : ℕ) (pre : Premises l crew run) (
   place_is j e = let place = place_early (run_of l crew) j (held j e).1 in (place.0 ∙ e, place.1)
 
   -- the counting messages, from the bytes and as the engine has them
-  same_heard : (j p : ℕ) → (state (run_of l crew) j).phase ≡ phase → T (circle p) → heard l p j ≡ inbox crew (said l j p)
+  same_heard : (j p : ℕ) → (state (run_of l crew) j).phase ≡ phase → T (circle p)
+      → heard l p j ≡ inbox crew (said l j p)
   same_heard j p e k =
       let h = good.inside p k in
       let t = took l crew run pre p j h (held j e) in
-      let same-crew = crew_is l crew run pre p j h (omega (arith, (held j e).0)) in
-      ap (ballots_in (record_at l p j)) t.taken ∙ heard_is l crew run pre p j same-crew t.bytes t.taken
+      let same_crew = crew_is l crew run pre p j h (omega (arith, (held j e).0)) in
+      ap (ballots_in (record_at l p j)) t.taken ∙ heard_is l crew run pre p j same_crew t.bytes t.taken
 
   speaks : (j p q : ℕ) → (state (run_of l crew) j).phase ≡ phase → T (circle p) → T (circle q)
       → (saying (class_of crew) crew (state (run_of l crew) j) q ≡ none → ⊥) → said l j p q ≡ none → ⊥

@@ -60,7 +60,8 @@ first_place true = (refl, refl)
 first_place false = (refl, refl)
 
 -- the last round of phase 63 is a round 3, and leads to phase 64
-last_place_lem : (class : Class) (round : Round) (phase : ℕ) → phase < spent_phase → spent_phase ≤ next_phase round phase
+last_place_lem : (class : Class) (round : Round) (phase : ℕ) → phase < spent_phase
+    → spent_phase ≤ next_phase round phase
     → (next_phase round phase ≡ spent_phase) × (next_round class round ≡ selecting)
 last_place_lem class selecting phase left end = absurd (omega arith)
 last_place_lem class validating phase left end = absurd (omega arith)

@@ -31,14 +31,14 @@ module _ (P : Start → Type 0) (Q : Node → Type 0) (q : ℕ) where
 
       here : (d : Node) → answer_to s ≡ accepted d → Q d → Every Q (made ss) → (b : Bool) → eqb d.own q ≡ b
           → 0 < bit b + numbered q (made ss) → Later → MadeBy P Q q (cond b d (record_of q (made ss)))
-      here d e of-d of-rest true own h later = record {
+      here d e of_d of_rest true own h later = record {
         start = s;
         answer = e;
         own = eqb-true d.own q own;
         of_start = each.0;
-        of_record = of-d;
+        of_record = of_d;
       }
-      here d e of-d of-rest false own h later = later of-rest (omega arith)
+      here d e of_d of_rest false own h later = later of_rest (omega arith)
 
       go : (o : Outcome Node) → answer_to s ≡ o → Every Q (with_record o (made ss))
           → 0 < numbered q (with_record o (made ss)) → Later → MadeBy P Q q (record_of q (with_record o (made ss)))

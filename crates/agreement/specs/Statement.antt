@@ -1,9 +1,10 @@
 -- Demand 3: one statement on a whole list of start, write, ask and take calls on bytes (document 01, 'The list in
 -- demand 3', and 02, C-13). This is the page that a reader has to believe: definitions only. What a call answers and
--- leaves behind is start_of, write_coming_of, coming_buffer_of, ask_of and take_of: the very definitions that the functions'
--- contracts cite.
+-- leaves behind is start_of, write_coming_of, coming_buffer_of, ask_of and take_of: the very definitions that the
+-- functions' contracts cite.
 -- proofs/Demand.antt proves it; proofs/Example.antt has a list that meets the premises.
-use Rattle.std.specs.Prelude.{◌≡◌, Bool, true, false, not, cond, ◌&&◌, List, [], ◌∷◌, ◌++◌, ◌⊎◌, ◌≢◌, ◌↔◌, ℕ, zero, suc, ◌+◌, ◌*◌, ◌/◌, ◌%◌, ◌≤◌, ◌<◌, length, get_or, take, T, ltb, eqb}
+use Rattle.std.specs.Prelude.{◌≡◌, Bool, true, false, not, cond, ◌&&◌, List, [], ◌∷◌, ◌++◌, ◌⊎◌, ◌≢◌, ◌↔◌, ℕ, zero, suc}
+use Rattle.std.specs.Prelude.{◌+◌, ◌*◌, ◌/◌, ◌%◌, ◌≤◌, ◌<◌, length, get_or, take, T, ltb, eqb}
 use Rattle.std.proofs.Math.Option.{Option, none, some}
 use Rattle.wire.specs.Sizes.{plan_limit, run_limit, spent_phase}
 use Rattle.wire.specs.Outcome.{Outcome, accepted, refused, value_or, is_accepted}

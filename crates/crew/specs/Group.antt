@@ -1,5 +1,6 @@
 -- Who validates in a phase, and who speaks in a round: document 02, C-13.
-use Rattle.std.specs.Prelude.{ℕ, zero, suc, ◌+◌, ◌*◌, ◌%◌, ◌<◌, ◌≡◌, Bool, false, not, ◌&&◌, ◌||◌, List, ltb, eqb, get_or}
+use Rattle.std.specs.Prelude.{ℕ, zero, suc, ◌+◌, ◌*◌, ◌%◌, ◌<◌, ◌≡◌, Bool}
+use Rattle.std.specs.Prelude.{false, not, ◌&&◌, ◌||◌, List, ltb, eqb, get_or}
 use Rattle.crew.specs.Parts.{most_nodes}
 use Rattle.crew.specs.declared.Crew.{Crew}
 

@@ -2,7 +2,8 @@
 -- A column of presence, one of votes and one of stamps; and the histories as one flat array with a place for each slot
 -- and phase, which the one rule that looks at histories asks for.
 -- What the crates below rounds promise each other: no public contract of rounds cites this file.
-use Rattle.std.specs.Prelude.{ℕ, zero, suc, ◌*◌, ◌/◌, ◌<◌, min, ◌≡◌, Bool, true, false, cond, ◌&&◌, List, [], ◌++◌, leb, length, get_or, set, replicate, take, drop}
+use Rattle.std.specs.Prelude.{ℕ, zero, suc, ◌*◌, ◌/◌, ◌<◌, min, ◌≡◌, Bool, true, false, cond}
+use Rattle.std.specs.Prelude.{◌&&◌, List, [], ◌++◌, leb, length, get_or, set, replicate, take, drop}
 use Rattle.std.proofs.Math.Option.{Option, none, some}
 use Rattle.wire.specs.Entry.{Entry, entries_from}
 use Rattle.crew.specs.declared.Crew.{Crew}

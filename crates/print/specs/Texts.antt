@@ -1,5 +1,6 @@
 -- The lines that a drill prints: document 01, 'The drill'.
-use Rattle.std.specs.Prelude.{ℕ, zero, suc, ◌+◌, ◌*◌, ◌/◌, ◌%◌, ◌≤◌, Bool, false, cond, List, [], ◌∷◌, ◌++◌, ◌≡◌, length, get_or, leb}
+use Rattle.std.specs.Prelude.{ℕ, zero, suc, ◌+◌, ◌*◌, ◌/◌, ◌%◌, ◌≤◌, Bool, false}
+use Rattle.std.specs.Prelude.{cond, List, [], ◌∷◌, ◌++◌, ◌≡◌, length, get_or, leb}
 use Rattle.std.proofs.lemmas.List.Edits.{sets}
 use Rattle.crew.specs.Parts.{most_nodes}
 use Rattle.script.specs.Lines.{space, newline}

@@ -20,7 +20,8 @@ use Rattle.ballot.proofs.Counting.{tally_le, tally_none, nobody_of}
 use Rattle.node.specs.declared.Node.{Node}
 use Rattle.inbox.specs.Inbox.{ballot_at}
 use Rattle.agreement.specs.Statement as demand
-use Rattle.agreement.specs.Statement.{Execution, answer_to, made, numbered, calls_of, record_at, inbox_at, phase_at, Every}
+use Rattle.agreement.specs.Statement.{Execution, answer_to, made, numbered, calls_of, record_at, inbox_at, phase_at}
+use Rattle.agreement.specs.Statement.{Every}
 use Rattle.agreement.specs.Statement.{is_for, AnyWin, FirstWin, Conclusions}
 use Rattle.agreement.proofs.Calls.{taken_inside}
 use Rattle.agreement.proofs.Demand.{demand3}
@@ -141,30 +142,30 @@ module _ (s : Schedule) (crew : Crew) (ok : accept_of crew ≡ accepted tt) (p :
 
 -- From the run and demand 3 alone: all that is known of the list is that it is a lock-step run of the schedule.
 
-module _ (s : Schedule) (crew : Crew) (run : ℕ) (l : Execution) (inStep : InLockStep s crew run l) where
+module _ (s : Schedule) (crew : Crew) (run : ℕ) (l : Execution) (in_step : InLockStep s crew run l) where
   abbrev ok : accept_of crew ≡ accepted tt
-  ok = inStep.premises.crew_accepted
+  ok = in_step.premises.crew_accepted
 
   honest_in : (p : ℕ) → T (is_honest s p) → T (demand.honest l p)
-  honest_in p h = subst (λ starts. T (ltb 0 (numbered p (made starts)))) (sym inStep.starts) h
+  honest_in p h = subst (λ starts. T (ltb 0 (numbered p (made starts)))) (sym in_step.starts) h
 
   run_carries : (p : ℕ) → T (is_honest s p) → Carries s crew.n p l
   run_carries p h = record {
-    records = λ j. inStep.records p j h;
-    inboxes = λ j. inStep.inboxes p j h;
-    losses = λ j. inStep.losses p j h;
+    records = λ j. in_step.records p j h;
+    inboxes = λ j. in_step.inboxes p j h;
+    losses = λ j. in_step.losses p j h;
   }
 
   -- demand 3 of the run
   concludes : Conclusions l crew
-  concludes = demand3 l crew run inStep.premises
+  concludes = demand3 l crew run in_step.premises
 
   -- The result of p: demand 3 of the run cut short after the rounds that p took, where it has the record of p.
   result : (p : ℕ) → T (is_honest s p) → Stands (Wins s crew p) (standing s p)
   result p h =
       subst (Stands (Wins s crew p)) (ap (λ (d : Node). d.result) end)
       (result_from_lem s crew ok p short short_carries (demand.standing short p)
-      ((after_every_round l crew run inStep.premises m).result p (honest_in p h)))
+      ((after_every_round l crew run in_step.premises m).result p (honest_in p h)))
     where
       m : ℕ
       m = rounds_taken s p
@@ -173,17 +174,17 @@ module _ (s : Schedule) (crew : Crew) (run : ℕ) (l : Execution) (inStep : InLo
       short = cut m l
 
       m_rounds : length short.rounds ≡ m
-      m_rounds = omega (arith, length-take m l.rounds, inStep.long p h)
+      m_rounds = omega (arith, length-take m l.rounds, in_step.long p h)
 
       short_carries : Carries s crew.n p short
       short_carries = record {
-        records = λ j inside. record_same l m p j inside ∙ inStep.records p j h inside;
-        inboxes = λ j inside. inbox_same l m p j inside ∙ inStep.inboxes p j h inside;
+        records = λ j inside. record_same l m p j inside ∙ in_step.records p j h inside;
+        inboxes = λ j inside. inbox_same l m p j inside ∙ in_step.inboxes p j h inside;
         losses = λ j over inbox e. absurd (omega (arith, taken_inside short p j inbox e, m_rounds));
       }
 
       end : record_at short p (length short.rounds) ≡ record_after s p
-      end = ap (record_at short p) m_rounds ∙ record_same l m p m (omega arith) ∙ inStep.last p h
+      end = ap (record_at short p) m_rounds ∙ record_same l m p m (omega arith) ∙ in_step.last p h
 
   -- so a node's result stays what it is in the rounds that others took and it did not
   same_standing : (p : ℕ) (h : T (is_honest s p)) → demand.standing l p ≡ standing s p
@@ -223,23 +224,23 @@ module _ (s : Schedule) (crew : Crew) (run : ℕ) (l : Execution) (inStep : InLo
       → (p w : ℕ) → T (is_honest s p) → PlanDecided s crew p w → w ≡ v
   common_start v each p w h d =
       concludes.common_start v
-      (subst (Every (λ x. T (is_accepted (answer_to x)) → x.plan ≡ v)) (sym inStep.starts) each)
+      (subst (Every (λ x. T (is_accepted (answer_to x)) → x.plan ≡ v)) (sym in_step.starts) each)
       p w (honest_in p h) (plan_to s crew ok p l (run_carries p h) w d)
 
   -- Good phases, which 02 does not ask for: every node in the circle of a phase that is good in the run has decided.
   pub good_phase : (phase : ℕ) (circle : ℕ → Bool) → 1 ≤ phase → phase < spent_phase → demand.Good l crew phase circle
       → (p : ℕ) → T (circle p) → (j : ℕ) × (v : ℕ) × (phase_at crew j ≤ phase) × Wins s crew p j v
   good_phase phase circle from early good p inside =
-      let h = subst (λ starts. T (ltb 0 (numbered p (made starts)))) inStep.starts (good.inside p inside) in
+      let h = subst (λ starts. T (ltb 0 (numbered p (made starts)))) in_step.starts (good.inside p inside) in
       let won = concludes.good_phase phase circle from early good p inside in
       (won.0, won.1, won.2, wins_from s crew ok p l (run_carries p h) won.0 won.1 won.3)
 
 pub out_of_step_lem : OutOfStep
 out_of_step_lem s crew run pre =
     let l = lock_step s crew.n in
-    let inStep = lock_step_lem s crew run pre in
+    let in_step = lock_step_lem s crew run pre in
     record {
-      result = result s crew run l inStep;
-      agreement = agreement s crew run l inStep;
-      common_start = common_start s crew run l inStep;
+      result = result s crew run l in_step;
+      agreement = agreement s crew run l in_step;
+      common_start = common_start s crew run l in_step;
     }

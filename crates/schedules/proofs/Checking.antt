@@ -84,11 +84,11 @@ module _ (s : Schedule) (n : ℕ) where
     slots_ok q hq below m says =
         let so_far = up_to s before in
         let j = rounds_taken so_far p in
-        let is-there = counts (record_after so_far p) inbox q in
+        let is_there = counts (record_after so_far p) inbox q in
         let wrote = wrote_front (own_record so_far q j) (own_calls so_far q j) (slot_at inbox q) in
         let each =
         every_below_lem (slot_ok before p inbox) n
         (and_T (all_bytes inbox) (every_below (slot_ok before p inbox) n) take_ok_lem).1 in
         wrote_front_lem (own_record so_far q j) (own_calls so_far q j) (slot_at inbox q)
-        (if_so (is_honest s q && is-there) wrote (each q below)
-        (T_and (is_honest s q) is-there hq (rw says tt)))
+        (if_so (is_honest s q && is_there) wrote (each q below)
+        (T_and (is_honest s q) is_there hq (rw says tt)))

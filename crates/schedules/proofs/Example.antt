@@ -126,13 +126,13 @@ unfolding accept_of start_of begun made count_if
 node_0_honest = tt
 
 pub four_rounds : (l : Execution) → InLockStep out_of_step crew 1 l → length l.rounds ≡ 4
-four_rounds l inStep =
-    let more = inStep.long 0 node_0_honest in
-    let no_more = inStep.no_longer 3 (λ p h. nobody_faster p (honest_below drill crew 1 drill_premises p h)) in
+four_rounds l in_step =
+    let more = in_step.long 0 node_0_honest in
+    let no_more = in_step.no_longer 3 (λ p h. nobody_faster p (honest_below drill crew 1 drill_premises p h)) in
     omega (arith, more, no_more, places.ahead.0)
 
 pub last_round : (l : Execution) → InLockStep out_of_step crew 1 l → TakesLast out_of_step l 3
-last_round l inStep = inStep.takes_last 3 (omega (arith, four_rounds l inStep))
+last_round l in_step = in_step.takes_last 3 (omega (arith, four_rounds l in_step))
 
 pub premises : SchedulePremises out_of_step crew 1
 premises = record {

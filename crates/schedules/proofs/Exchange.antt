@@ -147,17 +147,17 @@ module _ (s : Schedule) where
               elim (wrote_last (start_record s q) (calls_of q s.events) e.call (rounds_taken s f.node) h.0
               (rw (calls_mine_last q s.events e own) at h.2)) [
                 | inl before ↦ (h.0, h.1, before, h.3)
-                | inr by-e ↦
+                | inr by_e ↦
                     absurd (unused (record {
                       inbox = inbox;
                       is_take = call;
                       is_accepted = accepts;
                       message = m;
                       counts = rw own counts;
-                      same_round = rw own by-e.0;
+                      same_round = rw own by_e.0;
                       written = h.0;
                       rest = h.1;
-                      puts = subst (λ x. Puts (record_after s x) e.call h.0) (sym own) by-e.1;
+                      puts = subst (λ x. Puts (record_after s x) e.call h.0) (sym own) by_e.1;
                       holds_it = rw own h.3;
                     }))
               ]
@@ -227,15 +227,15 @@ module _ (s : Schedule) where
               t.is_accepted
 
 pub exchange : Exchange
-exchange s e f after apart f-unused e-unused = record {
+exchange s e f after apart f_unused e_unused = record {
   records = λ p. ap (after_calls (start_record s p)) (same p);
   rounds = λ p. ap (rounds_in (start_record s p)) (same p);
   inboxes = λ p j.
       let d = start_record s p in
       ap (λ cs. taken_inbox (record_in d cs j) (calls_in d cs j)) (same p);
   premises = λ crew run. (
-    other_order s e f apart f-unused after crew run,
-    other_order s f e (λ x. apart (sym x)) e-unused after crew run,
+    other_order s e f apart f_unused after crew run,
+    other_order s f e (λ x. apart (sym x)) e_unused after crew run,
   );
 }
   where

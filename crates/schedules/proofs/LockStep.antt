@@ -290,7 +290,8 @@ module _ (s : Schedule) (crew : Crew) (run : ℕ) (pre : SchedulePremises s crew
     inside_list : (p j : ℕ) (inbox : List ℕ) → inbox_at (run_of s n m) p j ≡ some inbox → j < m
     inside_list p j inbox e = omega (arith, taken_inside (run_of s n m) p j inbox e, rounds_length s n m)
 
-    bytes_in : (p j : ℕ) → T (is_honest s p) → (inbox : List ℕ) → inbox_at (run_of s n m) p j ≡ some inbox → AreBytes inbox
+    bytes_in : (p j : ℕ) → T (is_honest s p) → (inbox : List ℕ) → inbox_at (run_of s n m) p j ≡ some inbox
+        → AreBytes inbox
     bytes_in p j h inbox e = elim (dec_lt j (rounds_taken s p)) [
       | yes took ↦
           let inside = inside_list p j inbox e in

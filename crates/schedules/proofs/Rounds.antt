@@ -142,7 +142,8 @@ open_after d [] h = refl
 open_after d (c ∷ cs) (inl h) = not_both h.2
 open_after d (c ∷ cs) (inr h) = open_after (after_call d c) cs h.1 ∙ leaves d c h.0
 
-pub open_inbox : (d : Node) (cs more : List Call) → OneRound d cs false → taken_inbox d (cs ++ more) ≡ taken_inbox d more
+pub open_inbox : (d : Node) (cs more : List Call) → OneRound d cs false
+    → taken_inbox d (cs ++ more) ≡ taken_inbox d more
 unfolding taken_inbox
 open_inbox d [] more h = refl
 open_inbox d (c ∷ cs) more (inl h) = not_both h.2

@@ -3,7 +3,8 @@
 -- under its words. The statements are SameRound, Exchange, LockStep and OutOfStep; in proofs/, SameRound.antt,
 -- Exchange.antt, LockStep.antt and Agreement.antt prove them, and Example.antt has a schedule that meets the premises.
 -- What a call answers and leaves behind, and what a list of whole rounds is, stands in agreement/specs/Statement.antt.
-use Rattle.std.specs.Prelude.{◌≡◌, Bool, false, not, cond, ◌⊎◌, ◌≢◌, ◌↔◌, ℕ, zero, suc, ◌+◌, ◌-◌, ◌*◌, ◌≤◌, ◌<◌, max, length, get_or, replicate, take, drop, T, ltb}
+use Rattle.std.specs.Prelude.{◌≡◌, Bool, false, not, cond, ◌⊎◌, ◌≢◌, ◌↔◌, ℕ, zero, suc, ◌+◌, ◌-◌, ◌*◌, ◌≤◌, ◌<◌, max}
+use Rattle.std.specs.Prelude.{length, get_or, replicate, take, drop, T, ltb}
 use mathlib.Core.List.{List, [], ◌∷◌, ◌++◌, map, flatten}
 use Rattle.std.proofs.Math.Option.{Option, none, some}
 use Rattle.wire.specs.Sizes.{plan_limit, run_limit}

@@ -1,5 +1,6 @@
 -- What the lines of a script ask for: document 01, 'The drill', and 02, C-13.
-use Rattle.std.specs.Prelude.{ℕ, Bool, true, false, cond, ◌&&◌, List, [], ◌∷◌, length, get_or, drop, replicate, leb, eqb}
+use Rattle.std.specs.Prelude.{ℕ, Bool, true, false, cond, ◌&&◌, List, []}
+use Rattle.std.specs.Prelude.{◌∷◌, length, get_or, drop, replicate, leb, eqb}
 use Rattle.crew.specs.Parts.{crew_of, most_nodes}
 use Rattle.script.specs.Lines.{space}
 use Rattle.script.specs.Fields.{numbers_on, starts}

@@ -1,5 +1,6 @@
 -- Decimal fields: document 01, 'The drill'.
-use Rattle.std.specs.Prelude.{ℕ, ◌+◌, ◌*◌, ◌-◌, ◌≤◌, ◌≡◌, Bool, true, false, cond, ◌&&◌, List, [], ◌∷◌, length, get_or, set, replicate, ltb, leb, eqb}
+use Rattle.std.specs.Prelude.{ℕ, ◌+◌, ◌*◌, ◌-◌, ◌≤◌, ◌≡◌, Bool, true, false, cond, ◌&&◌}
+use Rattle.std.specs.Prelude.{List, [], ◌∷◌, length, get_or, set, replicate, ltb, leb, eqb}
 use Rattle.wire.specs.Sizes.{plan_limit}
 use Rattle.crew.specs.Parts.{most_nodes}
 use Rattle.script.specs.Lines.{space, split}
@@ -49,7 +50,8 @@ and_then Bad next = no_numbers
 unfoldable pub numbers_from : List (List ℕ) → ℕ → List ℕ → Numbers
 numbers_from [] k values = record { good = true; count = k; values = values }
 numbers_from (w ∷ ws) k values =
-    and_then (number_of largest w) (λ v. cond (leb most_numbers k) no_numbers (numbers_from ws (k + 1) (set values k v)))
+    and_then (number_of largest w)
+    (λ v. cond (leb most_numbers k) no_numbers (numbers_from ws (k + 1) (set values k v)))
 
 -- 01: "parted by one space"
 abbrev pub numbers_on : List ℕ → Numbers

@@ -1,7 +1,8 @@
 -- Counts over the columns: tests of slots, how many slots pass them, and which plans are found by such counts. The
 -- functions that run over the columns promise these; proofs/ joins them to the rules of crate ballot.
 -- Promises of private functions: no public contract cites this file.
-use Rattle.std.specs.Prelude.{ℕ, zero, suc, ◌+◌, ◌*◌, ◌<◌, max, ◌≡◌, Bool, false, not, cond, ◌&&◌, ◌||◌, List, get_or, leb, ltb, eqb}
+use Rattle.std.specs.Prelude.{ℕ, zero, suc, ◌+◌, ◌*◌, ◌<◌, max, ◌≡◌, Bool, false}
+use Rattle.std.specs.Prelude.{not, cond, ◌&&◌, ◌||◌, List, get_or, leb, ltb, eqb}
 use Rattle.std.proofs.Math.Option.{Option, none, some}
 use Rattle.ballot.specs.Count.{tally}
 use Rattle.ballot.specs.Least.{lower}

@@ -35,9 +35,9 @@ never_refused crew whole = go (quorum_of crew) refl
 
 module _ (crew : Crew) (whole : crew.c ≡ crew.n) where
   -- of a record of this crew
-  module _ (d : Node) (of-crew : d.crew ≡ crew) where
+  module _ (d : Node) (of_crew : d.crew ≡ crew) where
     validates_all : (q : ℕ) → q < crew.n → validates d.crew d.phase q ≡ true
-    validates_all q less = ap (λ c. validates c d.phase q) of-crew ∙ everybody crew whole d.phase q less
+    validates_all q less = ap (λ c. validates c d.phase q) of_crew ∙ everybody crew whole d.phase q less
 
     written : d.own < crew.n → coming_of d ≡ coming_before d
     unfolding coming_of
@@ -51,7 +51,7 @@ module _ (crew : Crew) (whole : crew.c ≡ crew.n) where
 
     polled : (bytes : List ℕ) → ballots d bytes ≡ inbox crew (ballot_in d.run d.phase d.round bytes)
     polled bytes =
-        ap (λ c. inbox c (ballot_at d bytes)) of-crew
+        ap (λ c. inbox c (ballot_at d bytes)) of_crew
         ∙ gather_same (ballot_at d bytes) (ballot_in d.run d.phase d.round bytes) crew.n (heard bytes)
 
   bounded : (ballots : List Ballot) (v : ℕ) → valid crew ballots v ≡ valid_before crew ballots v

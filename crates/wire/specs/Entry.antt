@@ -13,4 +13,5 @@ entry_of phase plan = cond (leb 1 plan) (record { phase = phase; plan = plan } �
 -- the non-empty entries of a history, of `count` phases from `phase` on
 unfoldable pub entries_from : List ℕ → ℕ → ℕ → List Entry
 entries_from history phase zero = []
-entries_from history phase (suc count) = entry_of phase (get_or history phase 0) ++ entries_from history (phase + 1) count
+entries_from history phase (suc count) =
+    entry_of phase (get_or history phase 0) ++ entries_from history (phase + 1) count

@@ -1,3 +1,4 @@
+-- Half of what is left to try is tried in each turn.
 use mathlib.Core.Path.{◌≡◌, sym, ap, ◌∙◌}
 use Prim.Native.Nat.{ℕ, ◌+◌, ◌-◌, ◌*◌, ◌/◌, ◌%◌, ◌≤◌, ◌<◌}
 use native.Mathlib.Omega.{arith}
@@ -30,7 +31,9 @@ overflow_mul-half c =
 pub loop-left-preserved : goal.loop-left-preserved
 loop-left-preserved c =
     let n = c.args.n in
-    let next = half_tried n c.loop-left.rest c.loop-left.left (c.loop-left.left / 2) _ (omega arith) c.loop-left.invariant.1 c.without-rest.ensures in
+    let left = c.loop-left.left in
+    let next =
+    half_tried n c.loop-left.rest left (left / 2) _ (omega arith) c.loop-left.invariant.1 c.without-rest.ensures in
     (next.0 ∙ c.loop-left.invariant.0, next.1, omega arith)
 
 pub returns : goal.returns

@@ -1,3 +1,4 @@
+-- Each turn settles one mark, and leaves those after it.
 use mathlib.Core.Path.{refl, ap₂, sym, ◌∙◌}
 use mathlib.Core.Bool.{false, ◌&&◌}
 use native.Mathlib.Omega.{arith}
@@ -15,7 +16,9 @@ loop-q-preserved c =
     let here = validates_row c.args.crew c.args.phase _ c.loop-q.q c.first_validator-first.ensures in (
       filling_more _ (omega arith) c.loop-q.invariant.0
           (ap₂ ◌&&◌ (c.loop-q.invariant.1 c.loop-q.q (omega arith)) (c.is_in_row.ensures ∙ sym here)),
-      λ k later. get_or-set_other c.loop-q.kept c.loop-q.q k _ false (λ e. omega arith) ∙ c.loop-q.invariant.1 k (omega arith),
+      λ k later.
+          get_or-set_other c.loop-q.kept c.loop-q.q k _ false (λ e. omega arith)
+          ∙ c.loop-q.invariant.1 k (omega arith),
     )
 
 pub returns : goal.returns

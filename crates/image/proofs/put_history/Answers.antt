@@ -1,6 +1,5 @@
 -- `put_history` meets its contract.
 use mathlib.Core.Path.{refl, ◌∙◌}
-use Prim.Native.Nat.{◌-◌}
 use native.Mathlib.Omega.{arith}
 use Rattle.wire.proofs.Stores.{laid_room}
 use Rattle.image.proofs.Stores.{lay_turn, lay_end}

@@ -13,6 +13,7 @@ use Rattle.writer.proofs.WriteLaws.{allowed, allows}
 use Rattle.writer.proofs.WriteLaws.{selection_written, selection_too_short, selection_out_of_bounds}
 use Rattle.writer.proofs.write_selection.Goals as goal
 
+-- behind the first test: the phases and the scalar fields keep their bounds
 pub count_entries-count-requires : goal.count_entries-count-requires
 count_entries-count-requires c =
     let a = c.args in

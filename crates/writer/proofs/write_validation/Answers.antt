@@ -7,6 +7,7 @@ use Rattle.writer.specs.Writing.{validation_of}
 use Rattle.writer.proofs.WriteLaws.{written, too_short, out_of_bounds}
 use Rattle.writer.proofs.write_validation.Goals as goal
 
+-- behind the first test: the fields keep their bounds
 pub returns-then-buf : goal.returns-then-buf
 returns-then-buf c =
     let in_bounds : within (validation_of c.args.run c.args.phase c.args.plan) ≡ true =
