@@ -39,14 +39,17 @@ use Rattle.message.specs.Layout.{plan_place, stamp_place, count_place, entries_p
 module _ (s : List ℕ) (bytes : AreBytes s) where
   -- the header's bytes are those of its fields
   header_is : header_size ≤ length s
-      → s ≡ header (length_at s) (kind_at s) (number_at run_size s run_place) (get_or s phase_place 0) ++ drop header_size s
+      → s
+      ≡ header (length_at s) (kind_at s) (number_at run_size s run_place) (get_or s phase_place 0)
+      ++ drop header_size s
   header_is long =
       bytes_of_number 2 s length_place bytes (omega arith)
       ∙ ap (λ rest. bytes_of 2 (length_at s) ++ rest)
       (bytes_of_number 2 s kind_place bytes (omega arith)
       ∙ ap (λ rest. bytes_of 2 (kind_at s) ++ rest)
       (bytes_of_number run_size s run_place bytes (omega arith)
-      ∙ ap (λ rest. bytes_of run_size (number_at run_size s run_place) ++ rest) (drop-cons s phase_place 0 (omega arith))))
+      ∙ ap (λ rest. bytes_of run_size (number_at run_size s run_place) ++ rest)
+      (drop-cons s phase_place 0 (omega arith))))
 
 -- the bytes of k entries are those of the entries read there
 entries_are : (k : ℕ) (s : List ℕ) → AreBytes s → entry_size * k ≤ length s
@@ -149,7 +152,8 @@ module _ (s : List ℕ) (bytes : AreBytes s) (long : header_size ≤ length s) (
   slice_is body stands =
       header_is s bytes long
       ∙ rw (stands.kind, stands.size)
-      (ap (λ rest. header (size_of body) (kind_of body) (number_at run_size s run_place) (get_or s phase_place 0) ++ rest)
+      (ap
+      (λ rest. header (size_of body) (kind_of body) (number_at run_size s run_place) (get_or s phase_place 0) ++ rest)
       stands.body_is)
 
 -- For every slice whose front is read to a message: the slice begins with that message's encoding, and the message

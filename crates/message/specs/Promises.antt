@@ -1,7 +1,8 @@
 -- What the private functions ask of a slice and a row, and what they tell of a number, of a stretch of bytes and of the
 -- row.
 -- Promises of private functions: no public contract cites this file.
-use Rattle.std.specs.Prelude.{ℕ, ◌+◌, ◌-◌, ◌*◌, ◌<◌, ◌≤◌, Bool, cond, ◌&&◌, ◌≡◌, List, leb, ltb, eqb, length, get_or, set, take, drop}
+use Rattle.std.specs.Prelude.{ℕ, ◌+◌, ◌-◌, ◌*◌, ◌<◌, ◌≤◌, Bool, cond, ◌&&◌, ◌≡◌, leb, ltb, eqb}
+use Rattle.std.specs.Prelude.{List, length, get_or, set, take, drop}
 use Rattle.wire.specs.Entry.{Entry}
 use Rattle.wire.specs.Plan.{plan_ok}
 use Rattle.message.specs.Layout.{phase_place, header_size, entries_place, entry_size}
@@ -69,7 +70,9 @@ pub record LaidSelection (s row : List ℕ) (r : Bool) (after : List ℕ) : Type
 pub record KeptSelection (s row : List ℕ) (r : Bool) (after : List ℕ) : Type 0 where
   pub answer : r ≡ within (message_with s (selection_at s))
   pub lays : after
-      ≡ cond (leb (get_or s phase_place 0) (length row)) (row_with row (kept_of (get_or s phase_place 0) (entries_at s))) row
+      ≡ cond (leb (get_or s phase_place 0) (length row))
+      (row_with row (kept_of (get_or s phase_place 0) (entries_at s)))
+      row
 
 -- the same of any message: only a selection's entries are laid
 pub record KeptLaying (s : List ℕ) (kind : ℕ) (row : List ℕ) (r : Bool) (after : List ℕ) : Type 0 where

@@ -1,5 +1,6 @@
 -- What reading a slice answers: document 01, 'Messages', and refusals 10 to 13; document 02, C-12, and refusal 16.
-use Rattle.std.specs.Prelude.{ℕ, zero, suc, ◌+◌, ◌*◌, ◌/◌, Bool, true, cond, ◌&&◌, List, [], ◌∷◌, length, get_or, take, drop, leb, ltb, eqb}
+use Rattle.std.specs.Prelude.{ℕ, zero, suc, ◌+◌, ◌*◌, ◌/◌, Bool, true, cond, ◌&&◌, leb, ltb, eqb}
+use Rattle.std.specs.Prelude.{List, [], ◌∷◌, length, get_or, take, drop}
 use Rattle.wire.specs.Outcome.{Outcome, accepted, refused, require}
 use Rattle.wire.specs.Entry.{Entry}
 use Rattle.wire.specs.Bytes.{number_at}
@@ -30,7 +31,8 @@ message_with s body = record { run = number_at run_size s run_place; phase = get
 -- the k entries at the front of a list of bytes
 unfoldable pub entries_in : ℕ → List ℕ → List Entry
 entries_in zero s = []
-entries_in (suc k) s = record { phase = get_or s 0 0; plan = number_at plan_size s 1 } ∷ entries_in k (drop entry_size s)
+entries_in (suc k) s =
+    record { phase = get_or s 0 0; plan = number_at plan_size s 1 } ∷ entries_in k (drop entry_size s)
 
 -- entry i of those that a selection lists, where it stands
 abbrev pub entry_in_slice : List ℕ → ℕ → Entry

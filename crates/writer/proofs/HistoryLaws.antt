@@ -6,7 +6,7 @@ use Prim.Native.Nat.{ℕ, zero, suc, ◌+◌, ◌-◌, ◌<◌, ◌≤◌}
 use native.Mathlib.Nat.{sub-zero}
 use native.Mathlib.Omega.{arith}
 use lib.Dec.{leb}
-use lib.ListN.{length, get_or, set, length-append}
+use lib.ListN.{length, get_or, length-append}
 use lib.Seq.{sets}
 use borrow.Author.Tests.{le-leb, lt-ltb}
 use Rattle.wire.proofs.Stores.{sets_append}
@@ -57,8 +57,8 @@ pub listed_ok : (history : List ℕ) (from count least phase : ℕ) → least �
 unfolding entries_ok entries_from
 listed_ok history from zero least phase a b = refl
 listed_ok history from (suc count) least phase a b =
-    entry_ok from (get_or history from 0) least phase (leb 1 (get_or history from 0)) (entries_from history (from + 1) count)
-    refl a
+    entry_ok from (get_or history from 0) least phase (leb 1 (get_or history from 0))
+    (entries_from history (from + 1) count) refl a
     (omega arith) (λ low h. listed_ok history (from + 1) count low phase h (omega arith))
 
 -- A turn of a loop over the phases: phase j is done, those after it are left.

@@ -1,3 +1,4 @@
+-- `are_entries` meets its contract: a turn of the loop tests two more entries, and of an odd number the last is left.
 use mathlib.Core.Path.{◌≡◌}
 use Prim.Native.Nat.{◌+◌}
 use native.Mathlib.Omega.{arith}
@@ -12,6 +13,7 @@ pub returns-then-between-eq0 : goal.returns-then-between-eq0
 returns-then-between-eq0 c =
     entry_breaks c.loop-i.invariant _ c.least_after-between.ensures (omega arith) c.if-between-eq0.true
 
+-- between the two of a turn: the first entry has passed
 pub returns-then-after-eq0 : goal.returns-then-after-eq0
 returns-then-after-eq0 c =
     let between =

@@ -29,4 +29,7 @@ bounds-s-11-2 c =
 
 pub returns : goal.returns
 returns c =
-    simp (kind_other c.requires.of_kind c.if-kind-eq-SELECTION.false c.if-kind-eq-VALIDATION.false, c.plan_at-vote.ensures)
+    simp (
+      kind_other c.requires.of_kind c.if-kind-eq-SELECTION.false c.if-kind-eq-VALIDATION.false,
+      c.plan_at-vote.ensures,
+    )

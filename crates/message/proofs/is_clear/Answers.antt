@@ -1,30 +1,26 @@
 -- `is_clear` meets its contract.
 use mathlib.Core.Path.{ap, ◌∙◌}
-use Prim.Native.Nat.{◌≤◌}
 use native.Mathlib.Omega.{arith}
-use lib.ListN.{length, drop}
-use Rattle.message.specs.Layout.{header_size}
-use Rattle.message.specs.Reading.{length_at, all_zero}
+use lib.ListN.{drop}
+use Rattle.message.specs.Reading.{all_zero}
 use Rattle.message.proofs.ReadLaws.{framed_long}
 use Rattle.message.proofs.Zeros.{between_rest}
 use Rattle.message.proofs.is_clear.Goals as goal
 
 pub u16_at-size-requires : goal.u16_at-size-requires
 u16_at-size-requires c =
-    let held : (header_size ≤ length c.args.s.now) × (length_at c.args.s.now ≤ length c.args.s.now) = framed_long c.args.s.now c.requires in
-    omega (arith, held.0)
+    let long = framed_long c.args.s.now c.requires in
+    omega (arith, long.0)
 
 pub slice_bounds-are_zeros-count : goal.slice_bounds-are_zeros-count
 slice_bounds-are_zeros-count c =
-    let held : (header_size ≤ length c.args.s.now) × (length_at c.args.s.now ≤ length c.args.s.now) = framed_long c.args.s.now c.requires in
-    let fits = held in
-    omega (arith, fits.0, fits.1, c.u16_at-size.ensures)
+    let long = framed_long c.args.s.now c.requires in
+    omega (arith, long.0, long.1, c.u16_at-size.ensures)
 
 pub slice_bounds-are_zeros-start : goal.slice_bounds-are_zeros-start
 slice_bounds-are_zeros-start c =
-    let held : (header_size ≤ length c.args.s.now) × (length_at c.args.s.now ≤ length c.args.s.now) = framed_long c.args.s.now c.requires in
-    let fits = held in
-    omega (arith, fits.0, fits.1, c.u16_at-size.ensures)
+    let long = framed_long c.args.s.now c.requires in
+    omega (arith, long.0, long.1, c.u16_at-size.ensures)
 
 pub returns : goal.returns
 returns c =

@@ -1,3 +1,4 @@
+-- `joined` meets its contract: a turn of the loop joins one more byte.
 use mathlib.Core.Path.{refl, sym, ◌∙◌}
 use Rattle.message.proofs.Zeros.{zero_here, zeros_end}
 use Rattle.message.proofs.joined.Goals as goal

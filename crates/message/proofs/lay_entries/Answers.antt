@@ -1,3 +1,4 @@
+-- `lay_entries` meets its contract: a turn of the loop lays two more entries, and of an odd number the first is left.
 use mathlib.Core.Path.{◌≡◌}
 use Prim.Native.Nat.{◌-◌, ◌≤◌}
 use native.Mathlib.Omega.{arith}
@@ -18,6 +19,7 @@ pub returns-then-later-eq-BROKEN : goal.returns-then-later-eq-BROKEN
 returns-then-later-eq-BROKEN c =
     entry_stops c.loop-i.invariant _ (omega arith) c.lay_entry-later.ensures (omega (arith, c.if-later-eq-BROKEN.true))
 
+-- between the two of a turn: the later entry is laid
 pub lay_entry-earlier-requires : goal.lay_entry-earlier-requires
 lay_entry-earlier-requires c =
     let between =

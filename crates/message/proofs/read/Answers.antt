@@ -4,6 +4,7 @@ use Rattle.message.specs.Reading.{read_answer}
 use Rattle.message.proofs.ReadLaws.{front_passes, rest_left, front_refused}
 use Rattle.message.proofs.read.Goals as goal
 
+-- where the front is a message
 pub is_clear-requires : goal.is_clear-requires
 is_clear-requires c =
     let s = c.args.s.now in

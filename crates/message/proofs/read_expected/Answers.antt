@@ -4,6 +4,7 @@ use Rattle.message.specs.Laying.{expected_as}
 use Rattle.message.proofs.ExpectedLaws.{expected_framed, expected_clear, nothing_expected}
 use Rattle.message.proofs.read_expected.Goals as goal
 
+-- where the message at the front is expected
 pub is_clear-requires : goal.is_clear-requires
 is_clear-requires c =
     let s = c.args.s.now in

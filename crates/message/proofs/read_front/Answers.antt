@@ -10,7 +10,8 @@ use Rattle.wire.specs.Outcome.{accepted, require}
 use Rattle.message.specs.Layout.{header_size}
 use Rattle.message.specs.Bounds.{within}
 use Rattle.message.specs.Encoding.{size_of}
-use Rattle.message.specs.Reading.{kind_at, length_at, message_with, body_at, framed, is_kind, kind_known, tested, front_of}
+use Rattle.message.specs.Reading.{kind_at, length_at, message_with, body_at, framed, is_kind, kind_known}
+use Rattle.message.specs.Reading.{tested, front_of}
 use Rattle.message.proofs.ReadLaws.{framed_long, size_held}
 use Rattle.message.proofs.read_front.Goals as goal
 

@@ -1,4 +1,4 @@
-use Prim.Native.Nat.{◌-◌}
+-- `count_entries` meets its contract: a turn of the loop counts the entry of one more phase.
 use native.Mathlib.Nat.{sub-zero}
 use native.Mathlib.Omega.{arith}
 use Rattle.writer.proofs.HistoryLaws.{count_turn, listed_end}

@@ -1,4 +1,4 @@
-use Prim.Native.Nat.{◌-◌}
+-- `put_entries` meets its contract: a turn of the loop puts the entry of one more phase.
 use Rattle.message.specs.Layout.{entries_place}
 use Rattle.writer.proofs.HistoryLaws.{putting_none, room_here, putting_more, putting_all}
 use Rattle.writer.proofs.put_entries.Goals as goal

@@ -13,11 +13,12 @@ use Rattle.writer.proofs.WriteLaws.{allowed, allows}
 use Rattle.writer.proofs.WriteLaws.{selection_written, selection_too_short, selection_out_of_bounds}
 use Rattle.writer.proofs.write_selection.Goals as goal
 
+-- behind the first test: the phases and the scalar fields keep their bounds
 pub count_entries-count-requires : goal.count_entries-count-requires
 count_entries-count-requires c =
     let a = c.args in
     let passed : allowed a.phase a.vote a.stamp a.phases ≡ true =
-        simp (c.is_phase.ensures, c.is_plan.ensures) at c.if-allowed.true in
+    simp (c.is_phase.ensures, c.is_plan.ensures) at c.if-allowed.true in
     let fields_allowed = allows a.run a.phase a.vote a.stamp a.history a.phases passed in
     fields_allowed.few
 
@@ -25,7 +26,7 @@ pub returns-then-buf-size : goal.returns-then-buf-size
 returns-then-buf-size c =
     let a = c.args in
     let passed : allowed a.phase a.vote a.stamp a.phases ≡ true =
-        simp (c.is_phase.ensures, c.is_plan.ensures) at c.if-allowed.true in
+    simp (c.is_phase.ensures, c.is_plan.ensures) at c.if-allowed.true in
     let fields_allowed = allows a.run a.phase a.vote a.stamp a.history a.phases passed in
     selection_too_short fields_allowed _
     (omega (arith, c.count_entries-count.ensures.same, c.if-buf-size.true))
@@ -34,7 +35,7 @@ pub put_entries-requires : goal.put_entries-requires
 put_entries-requires c =
     let a = c.args in
     let passed : allowed a.phase a.vote a.stamp a.phases ≡ true =
-        simp (c.is_phase.ensures, c.is_plan.ensures) at c.if-allowed.true in
+    simp (c.is_phase.ensures, c.is_plan.ensures) at c.if-allowed.true in
     let fields_allowed = allows a.run a.phase a.vote a.stamp a.history a.phases passed in
     let long = entry_bytes_length (entries_from c.args.history 0 c.args.phases) in
     let count = c.count_entries-count.ensures.same in
@@ -48,7 +49,7 @@ unfolding encode
 returns-then-allowed c =
     let a = c.args in
     let passed : allowed a.phase a.vote a.stamp a.phases ≡ true =
-        simp (c.is_phase.ensures, c.is_plan.ensures) at c.if-allowed.true in
+    simp (c.is_phase.ensures, c.is_plan.ensures) at c.if-allowed.true in
     let fields_allowed = allows a.run a.phase a.vote a.stamp a.history a.phases passed in
     let count = c.count_entries-count.ensures.same in
     let done = selection_written fields_allowed c.args.buf.now

@@ -7,17 +7,18 @@ use Rattle.writer.specs.Writing.{validation_of}
 use Rattle.writer.proofs.WriteLaws.{written, too_short, out_of_bounds}
 use Rattle.writer.proofs.write_validation.Goals as goal
 
+-- behind the first test: the fields keep their bounds
 pub returns-then-buf : goal.returns-then-buf
 returns-then-buf c =
     let in_bounds : within (validation_of c.args.run c.args.phase c.args.plan) ≡ true =
-        simp (c.is_phase.ensures, c.is_plan.ensures) at c.if-allowed.true in
+    simp (c.is_phase.ensures, c.is_plan.ensures) at c.if-allowed.true in
     too_short _ _ in_bounds c.if-buf.true
 
 pub returns-then-allowed : goal.returns-then-allowed
 unfolding encode
 returns-then-allowed c =
     let in_bounds : within (validation_of c.args.run c.args.phase c.args.plan) ≡ true =
-        simp (c.is_phase.ensures, c.is_plan.ensures) at c.if-allowed.true in
+    simp (c.is_phase.ensures, c.is_plan.ensures) at c.if-allowed.true in
     rw c.put_front.ensures (written _ _ in_bounds c.if-buf.false)
 
 pub returns : goal.returns

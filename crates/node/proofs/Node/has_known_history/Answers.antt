@@ -1,3 +1,4 @@
+-- `has_known_history` meets its contract: a turn of the loop looks at one more entry.
 use mathlib.Core.Path.{refl, ap, ◌∙◌}
 use mathlib.Core.Bool.{◌&&◌}
 use Prim.Native.Nat.{◌-◌}

@@ -6,6 +6,7 @@ use Rattle.node.specs.Soundness.{sound}
 use Rattle.node.proofs.SendLaws.{unsound_refused, spent_refused, never_out_of_bounds}
 use Rattle.node.proofs.Node.write.Goals as goal
 
+-- behind the first test: the record is sound
 pub write_coming-writing-requires : goal.write_coming-writing-requires
 write_coming-writing-requires c =
     let tested_sound : sound c.args.self ≡ true = sym c.is_sound.ensures ∙ c.if-is_sound.true in

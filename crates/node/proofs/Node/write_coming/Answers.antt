@@ -26,5 +26,6 @@ returns-then-self-eq-VALIDATION c =
 
 pub returns : goal.returns
 returns c =
-    let three = last_round (sound_facts _ c.requires.is_sound) c.if-self-eq-SELECTION.false c.if-self-eq-VALIDATION.false in
+    let facts = sound_facts _ c.requires.is_sound in
+    let three = last_round facts c.if-self-eq-SELECTION.false c.if-self-eq-VALIDATION.false in
     message_written c.requires _ (decides three) c.write_decision.ensures
