@@ -1,16 +1,16 @@
 -- Selection from what is found: the plans that are backed, and whether enough slots count for 'any', make selection's
 -- answer.
-use mathlib.Core.Path.{◌≡◌, refl, sym, ap, ap₂, ◌∙◌}
+use mathlib.Core.Path.{◌≡◌, refl, sym, ap₂, ◌∙◌}
 use mathlib.Core.Bool.{Bool, true, false, ◌&&◌}
 use mathlib.Core.List.{List}
 use Prim.Native.Nat.{ℕ, ◌+◌, ◌*◌, ◌<◌}
-use lib.Dec.{T, leb, ltb, eqb}
+use lib.Dec.{T, leb, ltb}
 use lib.ListN.{get_or}
 use borrow.Author.Tests.{le-leb, eq-eqb}
 use Rattle.wire.specs.Entry.{Entry}
 use Rattle.crew.specs.declared.Crew.{Crew}
 use Rattle.crew.specs.Thresholds.{Class, one, two, three, E}
-use Rattle.ballot.specs.Count.{tally, count_if}
+use Rattle.ballot.specs.Count.{count_if}
 use Rattle.ballot.specs.Ballot.{Ballot, votes}
 use Rattle.ballot.specs.Selection.{Choice, possible, backed, backing, enough, answer, selection}
 use Rattle.ballot.proofs.Counting.{tally_has, tally_same}

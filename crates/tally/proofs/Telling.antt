@@ -8,11 +8,10 @@ use mathlib.Core.Option.{Option, none, some}
 use Prim.Native.Nat.{ℕ, zero, suc, ◌+◌, ◌<◌, max}
 use native.Mathlib.Numerals.{add-one}
 use native.Mathlib.Omega.{arith}
-use lib.Dec.{T, ltb, eqb, eqb→eq}
+use lib.Dec.{T, eqb, eqb→eq}
 use lib.ListN.{get_or}
 use borrow.Author.Tests.{ltb-true, eq-eqb, ne_eqb}
 use Rattle.wire.proofs.Tests.{by_equality, and_T}
-use Rattle.ballot.specs.Count.{tally}
 use Rattle.ballot.specs.Selection.{Backing, nobody, sole, several}
 use Rattle.ballot.proofs.Counting.{tally_some}
 use Rattle.tally.specs.Marks.{marked, voting, voters_of, repeated, is_new, told, lowered, joined}

@@ -1,6 +1,5 @@
 -- Each step of `read_slots` is a lemma of Walk.antt: the rows stay within the histories, one slot more is walked, and
 -- at the end all are.
-use Prim.Native.Nat.{◌-◌}
 use native.Mathlib.Omega.{arith}
 use Rattle.inbox.proofs.Walk.{walked_none, row_ends, walked_more, walked_all}
 use Rattle.inbox.proofs.read_slots.Goals as goal

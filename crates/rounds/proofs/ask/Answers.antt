@@ -1,9 +1,8 @@
 -- `ask` meets its contract.
 use mathlib.Core.Bool.{true}
-use mathlib.Core.Path.{sym, ap, ◌∙◌, refl}
+use mathlib.Core.Path.{sym, ◌∙◌, refl}
 use lib.Dec.{eqb}
 use Rattle.wire.proofs.Tests.{both_true}
-use Rattle.wire.specs.Outcome.{accepted}
 use Rattle.node.specs.Soundness.{sound}
 use Rattle.rounds.specs.declared.TakeRefusal.TheVariants.{Unsound, Spent, Inbox}
 use Rattle.rounds.proofs.Refusals.{own_fails, spent, other_length, all_pass, ask_tested, ask_refused}
@@ -25,11 +24,10 @@ returns-then-inbox-n c =
     let own = rw c.is_sound.ensures at c.if-selecting.true in
     let both = both_true (sound d) (eqb d.round 1) own in
     let whole = c.if-inbox-n.true in
+    let came = rw (c.coming.ensures, both.1) at c.outcome-choice.ensures in
     let passes = ask_tested d bytes ∙ all_pass _ _ _ _ own c.if-node-lt-SPENT.true whole in
     record {
-      answer = c.to_asking.ensures
-          ∙ ap accepted (rw (c.coming.ensures, both.1) at c.outcome-choice.ensures)
-          ∙ sym passes;
+      answer = rw (c.to_asking.ensures, came) (sym passes);
       node = refl;
     }
 

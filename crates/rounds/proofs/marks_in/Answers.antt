@@ -1,7 +1,5 @@
 -- Each slot of `marks_in` adds the weight of its bit where it counts; so few weights fit.
 use mathlib.Core.Path.{refl}
-use mathlib.Core.Bool.{false}
-use Prim.Native.Nat.{◌-◌}
 use native.Mathlib.Omega.{arith}
 use Rattle.wire.specs.Marks.{marks_of}
 use Rattle.wire.proofs.Marks.{marks_fit, marks_more}

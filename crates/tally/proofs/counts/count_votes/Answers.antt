@@ -1,5 +1,4 @@
 -- Each slot of `count_votes` adds what it counts; at the end all n are counted.
-use Prim.Native.Nat.{◌-◌}
 use native.Mathlib.Omega.{arith}
 use Rattle.ballot.proofs.Loops.{through_all, counted_none, counted_more}
 use Rattle.tally.proofs.counts.count_votes.Goals as goal

@@ -2,7 +2,6 @@
 use Rattle.tally.proofs.Finding.{holds_none, holds_more, holds_same}
 use Rattle.ballot.proofs.Loops.{through_all}
 use native.Mathlib.Omega.{arith}
-use Prim.Native.Nat.{◌-◌}
 use mathlib.Core.Path.{sym, ◌∙◌}
 use Rattle.tally.proofs.counts.find_plans.Goals.{then-is_reached, else-is_reached}
 use Rattle.tally.proofs.counts.find_plans.Goals as goal

@@ -1,5 +1,4 @@
 -- The slot that `first_alike` finds is there and says what slot q says; where none is found, it is slot q.
-use Prim.Native.Nat.{◌-◌}
 use native.Mathlib.Omega.{arith}
 use borrow.Author.Tests.{eqb-true}
 use Rattle.wire.proofs.Tests.{both_true}

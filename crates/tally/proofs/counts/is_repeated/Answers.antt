@@ -1,7 +1,6 @@
 -- `is_repeated` finds a slot that has the vote among those before slot q, or has looked at all of them.
 use native.Mathlib.Numerals.{add-one}
 use lib.Dec.{T}
-use Prim.Native.Nat.{◌-◌}
 use mathlib.Core.Path.{refl, sym}
 use native.Mathlib.Omega.{arith}
 use lib.ListN.{get_or}

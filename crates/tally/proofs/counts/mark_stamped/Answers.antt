@@ -1,7 +1,5 @@
 -- Each slot of `mark_stamped` is marked as `stamped_with` says of it.
-use mathlib.Core.Bool.{false}
 use mathlib.Core.Path.{refl}
-use Prim.Native.Nat.{◌-◌}
 use native.Mathlib.Omega.{arith}
 use Rattle.wire.proofs.Arrays.{filling_none, filling_more, filling_until}
 use Rattle.tally.proofs.counts.mark_stamped.Goals as goal

@@ -2,9 +2,7 @@
 use Rattle.tally.proofs.Finding.{alike_needed}
 use Rattle.wire.proofs.Arrays.{filling_none, filling_more, filling_until}
 use native.Mathlib.Omega.{arith}
-use Prim.Native.Nat.{◌-◌}
 use Rattle.tally.proofs.counts.mark_with_needed.Goals.{then-first-q, else-first-q}
-use mathlib.Core.Bool.{false}
 use Rattle.tally.proofs.counts.mark_with_needed.Goals as goal
 
 pub loop-q-init : goal.loop-q-init

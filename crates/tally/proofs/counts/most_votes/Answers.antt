@@ -3,7 +3,6 @@ use Rattle.tally.proofs.Finding.{most_more}
 use Rattle.ballot.proofs.Loops.{through_all}
 use Rattle.tally.specs.Marks.{told}
 use native.Mathlib.Omega.{arith}
-use Prim.Native.Nat.{◌-◌}
 use mathlib.Core.Path.{refl, ◌∙◌}
 use Rattle.tally.proofs.counts.most_votes.Goals as goal
 
