@@ -7,7 +7,7 @@ use native.Mathlib.Omega.{arith}
 use native.Mathlib.Nat.{add-zero, zero-add, suc-add, add_assoc}
 use native.Mathlib.Decide.{dec_lt}
 use lib.Dec.{ltb}
-use lib.ListN.{length, get_or, take, drop, length-take, length-drop}
+use lib.ListN.{length, get_or, take, drop, length-drop}
 use lib.Seq.{length-take-le, take_all}
 use borrow.Author.Tests.{lt-ltb, le-ltb}
 use Rattle.wire.specs.Sizes.{run_size}
@@ -50,7 +50,8 @@ lines_same (run ∷ runs) w keeps =
 
 -- Records of bytes that come in two parts.
 
-records_taken : (n : ℕ) (s : List ℕ) (i m : ℕ) → record_size * (i + m) ≤ n → records_in (take n s) i m ≡ records_in s i m
+records_taken : (n : ℕ) (s : List ℕ) (i m : ℕ) → record_size * (i + m) ≤ n
+    → records_in (take n s) i m ≡ records_in s i m
 unfolding records_in
 records_taken n s i zero h = refl
 records_taken n s i (suc m) h =
@@ -82,7 +83,8 @@ records_split s i (suc n) m =
     let on : i + suc n ≡ i + 1 + n = omega arith in
     rw (suc-add n m, on, records_split s (i + 1) n m)
 
-lines_append : (xs ys : List Run) (w : Window) → lines_of w (xs ++ ys) ≡ lines_of w xs ++ lines_of (window_after w xs) ys
+lines_append : (xs ys : List Run) (w : Window)
+    → lines_of w (xs ++ ys) ≡ lines_of w xs ++ lines_of (window_after w xs) ys
 unfolding lines_of window_after
 lines_append [] ys w = refl
 lines_append (x ∷ xs) ys w =
@@ -210,7 +212,8 @@ turns_print (suc turns) stream input enough =
         (again (omega (arith, fewer))))
 
 -- However many turns beyond those that are needed the loop may have, it prints the whole output and no more.
-pub whole_output : (turns : ℕ) (input : List ℕ) → most_records ≤ turns → printed turns fresh_stream input ≡ output_of input
+pub whole_output : (turns : ℕ) (input : List ℕ) → most_records ≤ turns
+    → printed turns fresh_stream input ≡ output_of input
 unfolding output_of fresh_stream
 whole_output turns input enough =
     let runs = records_in input 0 (min (length input / record_size) most_records) in

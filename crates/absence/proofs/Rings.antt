@@ -6,12 +6,10 @@ use mathlib.Core.List.{List, [], ◌∷◌, ◌++◌}
 use Prim.Native.Nat.{ℕ, suc, ◌+◌, ◌-◌, ◌%◌, ◌<◌, ◌≤◌}
 use native.Mathlib.Omega.{arith}
 use native.Mathlib.Decide.{dec_lt}
-use lib.Dec.{leb}
-use lib.ListN.{length, get_or, set, drop, replicate, length-set, length-replicate, get_or-replicate}
+use lib.ListN.{length, get_or, drop, length-set, length-replicate, get_or-replicate}
 use lib.Seq.{get_or-set_same, get_or-set_other}
 use borrow.Author.Tests.{lt-ltb, le-ltb, lt-leb}
 use Rattle.wire.specs.Below.{table}
-use Rattle.wire.specs.Marks.{marked}
 use Rattle.wire.proofs.Tests.{by_equality}
 use Rattle.wire.proofs.Tables.{table_long, table_filled, table_same, table_first}
 use Rattle.wire.proofs.Marks.{marked_in}
@@ -67,7 +65,8 @@ place_last : (next held : ℕ) → next < most_held → held < most_held
 place_last next held inside some = omega arith
 
 place_moved : (next i : ℕ) → next < most_held
-    → ((next + 1) % most_held + most_held - most_held + i) % most_held ≡ (next + most_held - most_held + (i + 1)) % most_held
+    → ((next + 1) % most_held + most_held - most_held + i) % most_held
+    ≡ (next + most_held - most_held + (i + 1)) % most_held
 place_moved next i inside = omega arith
 
 place_before : (next i : ℕ) → next < most_held → i < most_held - 1

@@ -63,7 +63,8 @@ pub within_none : (most : ℕ) (l : List ℕ) (at : ℕ) → WroteWithin most l 
 within_none most l at = record { wrote = wrote_none l at; within = omega arith }
 
 -- a text at the front of a buffer is a line that is laid there
-pub laid : {most : ℕ} {l text l' : List ℕ} {r : ℕ} → most ≤ line_most → WroteWithin most l 0 text l' r → Laid l text l' r
+pub laid : {most : ℕ} {l text l' : List ℕ} {r : ℕ} → most ≤ line_most → WroteWithin most l 0 text l' r
+    → Laid l text l' r
 laid small a =
     record {
       size = omega (arith, a.wrote.next);

@@ -49,7 +49,8 @@ and_then Bad next = no_numbers
 unfoldable pub numbers_from : List (List ℕ) → ℕ → List ℕ → Numbers
 numbers_from [] k values = record { good = true; count = k; values = values }
 numbers_from (w ∷ ws) k values =
-    and_then (number_of largest w) (λ v. cond (leb most_numbers k) no_numbers (numbers_from ws (k + 1) (set values k v)))
+    and_then (number_of largest w)
+    (λ v. cond (leb most_numbers k) no_numbers (numbers_from ws (k + 1) (set values k v)))
 
 -- 01: "parted by one space"
 abbrev pub numbers_on : List ℕ → Numbers

@@ -13,4 +13,4 @@ pub returns : goal.returns
 returns c =
     added_in (window_of c.args.numbers.now c.args.marks.now c.args.next c.args.held c.args.missing.now)
     c.args.run (sym c.is_repeat.ensures ∙ c.if-is_repeat.false)
-    (rw c.leaving.ensures at c.recount.ensures) c.?held_next.ensures
+    (rw c.leaving.ensures at c.recount.ensures) c.held_next.ensures

@@ -1,8 +1,7 @@
-use Prim.Native.Nat.{◌-◌}
+-- The answers to the goals of `all_words`.
 use mathlib.Core.Path.{refl}
 use Rattle.wire.proofs.Arrays.{filling_none, filling_more}
 use Rattle.wire.proofs.Tables.{filled_table}
-use Rattle.absence.specs.Promises.{count_word}
 use borrow.Author.Rules.{rules}
 use Rattle.absence.proofs.all_words.Goals as goal
 

@@ -1,4 +1,4 @@
-use Prim.Native.Nat.{◌-◌}
+-- The answers to the goals of `put_lines`.
 use Rattle.absence.proofs.Laying.{laying_none, laying_more, laying_window, laying_lines}
 use Rattle.absence.proofs.put_lines.Goals as goal
 

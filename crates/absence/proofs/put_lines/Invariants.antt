@@ -6,8 +6,8 @@ use Rattle.absence.proofs.put_lines.Given as goal
 
 abbrev pub invariant-loop-i : goal.invariant-loop-i
 invariant-loop-i l =
-    Laying (window_of l.initial.numbers l.initial.marks l.initial.next l.initial.held l.initial.missing) l.part l.n l.initial.lines (window_of l.numbers l.marks l.next l.held l.missing)
-    l.lines l.at l.i
+    Laying (window_of l.initial.numbers l.initial.marks l.initial.next l.initial.held l.initial.missing) l.part l.n
+    l.initial.lines (window_of l.numbers l.marks l.next l.held l.missing) l.lines l.at l.i
 
 abbrev pub decreases-loop-i : goal.decreases-loop-i
 decreases-loop-i l = l.n - l.i

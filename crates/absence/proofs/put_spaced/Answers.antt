@@ -1,6 +1,6 @@
+-- The answers to the goals of `put_spaced`.
 use mathlib.Core.Path.{◌≡◌}
 use native.Mathlib.Omega.{arith}
-use Prim.Native.Nat.{◌-◌}
 use Rattle.absence.specs.Lines.{spaced, last_node}
 use Rattle.absence.proofs.Spills.{spilt_none, spilt_more}
 use borrow.Author.Rules.{rules}

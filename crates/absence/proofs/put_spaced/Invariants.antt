@@ -7,7 +7,8 @@ use Rattle.absence.proofs.put_spaced.Given as goal
 
 abbrev pub invariant-loop-q : goal.invariant-loop-q
 invariant-loop-q l =
-    (l.q ≤ last_node) × Spilt (text_most * l.q) l.initial.lines l.start (spaced (λ k. get_or l.missing k 0) l.q) l.lines l.at
+    (l.q ≤ last_node)
+    × Spilt (text_most * l.q) l.initial.lines l.start (spaced (λ k. get_or l.missing k 0) l.q) l.lines l.at
 
 abbrev pub decreases-loop-q : goal.decreases-loop-q
 decreases-loop-q l = last_node - l.q

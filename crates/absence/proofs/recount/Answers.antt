@@ -1,5 +1,5 @@
+-- The answers to the goals of `recount`.
 use mathlib.Core.Path.{◌≡◌, refl}
-use Prim.Native.Nat.{◌-◌}
 use native.Mathlib.Omega.{arith}
 use Rattle.crew.specs.Parts.{most_nodes}
 use Rattle.absence.specs.Ring.{recounted_to}
