@@ -1,6 +1,23 @@
 -- What a go does among the nodes: document 01, 'The drill' and 'The list in demand 3'. Every honest node writes its
 -- coming message, then every honest node takes the round, with an inbox of what reaches it.
-use Rattle.std.specs.Prelude.{ℕ, zero, suc, ◌+◌, ◌*◌, Bool, false, cond, ◌&&◌, List, [], ◌++◌, get_or, replicate, leb, ltb, eqb}
+use Rattle.std.specs.Prelude.{
+  ℕ,
+  zero,
+  suc,
+  ◌*◌,
+  Bool,
+  false,
+  cond,
+  ◌&&◌,
+  List,
+  [],
+  ◌++◌,
+  get_or,
+  replicate,
+  leb,
+  ltb,
+  eqb,
+}
 use Rattle.wire.specs.Outcome.{value_or}
 use Rattle.wire.specs.Below.{table}
 use Rattle.wire.specs.Sizes.{spent_phase}

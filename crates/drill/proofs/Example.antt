@@ -65,10 +65,10 @@ examples =
 -- every script of the table prints what stands beside it
 pub examples_hold : map (λ e. drill_of (bytes e.script)) examples ≡ map (λ e. bytes e.output) examples
 unfolding
-    accept_of among validates write_message_of entries_from entries_in body_at tested front_of all_zero read_of entry_bytes
-    encode entries_ok decides decision tally count_if gather valid validated lists possible backed backing enough
-    selection leading most_voted any_plan taken least least_of empty_from sound begun blank start_of coming_of write_coming_of
-    after_round take_of line_of until onto split value_from number_of numbers_from starts decimal_of field_of fields_from
-    result_line bad_line nothing with_cut with_say waiting_from follow second first drill_of begun_of table say_buffer slots_of
-    slot_from node_after results_of go_of
+    accept_of among validates write_message_of entries_from entries_in body_at tested front_of all_zero read_of
+    entry_bytes encode entries_ok decides decision tally count_if gather valid validated lists possible backed backing
+    enough selection leading most_voted any_plan taken least least_of empty_from sound begun blank start_of coming_of
+    write_coming_of after_round take_of line_of until onto split value_from number_of numbers_from starts decimal_of
+    field_of fields_from result_line bad_line nothing with_cut with_say waiting_from follow second first drill_of
+    begun_of table say_buffer slots_of slot_from node_after results_of go_of
 examples_hold = refl

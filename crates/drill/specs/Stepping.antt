@@ -1,7 +1,28 @@
 -- A drill step by step: where it stands in a script, what a step prints and where it goes, and what is still to come.
 -- proofs/Whole.antt: what is to come is a step's text and what is to come after it, and from the start all of it is
 -- `drill_of`.
-use Rattle.std.specs.Prelude.{◌≡◌, ℕ, zero, suc, ◌+◌, ◌-◌, ◌≤◌, Bool, cond, ◌&&◌, List, [], ◌∷◌, ◌++◌, length, drop, replicate, leb, ltb, eqb}
+use Rattle.std.specs.Prelude.{
+  ◌≡◌,
+  ℕ,
+  zero,
+  suc,
+  ◌+◌,
+  ◌-◌,
+  ◌≤◌,
+  Bool,
+  cond,
+  ◌&&◌,
+  List,
+  [],
+  ◌∷◌,
+  ◌++◌,
+  length,
+  drop,
+  replicate,
+  leb,
+  ltb,
+  eqb,
+}
 use Rattle.std.proofs.lemmas.List.Edits.{sets}
 use Rattle.wire.specs.Outcome.{is_accepted}
 use Rattle.wire.specs.Sizes.{spent_phase}

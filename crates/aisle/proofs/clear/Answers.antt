@@ -1,3 +1,4 @@
+-- A turn of `clear` lays one zero more, and at the end the slot is zeros.
 use Prim.Native.Nat.{ℕ}
 use mathlib.Core.Path.{refl, sym, ◌∙◌}
 use lib.ListN.{length, length-replicate}

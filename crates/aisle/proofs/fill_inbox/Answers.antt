@@ -1,4 +1,5 @@
-use Prim.Native.Nat.{◌-◌, ◌<◌}
+-- A turn of `fill_inbox` lays one sender's slot anew, and at the end those of all n senders are.
+use Prim.Native.Nat.{◌<◌}
 use native.Mathlib.Omega.{arith}
 use mathlib.Core.Path.{sym, ◌∙◌}
 use Rattle.crew.specs.Parts.{most_nodes}

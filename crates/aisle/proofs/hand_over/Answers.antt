@@ -1,3 +1,4 @@
+-- A turn of `hand_over` hands one byte more over, and at the end all are.
 use mathlib.Core.Path.{refl, sym}
 use Rattle.wire.proofs.Arrays.{filling_none, filling_more, filled_all}
 use borrow.Author.Rules.{rules}

@@ -1,3 +1,4 @@
+-- A turn of `honest_of` says of one node more whether it has a plan.
 use Rattle.wire.proofs.Arrays.{filling_none, filling_more}
 use Rattle.wire.proofs.Tables.{filled_table}
 use mathlib.Core.Path.{refl}

@@ -1,4 +1,5 @@
-use Prim.Native.Nat.{ℕ, ◌-◌}
+-- A turn of `messages` writes one sender's message into its slot, and at the end each has sent.
+use Prim.Native.Nat.{ℕ}
 use lib.ListN.{length-replicate}
 use Rattle.aisle.specs.Round.{inbox_size}
 use Rattle.aisle.proofs.Slots.{laid_none, laid_more, laid_size, laid_slot, lent_old, empty_there}

@@ -1,5 +1,5 @@
+-- In `records_after` an honest receiver takes the round from its own inbox, and any other record stays.
 use mathlib.Core.Path.{refl, sym}
-use Prim.Native.Nat.{◌-◌}
 use native.Mathlib.Omega.{arith}
 use lib.Seq.{length-take-le}
 use Rattle.wire.proofs.Arrays.{filling_none}

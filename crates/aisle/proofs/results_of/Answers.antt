@@ -1,3 +1,4 @@
+-- A turn of `results_of` gathers one result more, where there is a place and a node for it.
 use Prim.Native.Nat.{ℕ, ◌<◌, ◌≤◌}
 use native.Mathlib.Omega.{arith}
 use mathlib.Core.Path.{◌≡◌}

@@ -1,3 +1,4 @@
+-- A turn of `start_nodes` starts one node more, and at the end all have started.
 use Rattle.wire.proofs.Arrays.{filling_none, filling_more}
 use Rattle.wire.proofs.Tables.{filled_table}
 use mathlib.Core.Path.{refl}

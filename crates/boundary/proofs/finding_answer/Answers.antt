@@ -7,12 +7,7 @@ use Rattle.boundary.proofs.Verdicts.{range, value_told, refusal_told}
 use Rattle.boundary.proofs.finding_answer.Goals as goal
 
 pub returns-in-Entry : goal.returns-in-Entry
-returns-in-Entry c =
-    let entry = c.answer-1.given in
-    value_told least_number entry.0.0 (omega (arith, c.struct_known-1.given, c.struct_known-in-Entry-1.given))
-    (ap lookup_answer entry.1)
+returns-in-Entry c = value_told least_number c.in-Entry.least (omega arith) (ap lookup_answer c.in-Entry.is)
 
 pub returns-in-Refused : goal.returns-in-Refused
-returns-in-Refused c =
-    let why = c.enum_told-1.given in
-    refusal_told least_number (range why.0.0) c.refusal.ensures (ap lookup_answer why.1)
+returns-in-Refused c = refusal_told least_number (range _) c.refusal.ensures (ap lookup_answer c.in-Refused.is)

@@ -10,7 +10,7 @@ returns-in-Message c =
     let as_read = read_told c.args.bytes.now c.args.fields.now c.if-fields-eq-FIELDS.true c.read-reading.ensures
     c.in-Message.is in
     record {
-      c = value_told done _ (omega arith) as_read;
+      told = value_told done _ (omega arith) as_read;
       left = rw as_read (c.put_message.ensures c.args.bytes.now);
     }
 
@@ -19,7 +19,7 @@ returns-in-Refused c =
     let as_read = read_told c.args.bytes.now c.args.fields.now c.if-fields-eq-FIELDS.true c.read-reading.ensures
     c.in-Refused.is in
     record {
-      c = refusal_told done c.read_number.ensures c.refusal.ensures as_read;
+      told = refusal_told done c.read_number.ensures c.refusal.ensures as_read;
       left = rw as_read;
     }
 

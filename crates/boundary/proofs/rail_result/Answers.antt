@@ -8,7 +8,7 @@ use Rattle.boundary.proofs.rail_result.Goals as goal
 pub returns-then-is_sound : goal.returns-then-is_sound
 returns-then-is_sound c =
     result_told _ _ c.load-loaded.ensures c.if-loaded.true c.is_sound.ensures
-    c.if-is_sound.true (omega (arith, c.struct_known-1.given))
+    c.if-is_sound.true (omega arith)
 
 pub returns-then-loaded : goal.returns-then-loaded
 returns-then-loaded c =

@@ -1,10 +1,6 @@
-use mathlib.Core.Path.{◌≡◌, ◌∙◌, sym}
-use Prim.Native.Nat.{◌-◌, ◌<◌}
-use Rattle.crew.specs.Parts.{most_nodes}
+-- In `note_all` a line is a cut or a say that is noted, or the step ends before it: each is a lemma of Noted.antt.
+use mathlib.Core.Path.{◌∙◌, sym}
 use Rattle.script.specs.Commands.{line_of}
-use Rattle.drill.specs.declared.Noting.{Noting}
-use Rattle.drill.specs.declared.Noting.TheVariants.{Fit}
-use Rattle.drill.specs.Promises.{noting_of}
 use Rattle.drill.proofs.Pieces.{found_there, here}
 use Rattle.drill.proofs.Noted.{Notes, unended_finishes, other_finishes, goes_on, goes_standing, for_a_node}
 use Rattle.drill.proofs.note_all.Goals as goal
@@ -54,7 +50,7 @@ loop-setup-preserved c =
     let turn = c.loop-setup.invariant in
     let before = c.if-input-end.false in
     let turn_notes : Notes c.args.cursor c.args.input.now c.loop-setup.at c.loop-setup.line c.find-end.result
-        c.loop-setup.pending found_line before c.in-Fit.note c.receiver_of-receiver.result c.with_note-more.result =
+    c.loop-setup.pending found_line before c.in-Fit.note c.receiver_of-receiver.result c.with_note-more.result =
     record {
       told = sym c.noting_of-noting.ensures ∙ c.in-Fit.is;
       for = c.receiver_of-receiver.ensures;

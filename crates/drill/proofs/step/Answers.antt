@@ -26,26 +26,25 @@ returns-then-input-gt-MOST_BYTES c =
 
 pub pass_head-requires : goal.pass_head-requires
 pass_head-requires c =
-    let there =
-    standing_there c.args.input.now c.args.cursor c.can_stand.ensures c.if-can_stand.true c.if-input-gt-MOST_BYTES.false in
+    let short = c.if-input-gt-MOST_BYTES.false in
+    let there = standing_there c.args.input.now c.args.cursor c.can_stand.ensures c.if-can_stand.true short in
     record { standing = there; head = c.if-cursor-le-SECOND_LINE.true }
 
 pub returns-then-cursor-le-SECOND_LINE : goal.returns-then-cursor-le-SECOND_LINE
 returns-then-cursor-le-SECOND_LINE c =
-    let there =
-    standing_there c.args.input.now c.args.cursor c.can_stand.ensures c.if-can_stand.true c.if-input-gt-MOST_BYTES.false in
+    let short = c.if-input-gt-MOST_BYTES.false in
+    let there = standing_there c.args.input.now c.args.cursor c.can_stand.ensures c.if-can_stand.true short in
     stepped_from _ _ (rw (step_head_lem _ _ there c.if-cursor-le-SECOND_LINE.true) c.pass_head.ensures)
 
 pub note_all-noted-requires : goal.note_all-noted-requires
 note_all-noted-requires c =
-    let there =
-    standing_there c.args.input.now c.args.cursor c.can_stand.ensures c.if-can_stand.true c.if-input-gt-MOST_BYTES.false in
-    there
+    let short = c.if-input-gt-MOST_BYTES.false in
+    standing_there c.args.input.now c.args.cursor c.can_stand.ensures c.if-can_stand.true short
 
 pub returns-then-can_stand : goal.returns-then-can_stand
 returns-then-can_stand c =
-    let there =
-    standing_there c.args.input.now c.args.cursor c.can_stand.ensures c.if-can_stand.true c.if-input-gt-MOST_BYTES.false in
+    let short = c.if-input-gt-MOST_BYTES.false in
+    let there = standing_there c.args.input.now c.args.cursor c.can_stand.ensures c.if-can_stand.true short in
     stepped_from _ _
     (rw (step_later_lem _ _ there c.if-cursor-le-SECOND_LINE.false, c.note_all-noted.ensures.same)
     c.pass_line.ensures)
