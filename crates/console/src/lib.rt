@@ -1,25 +1,49 @@
 // The drill on standard output, for programs that have a script. It steps and writes; each step's text goes out as it
-// comes, and what is kept does not grow with the script. What goes out is in no contract: no C function promises it,
-// and a program's output is compared with its file.
+// comes, and what is kept does not grow with the script. What goes out is in no contract: the library promises nothing
+// of it, and a program's output is compared with its file.
 #![tactic(auto)]
 
-ghost use Rattle.std.specs.Prelude.{◌≡◌, length};
+ghost use Rattle.std.specs.Prelude.{◌≡◌, ◌<◌, ◌≤◌, ℕ, length, take, IfOk, OnErr};
+ghost use Rattle.std.specs.Io.{ReadsAtMost};
+ghost use Rattle.std.specs.Io.KnownBytes.{Consumes, IsAtEnd};
 ghost use Rattle.drill.specs.Run.{drill_of};
 
-use libc::STDOUT_FILENO;
+use std::io;
+use std::io::Read;
+
+// Reads the front of an input, as much as there is room for, and answers how many bytes came: fewer than that only
+// where the input ended. A read that fails ends it with its error, what came before at the front all the same.
+pub fn read_front<R: Read>(input: &mut R, front: &mut [u8]) -> io::Result<usize>
+    ensures within { ReadsAtMost result front.new }
+    ensures bytes { IfOk result (λ n.
+        Consumes (R.remaining input.old) (R.remaining input.new) (take n front.new)) }
+    ensures end { IfOk result (λ n. n < length front.new → IsAtEnd (R.remaining input.new)) }
+    ensures err { OnErr result ((n : ℕ) × (n ≤ length front.new)
+        × Consumes (R.remaining input.old) (R.remaining input.new) (take n front.new)) }
+{
+    let mut filled = 0;
+    while filled < front.len() {
+        let got = input.read(&mut front[filled..])?;
+        if got == 0 {
+            return Ok(filled);
+        }
+        filled = filled + got;
+    }
+    Ok(filled)
+}
 
 // Writes a text out, and answers whether more can be written. Once a write has failed nothing more is written, so that
 // what comes out is always the beginning of the output.
-fn show(writable: bool, text: &[u8]) -> bool {
+fn show(rt: &impl Print, writable: bool, text: &[u8]) -> bool {
     if writable {
-        return io::write_all(STDOUT_FILENO, text);
+        return rt.write_all(text).is_ok();
     }
     false
 }
 
 // Runs a script and answers how many bytes it prints. Where a write fails, as on a standard output that is closed, the
 // run goes on to its end all the same, and nothing is said of it.
-pub fn run(input: &[u8]) -> usize
+pub fn run(rt: &impl Print, input: &[u8]) -> usize
     ensures { result ≡ length (drill_of input.now) }
 {
     let mut text = [0u8; drill::MOST_TEXT];
@@ -30,7 +54,7 @@ pub fn run(input: &[u8]) -> usize
         let step = drill::step(input, cursor, &mut text);
         let next = step.next;
         cursor = next;
-        writable = show(writable, &text[..step.size]);
+        writable = show(rt, writable, &text[..step.size]);
         size = size + step.size;
     }
     size

@@ -1,8 +1,11 @@
 // The drill as a program: a script on standard input, its output on standard output, a line at a time.
 #![tactic(auto)]
 
-fn main() {
+use std::io;
+
+fn main(rt: HostRuntime) -> io::Result<()> {
     let mut input = [0u8; drill::MOST_READ];
-    let size = io::read_full(libc::STDIN_FILENO, &mut input);
-    console::run(&input[..size]);
+    let size = console::read_front(&mut rt.stdin(), &mut input)?;
+    console::run(&rt, &input[..size]);
+    Ok(())
 }

@@ -7,28 +7,25 @@ ghost use Rattle.std.specs.Prelude.{◌≡◌, ◌+◌, length};
 ghost use Rattle.drill.specs.Run.{most_bytes};
 
 use drill::{MOST_BYTES, MOST_READ};
-use libc::STDOUT_FILENO;
+use std::rt::Files;
+use std::{env, fs, io};
 
 // The crew and the plans of the long script: as many bytes as three cuts, so that its last line is whole.
 const HEAD: usize = 24;
 
 const CUT: usize = 8;
 
-// Runs the script in the file that an argument names.
-fn run_named(i: usize) {
-    let mut name = io::buffer();
-    let length = os::arg(i, &mut name);
-    io::write_all(STDOUT_FILENO, &name[..length]);
-    io::write_all(STDOUT_FILENO, b"\n");
-    let file = os::open_read(&name[..length]);
-    if file < 0 {
-        os::fail(&name[..length]);
-        return;
-    }
+// Runs the script in the file of this name.
+fn run_named(rt: &(impl Files + Print + Eprint), name: &str) -> io::Result<()> {
+    println!(rt; "{name}")?;
+    let mut file = match fs::open(rt, name) {
+        Ok(file) => file,
+        Err(why) => return eprintln!(rt; "{name}: {why}"),
+    };
     let mut script = [0u8; MOST_READ];
-    let size = io::read_full(file, &mut script);
-    libc::close(file);
-    console::run(&script[..size]);
+    let size = console::read_front(&mut file, &mut script)?;
+    console::run(rt, &script[..size]);
+    Ok(())
 }
 
 // The long script has a crew, its plans, and nothing but cuts.
@@ -51,20 +48,19 @@ fn long_script() -> [u8; MOST_READ]
 }
 
 // A script as long as one may be, and then with one byte more.
-fn run_long() {
+fn run_long(rt: &impl Print) -> io::Result<()> {
     let script = long_script();
-    io::write_all(STDOUT_FILENO, b"65,536 bytes\n");
-    console::run(&script[..MOST_BYTES]);
-    io::write_all(STDOUT_FILENO, b"65,537 bytes\n");
-    console::run(&script);
+    println!(rt; "65,536 bytes")?;
+    console::run(rt, &script[..MOST_BYTES]);
+    println!(rt; "65,537 bytes")?;
+    console::run(rt, &script);
+    Ok(())
 }
 
-fn main() {
-    let count = os::arg_count();
-    let mut i: usize = 1;
-    while i < count {
-        run_named(i);
-        i = i + 1;
+// The first argument is the program's own name.
+fn main(rt: HostRuntime) -> io::Result<()> {
+    for name in env::args(&rt)?.skip(1) {
+        run_named(&rt, name.as_str())?;
     }
-    run_long();
+    run_long(&rt)
 }

@@ -9,7 +9,7 @@ slice_bounds-lines-end c = lines_fit c.step-stepped.ensures c.loop-stream.invari
 
 pub slice_bounds-write_all-end : goal.slice_bounds-write_all-end
 slice_bounds-write_all-end c =
-    sym (length-take-le c.step-stepped.result.size c.step-stepped.new.1.1.0
+    sym (length-take-le c.step-stepped.result.size c.step-stepped.new.lines
     (lines_fit c.step-stepped.ensures c.loop-stream.invariant.1))
 
 pub loop-stream-smaller : goal.loop-stream-smaller

@@ -15,7 +15,7 @@ pub record Handed (input : List ℕ) (cursor : Cursor) (text : List ℕ) (size :
   pub shows : Shows input cursor size
 
 abbrev pub invariant-loop-cursor : goal.invariant-loop-cursor
-invariant-loop-cursor l = Handed l.input l.cursor l.text l.size
+invariant-loop-cursor g l = Handed l.input l.cursor l.text l.size
 
 abbrev pub decreases-loop-cursor : goal.decreases-loop-cursor
-decreases-loop-cursor l = way l.input l.cursor
+decreases-loop-cursor g l = way l.input l.cursor

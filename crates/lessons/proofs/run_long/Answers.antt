@@ -6,5 +6,5 @@ use Rattle.drill.specs.Run.{most_bytes}
 use Rattle.lessons.proofs.run_long.Goals as goal
 
 pub slice_bounds-run-end : goal.slice_bounds-run-end
-slice_bounds-run-end c =
+slice_bounds-run-end g c =
     sym (length-take-le most_bytes c.long_script-script.result (omega (arith, c.long_script-script.ensures)))
