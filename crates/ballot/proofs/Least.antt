@@ -23,7 +23,8 @@ below_vote p v m = p m && ltb m.vote v
 
 pub data Least (p : Ballot → Bool) (ballots : List Ballot) : Option ℕ → Type 0 where
   nowhere : count_if p ballots ≡ 0 → Least p ballots none
-  found : (v : ℕ) → 0 < count_if (with_vote p v) ballots → count_if (below_vote p v) ballots ≡ 0 → Least p ballots (some v)
+  found : (v : ℕ) → 0 < count_if (with_vote p v) ballots → count_if (below_vote p v) ballots ≡ 0
+      → Least p ballots (some v)
 
 pub least_is : (p : Ballot → Bool) (ballots : List Ballot) → Least p ballots (least p ballots)
 unfolding count_if least
@@ -46,8 +47,8 @@ least_is p (m ∷ ms) = go (p m) refl (least p ms) (least_is p ms)
     under : (v : ℕ) → v ≤ m.vote → bit (below_vote p v m) ≡ 0
     under v h = bit_F (below_vote p v m) λ t. let d = and_T (p m) (ltb m.vote v) t in omega tests
 
-    lowest : (v : ℕ) → p m ≡ true → 0 < count_if (with_vote p v) ms → count_if (below_vote p v) ms ≡ 0 → Dec (m.vote ≤ v)
-        → Least p (m ∷ ms) (lower m.vote (some v))
+    lowest : (v : ℕ) → p m ≡ true → 0 < count_if (with_vote p v) ms → count_if (below_vote p v) ms ≡ 0
+        → Dec (m.vote ≤ v) → Least p (m ∷ ms) (lower m.vote (some v))
     lowest v e i z (yes l) =
         let x : lower m.vote (some v) ≡ some m.vote = ap some (omega arith) in
         rw x (found m.vote (omega (arith, own e)) (omega (arith, under m.vote (omega arith), low v m.vote l)))
@@ -103,7 +104,8 @@ pub least_same : (p : Ballot → Bool) (l k : List Ballot) → Same l k → leas
 least_same p l k s =
     least_agree p p l k (λ v h. omega (arith, s (with_vote p v))) (λ v h. omega (arith, s (with_vote p v)))
 
-pub least_of_same : (f g : ℕ → Bool) (l k : List Ballot) → Same l k → ((v : ℕ) → f v ≡ g v) → least_of f l ≡ least_of g k
+pub least_of_same : (f g : ℕ → Bool) (l k : List Ballot) → Same l k → ((v : ℕ) → f v ≡ g v)
+    → least_of f l ≡ least_of g k
 unfolding least_of
 least_of_same f g l k s h =
     ap or_zero (least_same (λ m. f m.vote) l k s ∙ ap (λ p. least p k) (fun_ext (λ m. h m.vote)))

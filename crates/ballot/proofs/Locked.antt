@@ -185,7 +185,8 @@ module _ (crew : Crew) (reach : crew.d + crew.b + crew.f ≤ crew.n) (slots : Sl
       ]
         where
           go : (e : Bool) → (T e → any_plan crew ballots ≡ v)
-              → (taken_on crew ballots (answer three nobody e) ≡ v) ⊎ (taken_on crew ballots (answer three nobody e) ≡ 0)
+              → (taken_on crew ballots (answer three nobody e) ≡ v)
+              ⊎ (taken_on crew ballots (answer three nobody e) ≡ 0)
           go true h = inl (h tt)
           go false h = inr refl
 

@@ -93,7 +93,8 @@ ballot_self a =
     (entries_self a.entries))
 
 -- lists with each ballot as often in one as in the other are the same to the rules
-pub same_inboxes : (l k : List Ballot) → ((m : Ballot) → count_if (same_ballot m) l ≡ count_if (same_ballot m) k) → Same l k
+pub same_inboxes : (l k : List Ballot) → ((m : Ballot) → count_if (same_ballot m) l ≡ count_if (same_ballot m) k)
+    → Same l k
 same_inboxes l k h = same_counts same_ballot ballot_sound ballot_self l k h
 
 -- The three rules.

@@ -100,6 +100,7 @@ module _ (demands : List ℕ) (budget : ℕ) (shares : List ℕ) {judged : Split
       let answered = sym (ap split_answer told) ∙ is in
       record { answered = answered; left = go (split_of demands budget (length shares)) answered }
     where
-      go : (outcome : Outcome (List ℕ)) → refused (split_number why) ≡ verdict outcome → shares ≡ value_or shares outcome
+      go : (outcome : Outcome (List ℕ)) → refused (split_number why) ≡ verdict outcome
+          → shares ≡ value_or shares outcome
       go (accepted value) e = absurd (refused_not_accepted (split_number why) tt e)
       go (refused number) e = refl

@@ -1,6 +1,7 @@
 -- How a budget of current is split among shuttles: document 02, C-19. All amounts are in mA, and a shuttle's number is
 -- its place in the list, from 0 on.
-use Rattle.std.specs.Prelude.{ℕ, ◌+◌, ◌-◌, ◌*◌, ◌/◌, ◌%◌, ◌≡◌, Bool, cond, ◌&&◌, ◌||◌, List, leb, ltb, eqb, length, get_or}
+use Rattle.std.specs.Prelude.{ℕ, ◌+◌, ◌-◌, ◌*◌, ◌/◌, ◌%◌, ◌≡◌}
+use Rattle.std.specs.Prelude.{Bool, cond, ◌&&◌, ◌||◌, List, leb, ltb, eqb, length, get_or}
 use Rattle.wire.specs.Outcome.{Outcome, accepted, refused, require, verdict, value_or}
 use Rattle.wire.specs.Below.{every_below, table}
 use Rattle.ballot.specs.Count.{bit, tally}

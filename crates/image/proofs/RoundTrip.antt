@@ -79,7 +79,8 @@ history_of_plans s place zero bytes end =
     let past : length s ≤ place = omega arith in
     sym (drop_of_length-le s past)
 history_of_plans s place (suc count) bytes end =
-    number_front plan_size s place bytes (omega arith) (history_of_plans s (place + plan_size) count bytes (omega arith))
+    number_front plan_size s place bytes (omega arith)
+    (history_of_plans s (place + plan_size) count bytes (omega arith))
 
 -- 150 bytes are the image of the record that is read from them
 pub image_of_record : (s : List ℕ) → AreBytes s → length s ≡ image_size → image_of (record_in s) ≡ s

@@ -86,8 +86,8 @@ plans_in s place (suc count) = number_at plan_size s place ∷ plans_in s (place
 -- the crew that stands in an image
 abbrev pub crew_in : List ℕ → Crew
 crew_in s =
-    crew_of (get_or s crew_place 0) (get_or s (crew_place + 1) 0) (get_or s (crew_place + 2) 0) (get_or s (crew_place + 3) 0)
-    (get_or s (crew_place + 4) 0) (get_or s (crew_place + 5) 0)
+    crew_of (get_or s crew_place 0) (get_or s (crew_place + 1) 0) (get_or s (crew_place + 2) 0)
+    (get_or s (crew_place + 3) 0) (get_or s (crew_place + 4) 0) (get_or s (crew_place + 5) 0)
 
 -- the record that stands in an image
 abbrev pub record_in : List ℕ → Node

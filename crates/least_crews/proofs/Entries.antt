@@ -8,7 +8,6 @@ use lib.Dec.{T, eqb, eqb→eq}
 use lib.ListN.{length}
 use Rattle.wire.specs.Below.{every_below}
 use Rattle.wire.proofs.Tests.{and_T, every_below_lem}
-use Rattle.least_crews.specs.declared.Least.{Least}
 use Rattle.least_crews.specs.Search.{last_class, most_b, most_f}
 use Rattle.least_crews.specs.Entries.{IsLeast, numbers, entry_in, Shown}
 use Rattle.least_crews.proofs.Ranges.{Ranges, ranges}
@@ -24,7 +23,8 @@ right table class b f =
 -- the test of all entries; `class` counts from 0 here
 unfoldable pub all_right : List ℕ → Bool
 all_right table =
-    every_below (λ class. every_below (λ b. every_below (right table (suc class) b) (most_f + 1)) (most_b + 1)) last_class
+    every_below (λ class. every_below (λ b. every_below (right table (suc class) b) (most_f + 1)) (most_b + 1))
+    last_class
 
 module _ (table : List ℕ) (tested : T (all_right table)) (class b f : ℕ) (r : Ranges class b f) where
   entry_right : T (right table class b f)

@@ -54,8 +54,8 @@ with_d n none = no_crew
 with_d n (some d) = record { n = n; d = d }
 
 abbrev pub with_n : (ℕ → Option ℕ) → Option ℕ → Least
-with_n dOf none = no_crew
-with_n dOf (some n) = with_d n (dOf n)
+with_n d_of none = no_crew
+with_n d_of (some n) = with_d n (d_of n)
 
 unfoldable pub least_crew : ℕ → ℕ → ℕ → Least
 least_crew class b f = with_n (least_d class b f) (least_n class b f)

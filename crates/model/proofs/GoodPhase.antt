@@ -1,7 +1,7 @@
 -- A good phase: its circle selects one plan, validates it in classes 2 and 3, and decides it. Stated of one phase,
 -- whatever went before.
 use mathlib.Core.Path.{◌≡◌, sym, ap, ◌∙◌}
-use mathlib.Core.Bool.{Bool, not, ◌&&◌}
+use mathlib.Core.Bool.{Bool, ◌&&◌}
 use mathlib.Core.List.{[]}
 use mathlib.Core.Logic.{inl, inr, ◌≢◌}
 use mathlib.Core.Option.{Option, none, some, some-injective}
@@ -9,7 +9,6 @@ use Prim.Native.Nat.{ℕ, ◌+◌, ◌-◌, ◌*◌, ◌≤◌, ◌<◌}
 use native.Mathlib.Omega.{arith}
 use lib.ListN.{get_or}
 use lib.Dec.{T, eqb, lt→ltb}
-use Rattle.wire.specs.Plan.{if_plan}
 use Rattle.wire.proofs.Tests.{tests, and_T, T_and}
 use Rattle.wire.specs.Entry.{entries_from}
 use Rattle.crew.specs.declared.Crew.{Crew}

@@ -7,9 +7,8 @@ use mathlib.Core.Option.{some}
 use Prim.Native.Nat.{ℕ, suc, ◌+◌, ◌*◌, ◌≤◌, ◌<◌}
 use native.Mathlib.Omega.{arith}
 use lib.ListN.{length, get_or, length-replicate}
-use lib.Dec.{T, eqb}
+use lib.Dec.{eqb}
 use Rattle.wire.specs.Sizes.{last_phase, spent_phase, history_size}
-use Rattle.wire.specs.Plan.{if_plan}
 use Rattle.wire.proofs.Tests.{tests, and_T, T_and}
 use Rattle.crew.specs.declared.Crew.{Crew}
 use Rattle.crew.specs.Thresholds.{Class, one, two, three, valid_above}

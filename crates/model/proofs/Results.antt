@@ -6,7 +6,6 @@ use Prim.Native.Nat.{ℕ, zero, suc, ◌≤◌, ◌<◌}
 use native.Mathlib.Omega.{arith}
 use native.Mathlib.Decide.{ℕ_discrete}
 use lib.Dec.{T, eqb→eq}
-use Rattle.wire.specs.Plan.{if_plan}
 use Rattle.crew.proofs.Facts.{accepts, quorum_positive}
 use Rattle.ballot.specs.Count.{count_if}
 use Rattle.ballot.specs.Ballot.{Ballot, inbox, votes}

@@ -3,7 +3,7 @@ use mathlib.Core.Path.{◌≡◌, refl, sym, ap, ◌∙◌}
 use mathlib.Core.Bool.{Bool, true, false, cond}
 use mathlib.Core.List.{List, [], ◌∷◌, ◌++◌}
 use mathlib.Core.Logic.{◌⊎◌, inl, inr, ◌≢◌}
-use mathlib.Core.Option.{Option, none, some, none-ne-some, some-injective}
+use mathlib.Core.Option.{none, some, none-ne-some, some-injective}
 use Prim.Native.Nat.{ℕ, zero, suc, ◌+◌, ◌≤◌, ◌<◌}
 use native.Mathlib.Omega.{arith}
 use native.Mathlib.Decide.{ℕ_discrete, dec_lt}
@@ -173,7 +173,8 @@ lists_from history from (suc count) phase v l h e d =
           arith,
           count_append (is_entry phase v) first later,
           ap (count_if (is_entry phase v)) (full there),
-          bit_T (is_entry phase v it) (T_and (eqb from phase) (eqb (get_or history from 0) v) (omega tests) (omega tests)),
+          bit_T (is_entry phase v it)
+              (T_and (eqb from phase) (eqb (get_or history from 0) v) (omega tests) (omega tests)),
         )
 
 -- A node that begins has an empty history after phase 0.

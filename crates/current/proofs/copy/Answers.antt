@@ -1,5 +1,5 @@
+-- `copy` meets its contract.
 use mathlib.Core.Path.{refl}
-use Prim.Native.Nat.{◌-◌}
 use Rattle.wire.proofs.Arrays.{filling_none, filling_more, filled_all}
 use borrow.Author.Rules.{rules}
 use Rattle.current.proofs.copy.Goals as goal

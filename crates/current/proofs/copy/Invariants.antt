@@ -1,4 +1,4 @@
--- `copy` meets its contract. The invariant: the first i shares are the demands.
+-- The invariant of `copy`: the first i shares are the demands.
 use Prim.Native.Nat.{◌-◌}
 use lib.ListN.{length, get_or}
 use Rattle.wire.proofs.Arrays.{Filling}

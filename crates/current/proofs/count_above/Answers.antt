@@ -1,5 +1,5 @@
+-- `count_above` meets its contract.
 use native.Mathlib.Omega.{arith}
-use Prim.Native.Nat.{◌-◌}
 use Rattle.ballot.proofs.Loops.{through_all, counted_none, counted_more}
 use Rattle.current.proofs.count_above.Goals as goal
 

@@ -1,4 +1,4 @@
--- `count_above` meets its contract. The invariant: the count is that of the first j.
+-- The invariant of `count_above`: the count is that of the first j.
 use Prim.Native.Nat.{◌-◌}
 use Rattle.ballot.specs.Promises.{Counted}
 use Rattle.ballot.proofs.Loops.{Through}

@@ -1,5 +1,6 @@
+-- `give_out` meets its contract.
 use mathlib.Core.Path.{ap₂, refl, ◌∙◌}
-use Prim.Native.Nat.{ℕ, ◌+◌, ◌-◌}
+use Prim.Native.Nat.{ℕ, ◌+◌}
 use native.Mathlib.Omega.{arith}
 use lib.Seq.{get_or-set_other}
 use borrow.Author.Rules.{rules}

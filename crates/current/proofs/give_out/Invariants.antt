@@ -1,4 +1,4 @@
--- `give_out` meets its contract. The invariant: the first i shares have what their shuttles get of the mA left over,
+-- The invariant of `give_out`: the first i shares have what their shuttles get of the mA left over,
 -- the others are as they were.
 use mathlib.Core.Path.{◌≡◌}
 use mathlib.Core.List.{List}

@@ -1,4 +1,4 @@
--- `is_in_range` meets its contract. The invariant: the test so far is that of the first i demands.
+-- The invariant of `is_in_range`: the test so far is that of the first i demands.
 use mathlib.Core.Path.{◌≡◌}
 use Prim.Native.Nat.{ℕ, ◌≤◌, ◌-◌}
 use mathlib.Core.Bool.{Bool}

@@ -1,4 +1,4 @@
--- `lay_parts` meets its contract. The invariant: the first i whole parts stand in the shares, and their priorities in
+-- The invariant of `lay_parts`: the first i whole parts stand in the shares, and their priorities in
 -- the array.
 use mathlib.Core.List.{List}
 use Prim.Native.Nat.{ℕ, ◌-◌}

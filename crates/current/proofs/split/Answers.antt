@@ -5,7 +5,7 @@ use Rattle.current.proofs.split.Goals as goal
 pub fill-requires : goal.fill-requires
 fill-requires c =
     let is_accepted = was_accepted _ _ _ c.judge-answer.ensures c.in-Accepted.is in
-    (small _ _ _ is_accepted, as_many _ _ _ is_accepted)
+    record { small = small _ _ _ is_accepted; shares_len = as_many _ _ _ is_accepted }
 
 pub returns-in-Accepted : goal.returns-in-Accepted
 returns-in-Accepted c = shares_written _ _ _ c.judge-answer.ensures c.in-Accepted.is c.fill.ensures

@@ -1,11 +1,16 @@
+-- `total` meets its contract.
 use mathlib.Core.Path.{◌≡◌}
-use Prim.Native.Nat.{◌-◌}
 use native.Mathlib.Omega.{arith}
 use lib.ListN.{length}
 use borrow.Author.Rules.{rules}
+use Rattle.current.specs.Sums.{sum}
 use Rattle.current.specs.Shares.{amount}
 use Rattle.current.proofs.Sums.{sum_next}
 use Rattle.current.proofs.total.Goals as goal
+
+pub loop-i-init : goal.loop-i-init
+unfolding sum
+loop-i-init c = search rules
 
 pub loop-i-preserved : goal.loop-i-preserved
 loop-i-preserved c =

@@ -1,4 +1,4 @@
--- `total` meets its contract. The invariant: the sum is that of the first i amounts.
+-- The invariant of `total`: the sum is that of the first i amounts.
 use mathlib.Core.Path.{◌≡◌}
 use mathlib.Core.List.{List}
 use Prim.Native.Nat.{ℕ, ◌≤◌, ◌*◌, ◌-◌}

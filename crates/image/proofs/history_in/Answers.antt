@@ -1,5 +1,5 @@
+-- `history_in` meets its contract.
 use mathlib.Core.Path.{refl, ◌∙◌}
-use Prim.Native.Nat.{◌-◌}
 use native.Mathlib.Omega.{arith}
 use lib.ListN.{replicate, length-set}
 use Rattle.wire.specs.Sizes.{history_size}
@@ -19,18 +19,21 @@ loop-phase-init c =
 
 pub loop-phase-preserved : goal.loop-phase-preserved
 loop-phase-preserved c =
-    let s = c.args.s.now in
+    let history = c.loop-phase.history in
+    let phase = c.loop-phase.phase in
+    let reading = c.loop-phase.invariant in
     record {
       within = omega arith;
-      long = length-set c.loop-phase.history c.loop-phase.phase _ ∙ c.loop-phase.invariant.long;
-      so_far = filled_more (plan_at s) 0 c.loop-phase.history c.loop-phase.phase _ (omega (arith, c.loop-phase.invariant.long))
-          c.loop-phase.invariant.so_far c.plan_at.ensures;
+      long = length-set history phase _ ∙ reading.long;
+      so_far = filled_more (plan_at c.args.s.now) 0 history phase _ (omega (arith, reading.long)) reading.so_far
+          c.plan_at.ensures;
     }
 
 pub returns : goal.returns
 returns c =
     let s = c.args.s.now in
+    let reading = c.loop-phase.invariant in
     let count = plans_length s history_place history_size in
     filled_all (plan_at s) 0 c.loop-phase.history (plans_in s history_place history_size) c.loop-phase.phase
-    (omega (arith, count, c.loop-phase.invariant.long)) (omega (arith, c.loop-phase.invariant.long)) c.loop-phase.invariant.so_far
+    (omega (arith, count, reading.long)) (omega (arith, reading.long)) reading.so_far
     (λ k less. plan_in_lem s history_place history_size k (omega (arith, count)))

@@ -1,4 +1,4 @@
--- `history_in` meets its contract.
+-- The invariant of `history_in`.
 use mathlib.Core.Path.{◌≡◌}
 use mathlib.Core.List.{List}
 use Prim.Native.Nat.{ℕ, ◌≤◌, ◌+◌, ◌*◌, ◌-◌}

@@ -1,5 +1,5 @@
+-- `put_history` meets its contract.
 use mathlib.Core.Path.{refl, ◌∙◌}
-use Prim.Native.Nat.{◌-◌}
 use native.Mathlib.Omega.{arith}
 use Rattle.wire.proofs.Stores.{laid_room}
 use Rattle.image.proofs.Stores.{lay_turn, lay_end}
@@ -13,8 +13,8 @@ loop-phase-preserved c =
     let room = laid_room _ _ _ c.put_plan.ensures (omega (arith, c.loop-phase.invariant.long)) in
     record {
       within = omega arith;
-      long = c.put_plan.auto.0 ∙ c.loop-phase.invariant.long;
-      left = lay_turn c.args.t2 c.loop-phase.image _ _ c.loop-phase.phase (omega arith) room
+      long = c.put_plan.auto.buf ∙ c.loop-phase.invariant.long;
+      left = lay_turn c.args.history c.loop-phase.image _ _ c.loop-phase.phase (omega arith) room
           c.loop-phase.invariant.left;
     }
 
@@ -22,6 +22,6 @@ pub returns : goal.returns
 returns c =
     record {
       long = omega arith;
-      laid = lay_end c.args.t2 c.loop-phase.image _ c.loop-phase.phase (omega arith)
+      laid = lay_end c.args.history c.loop-phase.image _ c.loop-phase.phase (omega arith)
           c.loop-phase.invariant.left;
     }

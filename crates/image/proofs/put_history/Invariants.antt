@@ -1,4 +1,4 @@
--- `put_history` meets its contract.
+-- The invariant of `put_history`.
 use mathlib.Core.Path.{◌≡◌}
 use mathlib.Core.List.{List}
 use Prim.Native.Nat.{ℕ, ◌≤◌, ◌+◌, ◌*◌, ◌-◌}

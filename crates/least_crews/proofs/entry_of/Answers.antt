@@ -5,14 +5,16 @@ use Rattle.least_crews.proofs.Ranges.{within}
 use Rattle.least_crews.proofs.Found.{found}
 use Rattle.least_crews.proofs.entry_of.Goals as goal
 
+-- D stands behind n
 pub bounds-numbers-place-2 : goal.bounds-numbers-place-2
 bounds-numbers-place-2 c =
     let room = within c.args.class c.args.b c.args.f c.requires in
     omega (arith, room, c.place_of-place.ensures)
 
--- n stands before D
 pub bounds-numbers-place : goal.bounds-numbers-place
-bounds-numbers-place c = omega (arith, array-read-d c)
+bounds-numbers-place c =
+    let room = within c.args.class c.args.b c.args.f c.requires in
+    omega (arith, room, c.place_of-place.ensures)
 
 pub returns : goal.returns
 returns c =
