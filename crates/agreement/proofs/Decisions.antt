@@ -3,14 +3,14 @@
 use mathlib.Core.Path.{◌≡◌, refl, sym, ap, ◌∙◌, subst}
 use mathlib.Core.List.{List}
 use mathlib.Core.Logic.{◌⊎◌, inl, inr, ◌↔◌}
-use mathlib.Core.Option.{none, some, none-ne-some}
+use mathlib.Core.Option.{some, none-ne-some}
 use Prim.Native.Nat.{ℕ}
 use native.Mathlib.Omega.{arith}
 use native.Mathlib.Decide.{dec_lt}
 use lib.ListN.{length}
 use lib.Dec.{T, leb, leb→le, le→leb, ltb→lt}
 use Rattle.wire.specs.Sizes.{spent_phase}
-use Rattle.wire.specs.Outcome.{accepted, is_accepted}
+use Rattle.wire.specs.Outcome.{is_accepted}
 use Rattle.crew.specs.declared.Crew.{Crew}
 use Rattle.crew.specs.Thresholds.{class_of}
 use Rattle.ballot.specs.Count.{tally, holds}

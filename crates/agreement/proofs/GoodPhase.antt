@@ -10,12 +10,12 @@ use Rattle.wire.specs.Sizes.{spent_phase}
 use Rattle.crew.specs.declared.Crew.{Crew}
 use Rattle.crew.specs.Thresholds.{one, class_of}
 use Rattle.ballot.specs.Count.{count_if}
-use Rattle.ballot.specs.Ballot.{Ballot, inbox, same_ballot}
+use Rattle.ballot.specs.Ballot.{inbox, same_ballot}
 use Rattle.model.proofs.Voter.{round_number}
 use Rattle.model.proofs.Engine as model
 use Rattle.model.proofs.Engine.{saying, state, Held}
 use Rattle.model.proofs.Theorems as engine
-use Rattle.agreement.specs.Statement.{Execution, honest, record_at, phase_at, round_at, Premises, Wins}
+use Rattle.agreement.specs.Statement.{Execution, record_at, phase_at, round_at, Premises, Wins}
 use Rattle.agreement.specs.Statement.{ballots_in, heard, Good}
 use Rattle.agreement.proofs.Written.{forward}
 use Rattle.agreement.proofs.Places.{place_early}

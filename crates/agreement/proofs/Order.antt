@@ -1,6 +1,6 @@
 -- Law 5 of the engine: two inboxes with the same counting messages, each in as many slots of one as of the other, give
 -- the same answers, on any record, sound or not.
-use mathlib.Core.Path.{◌≡◌, ap, ap₂}
+use mathlib.Core.Path.{◌≡◌, ap₂}
 use mathlib.Core.Bool.{cond, ◌&&◌}
 use mathlib.Core.List.{List}
 use Prim.Native.Nat.{ℕ, ◌*◌}

@@ -13,7 +13,7 @@ use Rattle.crew.specs.Thresholds.{class_of}
 use Rattle.crew.proofs.Facts.{accepts}
 use Rattle.message.specs.Layout.{slot_size}
 use Rattle.ballot.specs.Ballot.{Ballot, inbox}
-use Rattle.model.proofs.Voter.{selecting, opened, turn}
+use Rattle.model.proofs.Voter.{selecting, opened}
 use Rattle.model.proofs.Engine.{State, Inboxes, opening, step, saying, Run, state, Held}
 use Rattle.model.proofs.Run.{moves}
 use Rattle.node.specs.declared.Node.{Node}

@@ -49,7 +49,7 @@ fn show_entry(rt: &impl Print, least: Least) -> io::Result<()> {
     }
 }
 
-// What lies outside of the ranges is no crew's (accepted-in-range in least_crews/proofs/Ranges.antt).
+// What lies outside of the ranges is no crew's (accepted_in_range in least_crews/proofs/Ranges.antt).
 fn refuse(rt: &impl Eprint) -> io::Result<()> {
     let classes = Crew::CLASS_THREE;
     eprint!(rt; "least: class is 1 to {classes}, b 0 to {MOST_B}, f 0 to {MOST_F}")?;

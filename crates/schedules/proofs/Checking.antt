@@ -1,20 +1,19 @@
 -- The premises on a schedule's takes as a test that computes, for examples.
-use mathlib.Core.Path.{◌≡◌, ap}
+use mathlib.Core.Path.{◌≡◌}
 use mathlib.Core.Bool.{Bool, true, false, cond, ◌&&◌}
 use mathlib.Core.List.{List, [], ◌∷◌, ◌++◌, append-nil, append_assoc}
 use mathlib.Core.List.{head-eq_of_cons-eq, tail-eq_of_cons-eq}
 use mathlib.Core.Option.{some}
 use Prim.Native.Nat.{ℕ, ◌<◌}
-use lib.ListN.{take}
 use lib.Dec.{T}
-use Rattle.wire.specs.Outcome.{accepted, is_accepted}
+use Rattle.wire.specs.Outcome.{is_accepted}
 use Rattle.wire.specs.Bytes.{AreBytes}
 use Rattle.ballot.specs.Ballot.{Ballot}
 use Rattle.wire.specs.Below.{every_below}
 use Rattle.wire.proofs.Tests.{and_T, T_and, every_below_lem}
 use Rattle.inbox.specs.Inbox.{slot_at, ballot_at, counts}
 use Rattle.rounds.specs.Taking.{take_of}
-use Rattle.agreement.specs.Statement.{Call, write, ask, take_round, Event, Wrote}
+use Rattle.agreement.specs.Statement.{Call, write, ask, take_round, Event}
 use Rattle.wire.proofs.Numbers.{all_bytes, are_bytes}
 use Rattle.agreement.proofs.Checking.{wrote_front, wrote_front_lem}
 use Rattle.schedules.specs.Schedule.{Schedule, on, up_to, is_honest, record_after, rounds_taken, own_calls, own_record}

@@ -13,7 +13,7 @@ use Rattle.wire.specs.Bytes.{AreBytes}
 use Rattle.crew.specs.declared.Crew.{Crew}
 use Rattle.crew.specs.Acceptance.{accept_of}
 use Rattle.message.specs.Layout.{slot_size}
-use Rattle.ballot.specs.Count.{bit, tally, holds}
+use Rattle.ballot.specs.Count.{bit, tally}
 use Rattle.ballot.specs.Ballot.{Ballot}
 use Rattle.node.specs.declared.Node.{Node}
 use Rattle.inbox.specs.Inbox.{slot_at, ballot_at}
