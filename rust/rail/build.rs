@@ -8,7 +8,9 @@ fn main() {
     let archive = folder.join("libboundary.a");
     println!("cargo:rerun-if-changed={}", archive.display());
     if !archive.is_file() {
-        eprintln!("target/staticlib/libboundary.a is missing: `rust/build_archive` in the repository proves and writes it");
+        eprintln!(
+            "target/staticlib/libboundary.a is missing: `rust/build_archive` in the repository proves and writes it"
+        );
         exit(1);
     }
     println!("cargo:rustc-link-search=native={}", folder.display());

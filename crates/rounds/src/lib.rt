@@ -299,9 +299,9 @@ fn coming(node: Node, asked: bool) -> Round
     }
 }
 
-// What the history has at the last phase: before a selection, nothing. It fills the places of the histories: a number of
-// the record, and no constant (docs/DECISIONS.md says what that was for). To find the place by the record's phase, the
-// compiler would copy the history first.
+// What the history has at the last phase: before a selection, nothing. It fills the places of the histories: a number
+// of the record, and no constant (docs/DECISIONS.md says what that was for). To find the place by the record's phase,
+// the compiler would copy the history first.
 fn last_entry(node: Node) -> Plan
     ensures { result ≡ get_or node.history last_phase 0 }
 {
