@@ -8,6 +8,7 @@ ghost use Rattle.std.specs.Io.{ReadsAtMost};
 ghost use Rattle.std.specs.Io.KnownBytes.{Consumes, IsAtEnd};
 ghost use Rattle.drill.specs.Run.{drill_of};
 
+use drill::Advance;
 use std::io;
 use std::io::Read;
 
@@ -47,13 +48,15 @@ pub fn run(rt: &impl Print, input: &[u8]) -> usize
     ensures { result ≡ length (drill_of input.now) }
 {
     let mut text = [0u8; drill::MOST_TEXT];
-    let mut cursor = drill::start();
+    // Where the drill stands is kept in the last step alone: a second copy of all its nodes takes 9 KB of stack.
+    let mut step = Advance {
+        next: drill::start(),
+        size: 0,
+    };
     let mut size: usize = 0;
     let mut writable = true;
-    while drill::NO_LINE < cursor.line {
-        let step = drill::step(input, cursor, &mut text);
-        let next = step.next;
-        cursor = next;
+    while drill::NO_LINE < step.next.line {
+        step = drill::step(input, step.next, &mut text);
         writable = show(rt, writable, &text[..step.size]);
         size = size + step.size;
     }
