@@ -245,8 +245,7 @@ impl Window {
 // A record's bytes: its number, which is a run's, then its marks, as many again.
 const RECORD_SIZE: usize = 2 * RUN_SIZE;
 
-// A program reads so many records at a time: the kit's buffers, of 4,096 and 65,536 bytes, have room for a part and for
-// its lines.
+// A program reads so many records at a time, and needs 4,096 bytes for a part and no more than 65,536 for its lines.
 const AT_ONCE: usize = 512;
 
 pub const PART_SIZE: usize = AT_ONCE * RECORD_SIZE;
