@@ -128,8 +128,8 @@ fn tell_reading(engine: &dyn Engine, cases: Cases) -> Result<(), String> {
 /// The mutants of turns that are wrong in what is heard alone, so that writes are no place to tell them.
 const IN_HEARING: [Mutation; 2] = [Mutation::ThresholdFromN, Mutation::OthersCount];
 
-/// Whether a mutant of turns is told where it is wrong: in writes, if in who speaks, and in rounds, if in what counts or
-/// in the test. What nobody hears changes no round.
+/// Whether a mutant of turns is told where it is wrong: in writes, if in who speaks, and in rounds, if in what counts
+/// or in the test. What nobody hears changes no round.
 fn is_told_in_turns(mutation: Mutation, writes: usize, rounds: usize) -> bool {
     (writes > 0 || IN_HEARING.contains(&mutation)) && (rounds > 0 || mutation == Mutation::OthersSpeak)
 }

@@ -70,8 +70,8 @@ fn crews_of_all_sorts_come_up() {
     assert_eq!(groups.len(), 3 * 9);
 }
 
-/// The two forms of the turn, the second engine's and the checkers', are one, for every phase of a record. Where c is at
-/// most n, the checkers' list of a group has the paper's order.
+/// The two forms of the turn, the second engine's and the checkers', are one, for every phase of a record. Where c is
+/// at most n, the checkers' list of a group has the paper's order.
 #[test]
 fn both_forms_of_the_turn_are_one() {
     for n in 0..=34 {

@@ -1,6 +1,6 @@
-//! Holds the proved engine's archive and programs against the second engine: all small crews, all lookups, all groups of
-//! validators, all small splits, the longest drill, the long inputs of absences, random cases of every operation and of
-//! the boundary, and every mutant, which has to be told from the archive.
+//! Holds the proved engine's archive and programs against the second engine: all small crews, all lookups, all groups
+//! of validators, all small splits, the longest drill, the long inputs of absences, random cases of every operation and
+//! of the boundary, and every mutant, which has to be told from the archive.
 //! Usage: compare DRILL ABSENCE [MINUTES]. Without MINUTES each operation gets its number of cases once; with MINUTES
 //! it gets them again and again, with new seeds, until the time is over. SEED sets the first seed.
 
