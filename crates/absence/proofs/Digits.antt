@@ -1,17 +1,16 @@
--- The text of a count, digit by digit, and as a word of four bytes.
+-- The text of a count, digit by digit, and in as many bytes as the longest has.
 use mathlib.Core.Path.{◌≡◌, ◌∙◌}
 use mathlib.Core.List.{List, [], ◌∷◌, ◌++◌}
-use Prim.Native.Nat.{ℕ, ◌+◌, ◌*◌, ◌/◌, ◌%◌, ◌<◌, ◌≤◌}
+use Prim.Native.Nat.{ℕ, ◌+◌, ◌/◌, ◌%◌, ◌<◌, ◌≤◌}
 use native.Mathlib.Omega.{arith}
-use native.Mathlib.Decide.{dec_lt}
-use lib.ListN.{length, length-append}
+use lib.ListN.{length, drop, replicate, length-append, length-drop}
 use borrow.Author.Tests.{le-leb, lt-leb}
-use Rattle.wire.specs.Bytes.{bytes_of}
+use lib.Seq.{length-sets}
+use Rattle.wire.proofs.Stores.{sets_front}
 use Rattle.script.specs.Lines.{space}
 use Rattle.print.specs.Texts.{place_of, decimal_of}
-use Rattle.absence.specs.Ring.{count_values}
 use Rattle.absence.specs.Lines.{text_most, count_text}
-use Rattle.absence.specs.Promises.{count_word}
+use Rattle.absence.specs.Promises.{padded_text}
 
 -- no digit stands for a worth that the number does not reach, and one for each that it does
 no_digit : (v p : ℕ) → v < p → place_of v p ≡ []
@@ -42,8 +41,6 @@ three_digits v enough less =
     let tens : 10 ≤ v = omega arith in
     three_places v (omega arith) ∙ rw (a_digit v 100 enough, a_digit v 10 tens, hundreds)
 
--- Words: the text of a count with a space after it, in four bytes.
-
 -- no count is without a digit
 pub text_some : (v after : ℕ) → 2 ≤ length (count_text v after)
 unfolding decimal_of
@@ -61,66 +58,22 @@ text_some v after =
       length-append (place_of v 10) units,
     )
 
--- the word of each sort, as it is worked out
-pub word_one : (v : ℕ) → v < 10 → count_word v ≡ 48 + v + 256 * space
-unfolding count_word
-word_one v less = rw (one_digit v less) (omega arith)
-
-pub word_two : (v : ℕ) → 10 ≤ v → v < 100 → count_word v ≡ 48 + v / 10 + 256 * (48 + v % 10 + 256 * space)
-unfolding count_word
-word_two v enough less = rw (two_digits v enough less) (omega arith)
-
-pub word_three : (v : ℕ) → 100 ≤ v → v < 256
-    → count_word v ≡ 48 + v / 100 + 256 * (48 + v / 10 % 10 + 256 * (48 + v % 10 + 256 * space))
-unfolding count_word
-word_three v enough less = rw (three_digits v enough less) (omega arith)
-
--- The bytes of a word are the text, and up to two zeros behind it.
+-- The text in as many bytes as the longest has is the text, and up to two zeros behind it.
 pub record Padded (bytes text : List ℕ) : Type 0 where
   pub spill : List ℕ
   pub few : length spill ≤ 2
   pub same : bytes ≡ text ++ spill
 
--- the digits of a number to the base 256
-four_bytes : (a b c d word : ℕ) → a < 256 → b < 256 → c < 256 → d < 256 → word ≡ a + 256 * (b + 256 * (c + 256 * d))
-    → bytes_of text_most word ≡ a ∷ b ∷ c ∷ d ∷ []
-four_bytes a b c d word ha hb hc hd e =
-    let first : word % 256 ≡ a = omega arith in
-    let high : word / 256 ≡ b + 256 * (c + 256 * d) = omega arith in
-    let second : (b + 256 * (c + 256 * d)) % 256 ≡ b = omega arith in
-    let higher : (b + 256 * (c + 256 * d)) / 256 ≡ c + 256 * d = omega arith in
-    let third : (c + 256 * d) % 256 ≡ c = omega arith in
-    let highest : (c + 256 * d) / 256 ≡ d = omega arith in
-    let fourth : d % 256 ≡ d = omega arith in
-    rw (first, high, second, higher, third, highest, fourth)
+pub padded_long : (v : ℕ) → length (padded_text v) ≡ text_most
+unfolding padded_text
+padded_long v = length-sets (replicate text_most 0) 0 (count_text v space)
 
-pub word_bytes : (v : ℕ) → v < count_values → Padded (bytes_of text_most (count_word v)) (count_text v space)
-word_bytes v less = go (dec_lt v 10) (dec_lt v 100)
-  where
-    go : Dec (v < 10) → Dec (v < 100) → Padded (bytes_of text_most (count_word v)) (count_text v space)
-    go (yes one) h =
-        record {
-          spill = 0 ∷ 0 ∷ [];
-          few = omega arith;
-          same = rw (one_digit v one)
-              (four_bytes (48 + v) space 0 0 (count_word v) (omega arith) (omega arith) (omega arith) (omega arith)
-              (omega (arith, word_one v one)));
-        }
-    go (no one) (yes two) =
-        let enough : 10 ≤ v = omega arith in
-        record {
-          spill = 0 ∷ [];
-          few = omega arith;
-          same = rw (two_digits v enough two)
-              (four_bytes (48 + v / 10) (48 + v % 10) space 0 (count_word v) (omega arith) (omega arith) (omega arith)
-              (omega arith) (omega (arith, word_two v enough two)));
-        }
-    go (no one) (no two) =
-        let enough : 100 ≤ v = omega arith in
-        record {
-          spill = [];
-          few = omega arith;
-          same = rw (three_digits v enough less)
-              (four_bytes (48 + v / 100) (48 + v / 10 % 10) (48 + v % 10) space (count_word v) (omega arith)
-              (omega arith) (omega arith) (omega arith) (word_three v enough less));
-        }
+pub text_padded : (v : ℕ) → length (count_text v space) ≤ text_most → Padded (padded_text v) (count_text v space)
+unfolding padded_text
+text_padded v fits =
+    let zeros = replicate text_most 0 in
+    record {
+      spill = drop (length (count_text v space)) zeros;
+      few = omega (arith, length-drop (length (count_text v space)) zeros, text_some v space);
+      same = sets_front (count_text v space) zeros fits;
+    }

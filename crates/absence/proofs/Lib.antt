@@ -1,10 +1,8 @@
 pub mod Counts
-pub mod Adds
 pub mod Digits
 pub mod Spills
 pub mod Rings
 pub mod Newest
 pub mod Holding
 pub mod Laying
-pub mod Steps
 pub mod Output

@@ -21,9 +21,8 @@ use Rattle.absence.specs.Held.{afresh}
 use Rattle.absence.specs.Ring.{empty_window, add_of, window_after, held_in}
 use Rattle.absence.specs.Lines.{records_in, spaced, last_node, counts_line, lines_held, lines_of, output_of}
 use Rattle.absence.specs.Lines.{record_size, at_once, part_size, most_records}
-use Rattle.absence.specs.Lines.{taken_of, lines_now, stream_after, fresh_stream, printed}
+use Rattle.absence.specs.Lines.{taken_of, left_after, lines_now, stream_after, fresh_stream, printed}
 use Rattle.absence.proofs.Rings.{Keeps, empty_keeps}
-use Rattle.absence.proofs.Steps.{left_less}
 use Rattle.absence.proofs.Holding.{add_follows, empty_held}
 
 -- The counts kept are those worked out afresh, so the lines are the same.
@@ -94,6 +93,16 @@ lines_append (x ∷ xs) ys w =
     ∙ sym (append_assoc line (lines_of next xs) (lines_of (window_after next xs) ys))
 
 -- The turns together.
+
+-- every turn leaves fewer records to be taken, so that the loop ends
+left_less : (size left : ℕ) → 0 < left → left_after size left < left
+left_less size left some = go (dec_lt size part_size)
+  where
+    go : Dec (size < part_size) → left_after size left < left
+    go (yes short) = rw (lt-ltb size part_size short) some
+    go (no whole) =
+        let enough : part_size ≤ size = omega arith in
+        rw (le-ltb size part_size enough) (omega arith)
 
 -- a stream with nothing left prints nothing
 nothing_left : (turns : ℕ) (stream : Stream) (input : List ℕ) → stream.left ≡ 0 → printed turns stream input ≡ []

@@ -24,8 +24,7 @@ use Rattle.absence.proofs.Counts.{recounted_long, recounted_at}
 
 -- What adds keep: the ring and the counts have their places, and the counts are those worked out afresh.
 pub record Keeps (w : Window) : Type 0 where
-  pub numbers : length w.numbers ≡ most_held
-  pub marks : length w.marks ≡ most_held
+  pub runs : length w.runs ≡ most_held
   pub nodes : length w.missing ≡ most_nodes
   pub inside : w.next < most_held
   pub most : w.held ≤ most_held
@@ -35,8 +34,7 @@ pub empty_keeps : Keeps empty_window
 unfolding empty_window table count_if
 empty_keeps =
     record {
-      numbers = length-replicate {A = ℕ} most_held 0;
-      marks = length-replicate {A = ℕ} most_held 0;
+      runs = length-replicate most_held no_run;
       nodes = length-replicate {A = ℕ} most_nodes 0;
       inside = omega arith;
       most = omega arith;
@@ -100,24 +98,17 @@ module _ (w : Window) (run : Run) (keeps : Keeps w) where
   -- the record at the next place is the one that came, and the others stand where they stood
   run_here : run_in (with_run w run) w.next ≡ run
   run_here =
-      let n : w.next < length w.numbers = omega (arith, keeps.numbers, keeps.inside) in
-      let m : w.next < length w.marks = omega (arith, keeps.marks, keeps.inside) in
-      rw here
-      (ap₂ (λ number marks. record { number = number; marks = marks })
-      (get_or-set_same w.numbers w.next run.number 0 n) (get_or-set_same w.marks w.next run.marks 0 m))
+      let inside : w.next < length w.runs = omega (arith, keeps.runs, keeps.inside) in
+      rw here (get_or-set_same w.runs w.next run no_run inside)
 
   run_there : (p : ℕ) → p ≢ w.next → run_in (with_run w run) p ≡ run_in w p
-  run_there p other =
-      rw here
-      (ap₂ (λ number marks. record { number = number; marks = marks })
-      (get_or-set_other w.numbers w.next p run.number 0 other)
-      (get_or-set_other w.marks w.next p run.marks 0 other))
+  run_there p other = rw here (get_or-set_other w.runs w.next p run no_run other)
 
   -- the number before the next place is that of the last record held
-  pub repeat_same : repeats_at w.numbers w.next w.held run.number ≡ repeats (held_in w) run
+  pub repeat_same : repeats_at w run.number ≡ repeats (held_in w) run
   repeat_same = go (dec_lt w.held 1)
     where
-      go : Dec (w.held < 1) → repeats_at w.numbers w.next w.held run.number ≡ repeats (held_in w) run
+      go : Dec (w.held < 1) → repeats_at w run.number ≡ repeats (held_in w) run
       go (yes none) = rw (held_long w, lt-leb 1 w.held none)
       go (no some) =
           let last : w.held - 1 < w.held = omega arith in
@@ -189,7 +180,7 @@ module _ (w : Window) (run : Run) (keeps : Keeps w) where
   -- Each count then: one more for the record that came, one less for the one that left.
   abbrev Recounted : ℕ → Type 0
   Recounted q =
-      afresh (held_in (with_run w run)) q + bit (misses q (marks_leaving w.marks w.next w.held))
+      afresh (held_in (with_run w run)) q + bit (misses q (marks_leaving w))
       ≡ afresh (held_in w) q + bit (misses q run.marks)
 
   count_more : (q : ℕ) → w.held < most_held → q < most_nodes → Recounted q
@@ -212,10 +203,9 @@ module _ (w : Window) (run : Run) (keeps : Keeps w) where
 
   pub run_keeps : Keeps (with_run w run)
   run_keeps =
-      let leaving = marks_leaving w.marks w.next w.held in
+      let leaving = marks_leaving w in
       record {
-        numbers = length-set w.numbers (w.next % most_held) run.number ∙ keeps.numbers;
-        marks = length-set w.marks (w.next % most_held) run.marks ∙ keeps.marks;
+        runs = length-set w.runs (w.next % most_held) run ∙ keeps.runs;
         nodes = recounted_long w.missing run.marks leaving most_nodes ∙ keeps.nodes;
         inside = omega arith;
         most = omega arith;

@@ -14,7 +14,6 @@ use Rattle.absence.specs.Ring.{empty_window, add_of, window_after}
 use Rattle.absence.specs.declared.Run.{Run}
 use Rattle.absence.specs.declared.Window.{Window}
 use Rattle.absence.specs.declared.Stream.{Stream}
-use Rattle.absence.specs.declared.Stepped.{Stepped}
 
 -- a run's number, and as many bytes again for the marks
 abbrev pub record_size : ℕ
@@ -107,13 +106,13 @@ stream_after stream part =
       left = left_after (length part) stream.left;
     }
 
--- What a step gives: the stream after it, and its lines at the front of the buffer, all of them. No other byte of the
--- buffer has changed.
-pub record SteppedOver (before : Stream) (part lent after : List ℕ) (r : Stepped) : Type 0 where
-  pub stream : r.stream ≡ stream_after before part
-  pub size : r.size ≡ length (lines_now before part)
+-- What a step gives: the stream after it, and its lines at the front of the buffer, all of them; it answers how long
+-- they are. No other byte of the buffer has changed.
+pub record SteppedOver (before : Stream) (part : List ℕ) (stream : Stream) (lent after : List ℕ) (r : ℕ) : Type 0 where
+  pub next : stream ≡ stream_after before part
+  pub size : r ≡ length (lines_now before part)
   pub lines : after ≡ sets lent 0 (lines_now before part)
-  pub within : r.size ≤ room_for
+  pub within : r ≤ room_for
 
 -- a stream that has taken nothing yet
 unfoldable pub fresh_stream : Stream

@@ -1,41 +1,39 @@
--- The window as it is kept: numbers and marks of the records in a ring of 100 places, and a count for each node.
+-- The window as it is kept: the records in a ring of 100 places, and a count for each node.
 -- What adding does is said of any window, also of one that no adds have made; what adds make from an empty one is
 -- `Holds`.
 use Rattle.std.specs.Prelude.{ℕ, zero, suc, ◌+◌, ◌-◌, ◌%◌, ◌<◌, min, ◌≡◌, Bool, true, not}
-use Rattle.std.specs.Prelude.{cond, ◌&&◌, List, [], ◌∷◌, leb, ltb, eqb, get_or, set, replicate}
-use Rattle.wire.specs.Outcome.{Outcome, accepted, refused, require, verdict, value_or}
+use Rattle.std.specs.Prelude.{cond, ◌&&◌, List, [], ◌∷◌, leb, ltb, eqb, get_or, set, replicate, Result}
+use Rattle.wire.specs.Outcome.{Outcome, accepted, require, verdict, value_or, outcome_of}
 use Rattle.wire.specs.Marks.{marks_of}
 use Rattle.wire.specs.Below.{table}
 use Rattle.crew.specs.Parts.{most_nodes}
 use Rattle.ballot.specs.Count.{bit}
-use Rattle.absence.specs.Held.{misses, afresh, most_held, newest, held_with, added_after}
+use Rattle.absence.specs.Held.{misses, afresh, most_held, newest, no_run, held_with, added_after}
 use Rattle.absence.specs.declared.Run.{Run}
 use Rattle.absence.specs.declared.Window.{Window}
-use Rattle.absence.specs.declared.Added.{Added}
-use Rattle.absence.specs.declared.Adding.{Adding}
-use Rattle.absence.specs.declared.Adding.TheVariants.{Accepted, Refused}
 use Rattle.absence.specs.declared.AddRefusal.{AddRefusal}
 use Rattle.absence.specs.declared.AddRefusal.TheVariants.{SameRun}
 
-abbrev pub window_of : (numbers marks : List ℕ) (next held : ℕ) (missing : List ℕ) → Window
-window_of numbers marks next held missing =
-    record { numbers = numbers; marks = marks; next = next; held = held; missing = missing }
+-- the record at a place of the ring
+abbrev pub run_in : Window → ℕ → Run
+run_in w place = get_or w.runs place no_run
 
 unfoldable pub empty_window : Window
-empty_window = window_of (replicate most_held 0) (replicate most_held 0) 0 0 (replicate most_nodes 0)
+empty_window =
+    record { runs = replicate most_held no_run; next = 0; held = 0; missing = replicate most_nodes 0 }
 
--- the number before the next place is that of the newest record, where there is one
-abbrev pub repeats_at : (numbers : List ℕ) (next held number : ℕ) → Bool
-repeats_at numbers next held number =
-    leb 1 held && eqb (get_or numbers ((next % most_held + (most_held - 1)) % most_held) 0) number
+-- the record before the next place is the newest, where there is one, and has this number
+abbrev pub repeats_at : Window → (number : ℕ) → Bool
+repeats_at w number =
+    leb 1 w.held && eqb (run_in w ((w.next % most_held + (most_held - 1)) % most_held)).number number
 
 -- the marks of a record that misses nobody
 abbrev pub every_mark : ℕ
 every_mark = marks_of (λ q. true) most_nodes
 
 -- the marks of the record that leaves: that at the next place where the window is full, else marks that miss nobody
-abbrev pub marks_leaving : (marks : List ℕ) (next held : ℕ) → ℕ
-marks_leaving marks next held = cond (ltb held most_held) every_mark (get_or marks (next % most_held) 0)
+abbrev pub marks_leaving : Window → ℕ
+marks_leaving w = cond (ltb w.held most_held) every_mark (run_in w (w.next % most_held)).marks
 
 -- a count is a byte, and has so many values
 abbrev pub count_values : ℕ
@@ -61,36 +59,35 @@ held_next held = min (held + 1) most_held
 -- the window with one record more
 abbrev pub with_run : Window → Run → Window
 with_run w run =
-    window_of (set w.numbers (w.next % most_held) run.number) (set w.marks (w.next % most_held) run.marks)
-    ((w.next % most_held + 1) % most_held) (held_next w.held)
-    (recounted w.missing run.marks (marks_leaving w.marks w.next w.held))
+    record {
+      runs = set w.runs (w.next % most_held) run;
+      next = (w.next % most_held + 1) % most_held;
+      held = held_next w.held;
+      missing = recounted w.missing run.marks (marks_leaving w);
+    }
 
 unfoldable pub add_of : Window → Run → Outcome Window
-add_of w run = require (not (repeats_at w.numbers w.next w.held run.number)) 23 (accepted (with_run w run))
+add_of w run = require (not (repeats_at w run.number)) 23 (accepted (with_run w run))
 
 -- 02's number of the refusal
 abbrev pub add_number : AddRefusal → ℕ
 add_number SameRun = 23
 
--- what an answer of `add` says in 02's terms; the window stands beside it
-abbrev pub add_answer : Adding → Outcome (Unit {0})
-add_answer Accepted = accepted tt
-add_answer (Refused why) = refused (add_number why)
+-- what an answer of `add` says in 02's terms
+abbrev pub add_answer : Result (Unit {0}) AddRefusal → Outcome (Unit {0})
+add_answer = outcome_of add_number
 
--- What adding gives: its answer, and the next window or, where the record is refused, the one that was handed in.
-pub record AddedTo (w : Window) (run : Run) (r : Added) : Type 0 where
-  pub answer : add_answer r.answer ≡ verdict (add_of w run)
-  pub window : r.window ≡ value_or w (add_of w run)
+-- What adding to a window gives: the next window or, where the record is refused, the window as it was; and its answer.
+pub record AddedTo (w : Window) (run : Run) (left : Window) (r : Result (Unit {0}) AddRefusal) : Type 0 where
+  pub answer : add_answer r ≡ verdict (add_of w run)
+  pub window : left ≡ value_or w (add_of w run)
 
 -- the window after each of a list of records
 unfoldable pub window_after : Window → List Run → Window
 window_after w [] = w
 window_after w (run ∷ runs) = window_after (value_or w (add_of w run)) runs
 
--- the record at a place of the ring, and where record i of those held stands, the oldest being record 0
-abbrev pub run_in : Window → ℕ → Run
-run_in w place = record { number = get_or w.numbers place 0; marks = get_or w.marks place 0 }
-
+-- where record i of those held stands, the oldest being record 0
 abbrev pub place_in : Window → ℕ → ℕ
 place_in w i = (w.next + most_held - w.held + i) % most_held
 

@@ -3,27 +3,8 @@
 // ./absence runs it; docs/SERVICE.md says how to read what it prints.
 #![tactic(auto)]
 
-ghost use Rattle.std.specs.Io.{ReadsAtMost};
-
 use absence::{PART_SIZE, ROOM, Stream};
 use std::io;
-use std::io::Read;
-
-// Reads the next part of an input, and answers how many bytes came: fewer than there is room for only where the input
-// ended. A read that fails ends it with its error.
-fn read_part(input: &mut impl Read, part: &mut [u8]) -> io::Result<usize>
-    ensures { ReadsAtMost result part.new }
-{
-    let mut filled = 0;
-    while filled < part.len() {
-        let got = input.read(&mut part[filled..])?;
-        if got == 0 {
-            return Ok(filled);
-        }
-        filled = filled + got;
-    }
-    Ok(filled)
-}
 
 // The loop ends by what the library says is left: nothing behind the last record, be it the input's or the millionth.
 // Once a write has failed, nothing more is read.
@@ -32,11 +13,9 @@ fn main(rt: HostRuntime) -> io::Result<()> {
     let mut part = [0u8; PART_SIZE];
     let mut lines = [0u8; ROOM];
     while 0 < stream.left {
-        let size = read_part(&mut rt.stdin(), &mut part)?;
-        let stepped = stream.step(&part[..size], &mut lines);
-        let next = stepped.stream;
-        stream = next;
-        if rt.write_all(&lines[..stepped.size]).is_err() {
+        let size = intake::read_front(&mut rt.stdin(), &mut part)?;
+        let laid = stream.step(&part[..size], &mut lines);
+        if rt.write_all(&lines[..laid]).is_err() {
             break;
         }
     }

@@ -27,7 +27,7 @@ pub record Taking (setup : Setup) (m : Moment) (nodes : List Node) (receiver : �
 module _ (setup : Setup) (m : Moment) (receiver : ℕ) where
   -- what is laid from all that is sent is the receiver's inbox
   pub inbox_is : (sent r : List ℕ) → setup.crew.n ≤ most_nodes → AllSent m.nodes setup.honest sent
-      → InboxFrom setup m.phase m.round sent (get_or m.pending receiver nobody) r
+      → InboxFrom setup m sent (get_or m.pending receiver nobody) r
       → take (slot_size * setup.crew.n) r ≡ inbox_of setup m receiver
   unfolding slot_from
   inbox_is sent r small all laid =
@@ -51,9 +51,8 @@ module _ (setup : Setup) (m : Moment) (receiver : ℕ) where
     honest_takes inbox after honest is took =
         taking_more after (rw (honest, ← taking.others receiver (omega arith), ← is) took)
 
-    -- the record of any other node stays
-    pub others_stay : is_in setup.honest receiver ≡ false → Taking setup m nodes (receiver + 1)
+    -- the record of any other node is put back as it was
+    pub others_stay : is_in setup.honest receiver ≡ false
+        → Taking setup m (set nodes receiver (node_in nodes receiver)) (receiver + 1)
     unfolding node_after
-    others_stay liar =
-        rw (set-get_or nodes receiver nowhere) at
-        (taking_more (node_in nodes receiver) (rw liar (taking.others receiver (omega arith))))
+    others_stay liar = taking_more (node_in nodes receiver) (rw liar (taking.others receiver (omega arith)))

@@ -20,10 +20,9 @@ pub record AllSent (nodes : List Node) (honest : List Bool) (r : List ℕ) : Typ
   pub whole : length r ≡ inbox_size
   pub each : (sender : ℕ) → sender < most_nodes → slot_in r sender ≡ sent_by nodes honest sender
 
--- an inbox can be filled from all that is sent: every node has its place, and every slot is there
-pub record Fillable (setup : Setup) (inbox sent : List ℕ) : Type 0 where
+-- an inbox can be made of all that is sent: every node has its place, and every slot is there
+pub record Fillable (setup : Setup) (sent : List ℕ) : Type 0 where
   pub small : setup.crew.n ≤ most_nodes
-  pub whole : length inbox ≡ inbox_size
   pub all : length sent ≡ inbox_size
 
 -- what a receiver's slot for a sender becomes by all that is sent
@@ -32,11 +31,11 @@ reaching honest phase round sent pending sender =
     delivered (is_in honest sender) (waiting_from pending sender) phase round (slot_in sent sender)
 
 -- r is as long as the largest inbox, and at its front stands what reaches the receiver.
-pub record InboxFrom (setup : Setup) (phase round : ℕ) (sent : List ℕ) (pending : Pending) (r : List ℕ) : Type 0 where
+pub record InboxFrom (setup : Setup) (m : Moment) (sent : List ℕ) (pending : Pending) (r : List ℕ) : Type 0 where
   pub size : length r ≡ inbox_size
   pub front :
       take (slot_size * setup.crew.n) r
-      ≡ slots_of (reaching setup.honest phase round sent pending) setup.crew.n
+      ≡ slots_of (reaching setup.honest m.phase m.round sent pending) setup.crew.n
 
 -- a round can be run
 pub record Ready (setup : Setup) (m : Moment) : Type 0 where

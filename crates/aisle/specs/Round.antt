@@ -41,7 +41,7 @@ abbrev pub nowhere : Node
 nowhere = zeroed []
 
 abbrev pub nobody : Pending
-nobody = record { cut = []; plan = []; stamp = [] }
+nobody = record { from = [] }
 
 abbrev pub node_in : List Node → ℕ → Node
 node_in nodes i = get_or nodes i nowhere

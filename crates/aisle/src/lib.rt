@@ -2,14 +2,14 @@
 // specs/Start.antt says what a drill begins with, specs/Round.antt what a go does. Crate drill follows a script.
 #![tactic(auto)]
 
-ghost use Rattle.std.specs.Prelude.{◌≡◌, ◌<◌, ◌≤◌, cond, get_or, length, replicate, leb};
+ghost use Rattle.std.specs.Prelude.{◌≡◌, ◌<◌, ◌≤◌, cond, get_or, length, leb};
 ghost use Rattle.wire.specs.Outcome.{value_or};
 ghost use Rattle.wire.specs.Below.{table};
 ghost use Rattle.wire.specs.Sizes.{spent_phase};
 ghost use Rattle.crew.specs.Parts.{most_nodes};
 ghost use Rattle.message.specs.Layout.{slot_size};
 ghost use Rattle.node.specs.Record.{blank};
-ghost use Rattle.node.specs.Place.{round_after, phase_after};
+ghost use Rattle.node.specs.Place.{phase_after};
 ghost use Rattle.node.specs.Sending.{coming_buffer_of};
 ghost use Rattle.node.specs.Starting.{start_of};
 ghost use Rattle.aisle.specs.Round.{
@@ -35,198 +35,137 @@ const RUN: u32 = 1;
 const INBOX: usize = SLOT * MOST_NODES;
 
 // What a drill never changes.
-#[derive(Clone, Copy)]
+#[derive(Clone, Copy, PartialEq, Eq, Debug)]
 pub struct Setup {
     pub crew: Crew,
-    // Which nodes are honest: those with an initial plan.
+    // Which nodes are honest: those with an initial plan. It stands apart from the records, which change.
     pub honest: [bool; MOST_NODES],
 }
 
 // All that a drill changes, as it stands between two lines.
-#[derive(Clone, Copy)]
+#[derive(Clone, Copy, PartialEq, Eq, Debug)]
 pub struct Moment {
     // The coming round. The drill counts by itself: all the nodes may be dishonest.
     pub phase: u8,
     pub round: u8,
-    // The honest nodes' records; for any other number the blank record of its refused start.
+    // The honest nodes' records; for any other number the blank record, as its start was refused.
     pub nodes: [Node; MOST_NODES],
     // The cuts and says that wait for the next go, by receivers.
     pub pending: [Pending; MOST_NODES],
 }
 
-#[derive(Clone, Copy)]
+#[derive(Clone, Copy, PartialEq, Eq, Debug)]
 pub struct State {
     pub setup: Setup,
     pub moment: Moment,
 }
 
-// Writes the message of a say to the front of a slot.
-fn write_say(slot: &mut [u8], phase: u8, round: u8, plan: Plan, stamp: u8)
-    ensures { slot.new ≡ say_buffer phase round plan stamp slot.old }
+// Writes the message of a say to the front of a slot. One that is refused, for its stamp, writes nothing.
+fn write_say(slot: &mut [u8], moment: &Moment, say: Waiting)
+    ensures { slot.new ≡ say_buffer moment.now.phase moment.now.round say.plan say.stamp slot.old }
 {
-    if plan == Node::NO_PLAN {
+    if say.plan == Node::NO_PLAN {
         return;
     }
-    if round == Node::SELECTION {
-        writer::write_selection(slot, RUN, phase, plan, stamp, [Node::NO_PLAN; PHASES], 0);
-        return;
-    }
-    if round == Node::VALIDATION {
-        writer::write_validation(slot, RUN, phase, plan);
-        return;
-    }
-    writer::write_decision(slot, RUN, phase, plan, stamp);
+    let phase = moment.phase;
+    let _ = match moment.round {
+        Node::SELECTION => {
+            let history = [Node::NO_PLAN; PHASES];
+            writer::write_selection(slot, RUN, phase, say.plan, say.stamp, &history, 0)
+        }
+        Node::VALIDATION => writer::write_validation(slot, RUN, phase, say.plan),
+        _ => writer::write_decision(slot, RUN, phase, say.plan, say.stamp),
+    };
 }
 
-// Writes an honest node's coming message to the front of a slot.
-fn write_message(slot: &mut [u8], node: Node, honest: bool)
-    ensures { slot.new ≡ cond honest (coming_buffer_of node slot.old) slot.old }
+// Writes an honest node's coming message to the front of a slot: nothing where it is silent.
+fn write_message(slot: &mut [u8], node: &Node, honest: bool)
+    ensures { slot.new ≡ cond honest (coming_buffer_of node.now slot.old) slot.old }
 {
     if honest {
-        node.write(slot);
+        let _ = node.write(slot);
     }
 }
 
 // What all honest nodes send in the coming round: each one's message, written once, at the front of its slot.
-fn messages(nodes: [Node; MOST_NODES], honest: [bool; MOST_NODES]) -> [u8; INBOX]
-    ensures { AllSent nodes honest result }
+fn messages(nodes: &[Node; MOST_NODES], honest: &[bool; MOST_NODES]) -> [u8; INBOX]
+    ensures { AllSent nodes.now honest.now result }
 {
-    let mut sent = [0u8; INBOX];
-    let mut sender: usize = 0;
-    while sender < MOST_NODES {
+    let mut sent = [0; INBOX];
+    for sender in 0..MOST_NODES {
         let at = SLOT * sender;
-        let end = at + SLOT;
-        write_message(&mut sent[at..end], nodes[sender], honest[sender]);
-        sender = sender + 1;
+        write_message(&mut sent[at..at + SLOT], &nodes[sender], honest[sender]);
     }
     sent
 }
 
-// Copies all that is sent into an inbox.
-fn hand_over(sent: &[u8], inbox: &mut [u8])
-    requires { length sent.now ≡ length inbox.old }
-    ensures { inbox.new ≡ sent.now }
-{
-    let mut i: usize = 0;
-    while i < inbox.len() {
-        inbox[i] = sent[i];
-        i = i + 1;
-    }
-}
-
-fn clear(slot: &mut [u8])
-    ensures { slot.new ≡ replicate (length slot.old) 0 }
-{
-    let mut i: usize = 0;
-    while i < slot.len() {
-        slot[i] = 0;
-        i = i + 1;
-    }
-}
-
 // Makes of a slot with what its sender sends to everybody what reaches one receiver.
-fn deliver(slot: &mut [u8], honest: bool, waiting: Waiting, phase: u8, round: u8)
+fn deliver(slot: &mut [u8], honest: bool, waiting: Waiting, moment: &Moment)
     requires { length slot.old ≡ slot_size }
-    ensures { slot.new ≡ delivered honest waiting phase round slot.old }
+    ensures { slot.new ≡ delivered honest waiting moment.now.phase moment.now.round slot.old }
 {
     if waiting.cut {
-        clear(slot);
-        return;
+        slot.fill(0);
+    } else if !honest {
+        write_say(slot, moment, waiting);
     }
-    if honest {
-        return;
-    }
-    write_say(slot, phase, round, waiting.plan, waiting.stamp);
 }
 
-// Fills a receiver's inbox, whatever it held: nothing of an earlier round stays behind a shorter message.
-fn fill_inbox(inbox: &mut [u8], sent: &[u8], setup: Setup, phase: u8, round: u8, pending: Pending)
-    requires { Fillable setup inbox.old sent.now }
-    ensures { InboxFrom setup phase round sent.now pending inbox.new }
+// Makes of all that is sent the inbox of the receiver for which this waits.
+fn deliver_all(inbox: &mut [u8], setup: &Setup, moment: &Moment, pending: &Pending)
+    requires { Fillable setup.now inbox.old }
+    ensures { InboxFrom setup.now moment.now inbox.old pending.now inbox.new }
 {
-    hand_over(sent, inbox);
-    let honest = setup.honest;
-    let n = setup.crew.n as usize;
-    let mut sender: usize = 0;
-    while sender < n {
+    for sender in 0..usize::from(setup.crew.n) {
         let at = SLOT * sender;
-        let end = at + SLOT;
-        let waiting = pending.from(sender);
-        deliver(&mut inbox[at..end], honest[sender], waiting, phase, round);
-        sender = sender + 1;
+        let waiting = pending.waiting(sender);
+        deliver(
+            &mut inbox[at..at + SLOT],
+            setup.honest[sender],
+            waiting,
+            moment,
+        );
     }
 }
 
-fn round_after(class: u8, round: u8) -> u8
-    ensures { result ≡ round_after class round }
-{
-    if round == Node::SELECTION {
-        if class == Crew::CLASS_ONE {
-            return Node::DECISION;
-        }
-        return Node::VALIDATION;
-    }
-    if round == Node::VALIDATION {
-        return Node::DECISION;
-    }
-    Node::SELECTION
-}
-
+// It stays here, beside `node::round_after`: a public function asks nothing of its caller, and the phase after the
+// decision of phase 255 is no byte.
 fn phase_after(phase: u8, round: u8) -> u8
     requires { phase < spent_phase }
     ensures { result ≡ phase_after phase round }
 {
-    if round == Node::DECISION {
-        return phase + 1;
-    }
-    phase
+    phase + u8::from(round == Node::DECISION)
 }
 
 // The records after a round: all that is sent in it comes from the records as they are before it. A node that is not
 // honest has no inbox, and its record stays.
-fn records_after(setup: Setup, moment: Moment) -> [Node; MOST_NODES]
-    requires { setup.crew.n ≤ most_nodes }
-    ensures { result ≡ table (node_after setup moment) most_nodes }
+fn records_after(setup: &Setup, moment: &Moment) -> [Node; MOST_NODES]
+    requires { setup.now.crew.n ≤ most_nodes }
+    ensures { result ≡ table (node_after setup.now moment.now) most_nodes }
 {
-    let honest = setup.honest;
-    let size = SLOT * (setup.crew.n as usize);
-    let pending = moment.pending;
+    let size = SLOT * usize::from(setup.crew.n);
+    let sent = messages(&moment.nodes, &setup.honest);
     let mut nodes = moment.nodes;
-    let sent = messages(nodes, honest);
-    let mut receiver: usize = 0;
-    while receiver < MOST_NODES {
-        if honest[receiver] {
-            let mut inbox = [0u8; INBOX];
-            fill_inbox(
-                &mut inbox,
-                &sent,
-                setup,
-                moment.phase,
-                moment.round,
-                pending[receiver],
-            );
-            let taken = rounds::take(nodes[receiver], &inbox[..size]);
-            let after = taken.node;
-            nodes[receiver] = after;
+    for (receiver, node) in nodes.iter_mut().enumerate() {
+        if setup.honest[receiver] {
+            let mut inbox = sent;
+            deliver_all(&mut inbox, setup, moment, &moment.pending[receiver]);
+            // A round that is refused leaves the record as it is.
+            let _ = rounds::take(node, &inbox[..size]);
         }
-        receiver = receiver + 1;
     }
     nodes
 }
 
-fn whole_round(setup: Setup, moment: Moment) -> Moment
-    requires { Ready setup moment }
-    ensures { result ≡ go_of setup moment }
+fn whole_round(setup: &Setup, moment: &Moment) -> Moment
+    requires { Ready setup.now moment.now }
+    ensures { result ≡ go_of setup.now moment.now }
 {
-    let nodes = records_after(setup, moment);
-    let phase = phase_after(moment.phase, moment.round);
-    let round = round_after(setup.crew.class, moment.round);
-    let none = Pending::empty();
     Moment {
-        phase: phase,
-        round: round,
-        nodes: nodes,
-        pending: [none; MOST_NODES],
+        phase: phase_after(moment.phase, moment.round),
+        round: node::round_after(setup.crew.class, moment.round),
+        nodes: records_after(setup, moment),
+        pending: [Pending::empty(); MOST_NODES],
     }
 }
 
@@ -234,58 +173,42 @@ fn whole_round(setup: Setup, moment: Moment) -> Moment
 pub fn go(setup: Setup, moment: Moment) -> Moment
     ensures { result ≡ gone setup moment }
 {
-    let ready = (setup.crew.n as usize <= MOST_NODES) & (moment.phase < Node::SPENT);
-    if ready {
-        return whole_round(setup, moment);
+    if usize::from(setup.crew.n) <= MOST_NODES && moment.phase < Node::SPENT {
+        return whole_round(&setup, &moment);
     }
     moment
 }
 
-// The results of n nodes, 0 where there is none.
+// The results of n nodes, 0 where there is none: a range, since a loop over all was slower (docs/DECISIONS.md).
 pub fn results_of(nodes: [Node; MOST_NODES], n: usize) -> [Plan; MOST_NODES]
     ensures { result ≡ results_of nodes n }
 {
     let mut results = [Node::NO_PLAN; MOST_NODES];
-    let mut i: usize = 0;
-    while (i < MOST_NODES) & (i < n) {
-        let node = nodes[i];
-        results[i] = node.result;
-        i = i + 1;
+    for i in 0..n.min(MOST_NODES) {
+        results[i] = nodes[i].result;
     }
     results
 }
 
-fn honest_of(plans: [Plan; MOST_NODES]) -> [bool; MOST_NODES]
-    ensures { result ≡ table (λ i. leb 1 (get_or plans i 0)) most_nodes }
+fn honest_of(plans: &[Plan; MOST_NODES]) -> [bool; MOST_NODES]
+    ensures { result ≡ table (λ i. leb 1 (get_or plans.now i 0)) most_nodes }
 {
-    let mut honest = [false; MOST_NODES];
-    let mut i: usize = 0;
-    while i < MOST_NODES {
-        honest[i] = Node::NO_PLAN < plans[i];
-        i = i + 1;
-    }
-    honest
+    plans.map(|plan| wire::is_plan(plan))
 }
 
 fn start_node(crew: Crew, i: usize, plan: Plan) -> Node
     requires { i < most_nodes }
     ensures { result ≡ value_or blank (start_of crew i 1 plan) }
 {
-    let started = Node::start(crew, i as u8, RUN, plan);
-    let node = started.node;
-    node
+    Node::start(crew, i as u8, RUN, plan).unwrap_or(node::blank_node())
 }
 
-fn start_nodes(crew: Crew, plans: [Plan; MOST_NODES]) -> [Node; MOST_NODES]
-    ensures { result ≡ table (λ i. value_or blank (start_of crew i 1 (get_or plans i 0))) most_nodes }
+fn start_nodes(crew: Crew, plans: &[Plan; MOST_NODES]) -> [Node; MOST_NODES]
+    ensures { result ≡ table (λ i. value_or blank (start_of crew i 1 (get_or plans.now i 0))) most_nodes }
 {
-    let node = start_node(crew, 0, Node::NO_PLAN);
-    let mut nodes = [node; MOST_NODES];
-    let mut i: usize = 0;
-    while i < MOST_NODES {
-        let started = start_node(crew, i, plans[i]);
-        nodes[i] = started;
-        i = i + 1;
+    let mut nodes = [node::blank_node(); MOST_NODES];
+    for (i, node) in nodes.iter_mut().enumerate() {
+        *node = start_node(crew, i, plans[i]);
     }
     nodes
 }
@@ -294,21 +217,16 @@ fn start_nodes(crew: Crew, plans: [Plan; MOST_NODES]) -> [Node; MOST_NODES]
 pub fn begin(crew: Crew, plans: [Plan; MOST_NODES]) -> State
     ensures { result ≡ begun_of crew plans }
 {
-    let honest = honest_of(plans);
-    let nodes = start_nodes(crew, plans);
-    let none = Pending::empty();
-    let setup = Setup {
-        crew: crew,
-        honest: honest,
-    };
-    let moment = Moment {
-        phase: Node::FIRST_PHASE,
-        round: Node::SELECTION,
-        nodes: nodes,
-        pending: [none; MOST_NODES],
-    };
     State {
-        setup: setup,
-        moment: moment,
+        setup: Setup {
+            crew,
+            honest: honest_of(&plans),
+        },
+        moment: Moment {
+            phase: Node::FIRST_PHASE,
+            round: Node::SELECTION,
+            nodes: start_nodes(crew, &plans),
+            pending: [Pending::empty(); MOST_NODES],
+        },
     }
 }

@@ -5,18 +5,14 @@
 // says what each function answers and leaves in what it is lent.
 #![tactic(auto)]
 
-ghost use Rattle.std.specs.Prelude.{◌≡◌, List, ℕ, ◌*◌, ◌<◌, length};
-ghost use Rattle.wire.specs.Outcome.{value_or};
+ghost use Rattle.std.specs.Prelude.{◌≡◌, List, ℕ, ◌<◌, length};
+ghost use Rattle.wire.specs.Outcome.{value_or, accepted};
 ghost use Rattle.crew.specs.Parts.{crew_of};
-ghost use Rattle.crew.specs.Acceptance.{accept_of, accept_answer, accept_number};
-ghost use Rattle.least_crews.specs.Search.{lookup_of, lookup_answer};
-ghost use Rattle.current.specs.Shares.{split_of, split_number};
-ghost use Rattle.message.specs.Reading.{body_as, read_number};
-ghost use Rattle.node.specs.Starting.{start_number};
-ghost use Rattle.node.specs.Sending.{send_number, send_answer};
-ghost use Rattle.rounds.specs.Taking.{take_number};
-ghost use Rattle.rounds.specs.Asking.{ask_answer};
-ghost use Rattle.rounds.specs.Marking.{marking_answer};
+ghost use Rattle.crew.specs.Acceptance.{accept_of, accept_number};
+ghost use Rattle.least_crews.specs.Search.{lookup_of};
+ghost use Rattle.current.specs.Shares.{split_of};
+ghost use Rattle.message.specs.Reading.{body_as};
+ghost use Rattle.image.specs.Layout.{record_in};
 ghost use Rattle.boundary.specs.Answers.{
   refusal_unit,
   done,
@@ -26,6 +22,7 @@ ghost use Rattle.boundary.specs.Answers.{
   entry_number,
   Answered,
   Leaves,
+  on_image,
   start_into,
   record_after,
   write_from,
@@ -39,28 +36,29 @@ ghost use Rattle.boundary.specs.Answers.{
   fields_of,
   read_into,
   fields_after,
-  entry_in,
   entry_from,
 };
-ghost use Rattle.boundary.specs.Promises.{Numbered};
+ghost use Rattle.boundary.specs.Promises.{Numbered, refusal_number, told, Gives};
 
-use crew::{Acceptance, Crew};
-use current::Splitting;
-use least_crews::Finding;
-use message::{Body, ENTRY_SIZE, Message, Reading};
-use node::{Node, Sending, StartRefusal, Starting};
-use rounds::{Asking, Marking, Taking};
-use wire::{PLAN_SIZE, Plan, RUN_SIZE};
+use crew::{AcceptRefusal, Crew};
+use current::SplitRefusal;
+use least_crews::LookupRefusal;
+use message::{Body, ENTRY_SIZE, Message, ReadRefusal};
+use node::{Node, SendRefusal, StartRefusal};
+use rounds::TakeRefusal;
+use tally::Choice;
+use wire::{Number, PLAN_SIZE, Plan, RUN_SIZE};
 
-// The papers' numbers of the refusals. The engine below answers by name: its code has them in this one place.
+// The papers' numbers of the refusals. The engine below answers by name: its code has them in this one place (the
+// program of crate splits, which does not build on this crate, has 18 and 19 once more).
 // Accepting a crew.
-pub const CLASS: u64 = 1;
+const CLASS: u64 = 1;
 
-pub const SIZE: u64 = 2;
+const SIZE: u64 = 2;
 
-pub const QUORUM_TOO_HIGH: u64 = 3;
+const QUORUM_TOO_HIGH: u64 = 3;
 
-pub const QUORUM_TOO_LOW: u64 = 4;
+const QUORUM_TOO_LOW: u64 = 4;
 
 // Starting a node: a crew's as well.
 const OWN: u64 = 5;
@@ -93,7 +91,7 @@ const RANGE: u64 = 15;
 const RESIDUE: u64 = 16;
 
 // Accepting a crew, after its other numbers.
-pub const GROUP: u64 = 17;
+const GROUP: u64 = 17;
 
 // Splitting a budget.
 const COUNT: u64 = 18;
@@ -133,90 +131,84 @@ const COUNT_AT: usize = STAMP_AT + 1;
 
 const FIELDS: usize = COUNT_AT + 1;
 
-// The kinds of messages, as the fields have them: in one byte.
+// The kinds of messages, as the fields have them: in one byte. By `as`, since a constant is no place for `try_from`.
 const SELECTION: u8 = message::SELECTION as u8;
 
 const VALIDATION: u8 = message::VALIDATION as u8;
 
 const DECISION: u8 = message::DECISION as u8;
 
-// An answer that refuses.
-fn refusal(number: u64) -> u64
-    requires { number < 256 }
-    ensures { result ≡ refusal_unit * number }
-{
-    REFUSAL * number
+// Why a call is refused: by an operation of the engine, or by this boundary.
+#[derive(Clone, Copy, PartialEq, Eq, Debug)]
+enum Refusal {
+    Crew(AcceptRefusal),
+    Start(StartRefusal),
+    Send(SendRefusal),
+    Take(TakeRefusal),
+    Read(ReadRefusal),
+    Lookup(LookupRefusal),
+    Split(SplitRefusal),
+    // The record of the image has no result: it is not sound.
+    Unsound,
+    // The slice has another length than an image, or than a message's fields.
+    WrongImage,
+    WrongFields,
+    // The message has no entry of this number.
+    NoEntry,
 }
 
-fn crew_number(why: crew::AcceptRefusal) -> u64
-    ensures { Numbered (accept_number why) result }
+// The papers' number of what accepting a crew refuses, which is not 0 and has a byte of an answer.
+pub fn crew_number(why: AcceptRefusal) -> u64
+    ensures number { result ≡ accept_number why }
+    ensures byte { (0 < result) × (result < 256) }
 {
     match why {
-        crew::AcceptRefusal::Class => CLASS,
-        crew::AcceptRefusal::Size => SIZE,
-        crew::AcceptRefusal::QuorumTooHigh => QUORUM_TOO_HIGH,
-        crew::AcceptRefusal::QuorumTooLow => QUORUM_TOO_LOW,
-        crew::AcceptRefusal::Group => GROUP,
+        AcceptRefusal::Class => CLASS,
+        AcceptRefusal::Size => SIZE,
+        AcceptRefusal::QuorumTooHigh => QUORUM_TOO_HIGH,
+        AcceptRefusal::QuorumTooLow => QUORUM_TOO_LOW,
+        AcceptRefusal::Group => GROUP,
     }
 }
 
-fn start_number(why: StartRefusal) -> u64
-    ensures { Numbered (start_number why) result }
-{
-    match why {
-        StartRefusal::Crew(reason) => crew_number(reason),
-        StartRefusal::Own => OWN,
-        StartRefusal::NoPlan => NO_PLAN,
+impl Refusal {
+    fn number(self) -> u64
+        ensures { Numbered (refusal_number self) result }
+    {
+        match self {
+            Refusal::Crew(why) | Refusal::Start(StartRefusal::Crew(why)) => crew_number(why),
+            Refusal::Start(StartRefusal::Own) => OWN,
+            Refusal::Start(StartRefusal::NoPlan) => NO_PLAN,
+            Refusal::Send(SendRefusal::Unsound)
+            | Refusal::Take(TakeRefusal::Unsound)
+            | Refusal::Unsound => UNSOUND,
+            Refusal::Send(SendRefusal::Spent) | Refusal::Take(TakeRefusal::Spent) => SPENT,
+            Refusal::Send(SendRefusal::Short) => SHORT,
+            Refusal::Take(TakeRefusal::Inbox) => INBOX,
+            Refusal::Read(ReadRefusal::Cut) => CUT,
+            Refusal::Read(ReadRefusal::Kind) => KIND,
+            Refusal::Read(ReadRefusal::Length) => LENGTH,
+            Refusal::Read(ReadRefusal::Bound) => BOUND,
+            Refusal::Read(ReadRefusal::Residue) => RESIDUE,
+            Refusal::Lookup(LookupRefusal::Range) => RANGE,
+            Refusal::Split(SplitRefusal::Count) => COUNT,
+            Refusal::Split(SplitRefusal::Amount) => AMOUNT,
+            Refusal::WrongImage => WRONG_IMAGE,
+            Refusal::WrongFields => WRONG_FIELDS,
+            Refusal::NoEntry => NO_ENTRY,
+        }
     }
 }
 
-fn send_number(why: node::SendRefusal) -> u64
-    ensures { Numbered (send_number why) result }
+// What a call from C is answered with: one number. Each call stands in two functions below: the engine's operation on
+// what is lent, with a Result, and the call itself, which makes this one number.
+fn answer(given: Result<u64, Refusal>) -> u64
+    requires { value_or 0 (told given) < refusal_unit }
+    ensures { Answered itself (told given) result }
 {
-    match why {
-        node::SendRefusal::Unsound => UNSOUND,
-        node::SendRefusal::Spent => SPENT,
-        node::SendRefusal::Short => SHORT,
-    }
-}
-
-fn read_number(why: message::ReadRefusal) -> u64
-    ensures { Numbered (read_number why) result }
-{
-    match why {
-        message::ReadRefusal::Cut => CUT,
-        message::ReadRefusal::Kind => KIND,
-        message::ReadRefusal::Length => LENGTH,
-        message::ReadRefusal::Bound => BOUND,
-        message::ReadRefusal::Residue => RESIDUE,
-    }
-}
-
-fn round_number(why: rounds::TakeRefusal) -> u64
-    ensures { Numbered (take_number why) result }
-{
-    match why {
-        rounds::TakeRefusal::Unsound => UNSOUND,
-        rounds::TakeRefusal::Spent => SPENT,
-        rounds::TakeRefusal::Inbox => INBOX,
-    }
-}
-
-fn split_number(why: current::SplitRefusal) -> u64
-    ensures { Numbered (split_number why) result }
-{
-    match why {
-        current::SplitRefusal::Count => COUNT,
-        current::SplitRefusal::Amount => AMOUNT,
-    }
-}
-
-fn accepting_answer(answer: Acceptance) -> u64
-    ensures { Answered done (accept_answer answer) result }
-{
-    match answer {
-        Acceptance::Accepted => 0,
-        Acceptance::Refused(why) => refusal(crew_number(why)),
+    match given {
+        Ok(value) => value,
+        Err(why) => REFUSAL * why.number(),
     }
 }
 
@@ -234,28 +226,52 @@ fn crew_of(class: u8, n: u8, b: u8, f: u8, d: u8, c: u8) -> Crew
     }
 }
 
+fn accept(crew: Crew) -> Result<u64, Refusal>
+    ensures { Gives done (accept_of crew) result }
+{
+    crew::accept(crew).map_err(Refusal::Crew)?;
+    Ok(0)
+}
+
 // Accepts a crew.
 pub fn rail_accept(class: u8, n: u8, b: u8, f: u8, d: u8, c: u8) -> u64
     ensures { Answered done (accept_of (crew_of class n b f d c)) result }
 {
-    accepting_answer(crew::accept(crew_of(class, n, b, f, d, c)))
+    answer(accept(crew_of(class, n, b, f, d, c)))
 }
 
-// What looking a least crew up answers, as a number: 256 times n, plus D.
-fn finding_answer(answer: Finding) -> u64
-    ensures { Answered least_number (lookup_answer answer) result }
+// A least crew as a number: 256 times n, plus D.
+fn least(class: u8, b: u8, f: u8) -> Result<u64, Refusal>
+    ensures { Gives least_number (lookup_of class b f) result }
 {
-    match answer {
-        Finding::Entry(least) => LEAST_N * (least.n as u64) + (least.d as u64),
-        Finding::Refused(_) => refusal(RANGE),
-    }
+    let least = least_crews::lookup(class, b, f).map_err(Refusal::Lookup)?;
+    Ok(LEAST_N * u64::from(least.n) + u64::from(least.d))
 }
 
 // Looks up the least n that any D lets be accepted, and the least D for that n.
 pub fn rail_least(class: u8, b: u8, f: u8) -> u64
     ensures { Answered least_number (lookup_of class b f) result }
 {
-    finding_answer(least_crews::lookup(class, b, f))
+    answer(least(class, b, f))
+}
+
+// The record whose image is lent.
+fn load(image: &[u8]) -> Result<Node, Refusal>
+    ensures { told result ≡ on_image image.now (accepted (record_in image.now)) }
+{
+    image::load(image).ok_or(Refusal::WrongImage)
+}
+
+fn start(crew: Crew, own: u8, run: u32, plan: Plan, image: &mut [u8]) -> Result<u64, Refusal>
+    ensures gives { Gives done (start_into image.old crew own run plan) result }
+    ensures left { image.new ≡ record_after image.old (start_into image.old crew own run plan) }
+{
+    if !image::fits(image) {
+        return Err(Refusal::WrongImage);
+    }
+    let node = Node::start(crew, own, run, plan).map_err(Refusal::Start)?;
+    image::store(&node, image);
+    Ok(0)
 }
 
 // Starts a node and writes its record's image.
@@ -274,31 +290,17 @@ pub fn rail_start(
     ensures { Leaves done (start_into image.old (crew_of class n b f d c) own run plan)
         (record_after image.old) result image.new }
 {
-    if image::fits(image) {
-        let started = Node::start(crew_of(class, n, b, f, d, c), own, run, plan);
-        let answer = started.answer;
-        match answer {
-            Starting::Accepted => {
-                image::store(started.node, image);
-                return 0;
-            }
-            Starting::Refused(why) => {
-                return refusal(start_number(why));
-            }
-        }
-    }
-    refusal(WRONG_IMAGE)
+    answer(start(crew_of(class, n, b, f, d, c), own, run, plan, image))
 }
 
-// What writing the coming message answers, as a number.
-fn sending_answer(answer: Sending) -> u64
-    requires { value_or 0 (send_answer answer) < refusal_unit }
-    ensures { Answered itself (send_answer answer) result }
+fn write(image: &[u8], buffer: &mut [u8]) -> Result<u64, Refusal>
+    ensures gives { Gives itself (write_from image.now buffer.old) result }
+    ensures left { buffer.new ≡ buffer_from image.now buffer.old (write_from image.now buffer.old) }
 {
-    match answer {
-        Sending::Bytes(size) => size as u64,
-        Sending::Refused(why) => refusal(send_number(why)),
-    }
+    let node = load(image)?;
+    let size = node.write(buffer).map_err(Refusal::Send)?;
+    // No `From`: the library has none from a `usize`.
+    Ok(size as u64)
 }
 
 // Writes the coming message to the front of a buffer; the value is its length, 0 for silence.
@@ -306,13 +308,17 @@ pub fn rail_write(image: &[u8], buffer: &mut [u8]) -> u64
     ensures { Leaves itself (write_from image.now buffer.old)
         (buffer_from image.now buffer.old) result buffer.new }
 {
-    let loaded = image::load(image);
-    if loaded.fits {
-        let sent = loaded.node.write(buffer);
-        let answer = sent.answer;
-        return sending_answer(answer);
-    }
-    refusal(WRONG_IMAGE)
+    answer(write(image, buffer))
+}
+
+fn take(image: &mut [u8], inbox: &[u8]) -> Result<u64, Refusal>
+    ensures gives { Gives done (take_from image.old inbox.now) result }
+    ensures left { image.new ≡ record_after image.old (take_from image.old inbox.now) }
+{
+    let mut next = load(image)?;
+    rounds::take(&mut next, inbox).map_err(Refusal::Take)?;
+    image::store(&next, image);
+    Ok(0)
 }
 
 // Takes a round: the image becomes the next record's.
@@ -320,32 +326,18 @@ pub fn rail_take(image: &mut [u8], inbox: &[u8]) -> u64
     ensures { Leaves done (take_from image.old inbox.now)
         (record_after image.old) result image.new }
 {
-    let loaded = image::load(image);
-    if loaded.fits {
-        let taken = rounds::take(loaded.node, inbox);
-        let answer = taken.answer;
-        match answer {
-            Taking::Accepted => {
-                image::store(taken.node, image);
-                return 0;
-            }
-            Taking::Refused(why) => {
-                return refusal(round_number(why));
-            }
-        }
-    }
-    refusal(WRONG_IMAGE)
+    answer(take(image, inbox))
 }
 
-// What asking answers, as a number: a plan, 0 for 'none', 2^32 for 'any'.
-fn asking_answer(answer: Asking) -> u64
-    ensures { Answered choice_number (ask_answer answer) result }
+// A selection as a number: a plan, 0 for 'none', 2^32 for 'any'.
+fn ask(image: &[u8], inbox: &[u8]) -> Result<u64, Refusal>
+    ensures { Gives choice_number (ask_from image.now inbox.now) result }
 {
-    match answer {
-        Asking::Plan(plan) => plan as u64,
-        Asking::Any => ANY,
-        Asking::Nothing => 0,
-        Asking::Refused(why) => refusal(round_number(why)),
+    let node = load(image)?;
+    match rounds::ask(&node, inbox).map_err(Refusal::Take)? {
+        Choice::Plan(plan) => Ok(u64::from(plan)),
+        Choice::Any => Ok(ANY),
+        Choice::Nothing => Ok(0),
     }
 }
 
@@ -353,49 +345,39 @@ fn asking_answer(answer: Asking) -> u64
 pub fn rail_ask(image: &[u8], inbox: &[u8]) -> u64
     ensures { Answered choice_number (ask_from image.now inbox.now) result }
 {
-    let loaded = image::load(image);
-    if loaded.fits {
-        let asked = rounds::ask(loaded.node, inbox);
-        let answer = asked.answer;
-        return asking_answer(answer);
-    }
-    refusal(WRONG_IMAGE)
+    answer(ask(image, inbox))
 }
 
-// What telling the slots that count answers, as a number: their marks.
-fn marking_answer(answer: Marking) -> u64
-    ensures { Answered itself (marking_answer answer) result }
+fn marks(image: &[u8], inbox: &[u8]) -> Result<u64, Refusal>
+    ensures { Gives itself (marks_from image.now inbox.now) result }
 {
-    match answer {
-        Marking::Marks(marks) => marks as u64,
-        Marking::Refused(why) => refusal(round_number(why)),
-    }
+    let node = load(image)?;
+    let marks = rounds::marks(&node, inbox).map_err(Refusal::Take)?;
+    Ok(u64::from(marks))
 }
 
 // Tells the slots that count in the coming round.
 pub fn rail_marks(image: &[u8], inbox: &[u8]) -> u64
     ensures { Answered itself (marks_from image.now inbox.now) result }
 {
-    let loaded = image::load(image);
-    if loaded.fits {
-        return marking_answer(rounds::marks(loaded.node, inbox));
+    answer(marks(image, inbox))
+}
+
+fn result(image: &[u8]) -> Result<u64, Refusal>
+    ensures { Gives itself (result_from image.now) result }
+{
+    let node = load(image)?;
+    if !node.is_sound() {
+        return Err(Refusal::Unsound);
     }
-    refusal(WRONG_IMAGE)
+    Ok(u64::from(node.result))
 }
 
 // The record's standing result, 0 before it has one.
 pub fn rail_result(image: &[u8]) -> u64
     ensures { Answered itself (result_from image.now) result }
 {
-    let loaded = image::load(image);
-    if loaded.fits {
-        let node = loaded.node;
-        if node.is_sound() {
-            return node.result as u64;
-        }
-        return refusal(UNSOUND);
-    }
-    refusal(WRONG_IMAGE)
+    answer(result(image))
 }
 
 // Lays a message's fields out: kind, run, phase, plan, stamp, count.
@@ -404,9 +386,9 @@ fn put_fields(fields: &mut [u8], kind: u8, run: u32, phase: u8, plan: Plan, stam
     ensures { fields.new ≡ field_bytes kind run phase plan stamp count }
 {
     fields[KIND_AT] = kind;
-    wire::put_u32(fields, RUN_AT, run);
+    run.put(fields, RUN_AT);
     fields[PHASE_AT] = phase;
-    wire::put_plan(fields, PLAN_AT, plan);
+    plan.put(fields, PLAN_AT);
     fields[STAMP_AT] = stamp;
     fields[COUNT_AT] = count;
 }
@@ -419,16 +401,25 @@ fn put_message(fields: &mut [u8], message: Message)
 {
     let run = message.run;
     let phase = message.phase;
-    let body = message.body;
-    match body {
-        Body::Selection { vote, stamp, count } => {
-            put_fields(fields, SELECTION, run, phase, vote, stamp, count)
-        }
+    match message.body {
+        Body::Selection { vote, stamp, count } => put_fields(
+            fields, SELECTION, run, phase, vote, stamp, count,
+        ),
         Body::Validation { plan } => put_fields(fields, VALIDATION, run, phase, plan, 0, 0),
-        Body::Decision { vote, stamp } => {
-            put_fields(fields, DECISION, run, phase, vote, stamp, 0)
-        }
+        Body::Decision { vote, stamp } => put_fields(fields, DECISION, run, phase, vote, stamp, 0),
     }
+}
+
+fn read(bytes: &[u8], fields: &mut [u8]) -> Result<u64, Refusal>
+    ensures gives { Gives done (read_into bytes.now fields.old) result }
+    ensures left { fields.new ≡ fields_after fields.old (read_into bytes.now fields.old) }
+{
+    if fields.len() != FIELDS {
+        return Err(Refusal::WrongFields);
+    }
+    let message = message::read(bytes).map_err(Refusal::Read)?;
+    put_message(fields, message);
+    Ok(0)
 }
 
 // Reads the message that a slice holds, with nothing but zeros behind it, and lays its fields out.
@@ -436,41 +427,35 @@ pub fn rail_read(bytes: &[u8], fields: &mut [u8]) -> u64
     ensures { Leaves done (read_into bytes.now fields.old)
         (fields_after fields.old) result fields.new }
 {
-    if fields.len() == FIELDS {
-        let reading = message::read(bytes);
-        match reading {
-            Reading::Message(message) => {
-                put_message(fields, message);
-                return 0;
-            }
-            Reading::Refused(why) => {
-                return refusal(read_number(why));
-            }
-        }
-    }
-    refusal(WRONG_FIELDS)
+    answer(read(bytes, fields))
 }
 
-// Entry i of the part that shows a message's entries.
-fn entry_in(part: &[u8], i: usize) -> u64
-    ensures { Answered entry_number (entry_in part.now i) result }
+// An entry as a number: its phase times 2^32, and its plan.
+fn entry(bytes: &[u8], i: usize) -> Result<u64, Refusal>
+    ensures { Gives entry_number (entry_from bytes.now i) result }
 {
-    if i < part.len() / ENTRY_SIZE {
-        let entry = message::entry_at(part, i);
-        return PLAN_ROOM * (entry.phase as u64) + (entry.plan as u64);
+    message::read(bytes).map_err(Refusal::Read)?;
+    let part = message::entries(bytes);
+    if i >= part.len() / ENTRY_SIZE {
+        return Err(Refusal::NoEntry);
     }
-    refusal(NO_ENTRY)
+    let entry = message::entry_at(part, i);
+    Ok(PLAN_ROOM * u64::from(entry.phase) + u64::from(entry.plan))
 }
 
 // Entry i of the message that a slice holds, read in the same way: its phase times 2^32, and its plan.
 pub fn rail_entry(bytes: &[u8], i: usize) -> u64
     ensures { Answered entry_number (entry_from bytes.now i) result }
 {
-    let reading = message::read(bytes);
-    match reading {
-        Reading::Message(_) => entry_in(message::entries(bytes), i),
-        Reading::Refused(why) => refusal(read_number(why)),
-    }
+    answer(entry(bytes, i))
+}
+
+fn split(demands: &[u32], budget: u32, shares: &mut [u32]) -> Result<u64, Refusal>
+    ensures gives { Gives done (split_of demands.now budget (length shares.old)) result }
+    ensures left { shares.new ≡ value_or shares.old (split_of demands.now budget (length shares.old)) }
+{
+    current::split(demands, budget, shares).map_err(Refusal::Split)?;
+    Ok(0)
 }
 
 // Splits a budget among shuttles, into the lent shares.
@@ -478,9 +463,5 @@ pub fn rail_split(demands: &[u32], budget: u32, shares: &mut [u32]) -> u64
     ensures { Leaves done (split_of demands.now budget (length shares.old))
         (value_or shares.old) result shares.new }
 {
-    let splitting = current::split(demands, budget, shares);
-    match splitting {
-        Splitting::Accepted => 0,
-        Splitting::Refused(why) => refusal(split_number(why)),
-    }
+    answer(split(demands, budget, shares))
 }

@@ -15,22 +15,11 @@ use Rattle.wire.specs.Bytes.{number_at, bytes_of, AreBytes}
 use Rattle.wire.proofs.Tests.{both_true}
 use Rattle.wire.proofs.Numbers.{bytes_of_number, number_small}
 use Rattle.wire.specs.Sizes.{plan_size, run_size}
-use Rattle.message.specs.Fields.{Body, selection, validation, decision, Message}
+use Rattle.message.specs.Fields.{Body, Message}
 use Rattle.message.specs.Bounds.{within, PlansFit, BodyFits, Fits}
 use Rattle.message.specs.Encoding.{kind_of, size_of, entry_bytes, body_bytes, header, encode}
-use Rattle.message.specs.Reading.{
-  length_at,
-  kind_at,
-  message_with,
-  entries_in,
-  selection_at,
-  validation_at,
-  decision_at,
-  body_at,
-  framed,
-  kind_known,
-  front_of,
-}
+use Rattle.message.specs.Reading.{length_at, kind_at, message_with, entries_in, selection_at, validation_at}
+use Rattle.message.specs.Reading.{decision_at, body_at, kind_known, front_of}
 use Rattle.message.proofs.EntryLaws.{entries_count}
 use Rattle.message.proofs.ReadLaws.{front_passes, framed_long}
 use Rattle.message.specs.Layout.{length_place, kind_place, run_place, phase_place, header_size}

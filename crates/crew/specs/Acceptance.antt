@@ -1,12 +1,10 @@
 -- When a crew is accepted: document 01, 'Crew and node' and 'What each operation turns down', and 02, C-13.
-use Rattle.std.specs.Prelude.{ℕ, ◌+◌, ◌*◌, Bool, cond, ◌&&◌, leb, ltb, eqb}
-use Rattle.wire.specs.Outcome.{Outcome, accepted, refused, require, after}
+use Rattle.std.specs.Prelude.{ℕ, ◌+◌, ◌*◌, Bool, cond, ◌&&◌, leb, ltb, eqb, Result}
+use Rattle.wire.specs.Outcome.{Outcome, accepted, require, after, outcome_of}
 use Rattle.crew.specs.Parts.{most_nodes}
 use Rattle.crew.specs.declared.Crew.{Crew}
 use Rattle.crew.specs.declared.AcceptRefusal.{AcceptRefusal}
 use Rattle.crew.specs.declared.AcceptRefusal.TheVariants.{Class, Size, QuorumTooHigh, QuorumTooLow, Group}
-use Rattle.crew.specs.declared.Acceptance.{Acceptance}
-use Rattle.crew.specs.declared.Acceptance.TheVariants.{Accepted, Refused}
 
 -- 01: "class is 1 to 3"
 abbrev pub class_known : Crew → Bool
@@ -56,6 +54,5 @@ accept_number QuorumTooLow = 4
 accept_number Group = 17
 
 -- what an answer of `accept` says in the papers' terms
-abbrev pub accept_answer : Acceptance → Outcome (Unit {0})
-accept_answer Accepted = accepted tt
-accept_answer (Refused why) = refused (accept_number why)
+abbrev pub accept_answer : Result (Unit {0}) AcceptRefusal → Outcome (Unit {0})
+accept_answer answer = outcome_of accept_number answer

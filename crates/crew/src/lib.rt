@@ -26,9 +26,10 @@ pub const MOST_NODES: usize = 32;
 const BYTE_VALUES: u16 = 256;
 
 // 01's crew: the controllers of one aisle that agree on a plan.
-#[derive(Clone, Copy)]
+#[derive(Clone, Copy, PartialEq, Eq, Debug, Default)]
 pub struct Crew {
-    // 1 to 3: which of the algorithm's three classes the crew runs.
+    // 1 to 3: which of the algorithm's three classes the crew runs. A byte and no enum: `accept` answers for a crew of
+    // any six bytes, `accept_of`, and a narrower type would ask more of its caller.
     pub class: u8,
     // How many nodes there are.
     pub n: u8,
@@ -43,7 +44,7 @@ pub struct Crew {
 }
 
 // Why a crew is turned down; `accept_number` in specs/Acceptance.antt has the papers' numbers.
-#[derive(Clone, Copy)]
+#[derive(Clone, Copy, PartialEq, Eq, Debug)]
 pub enum AcceptRefusal {
     Class,
     Size,
@@ -51,19 +52,6 @@ pub enum AcceptRefusal {
     QuorumTooLow,
     // The crew has fewer nodes than the group, or the class asks for a larger group.
     Group,
-}
-
-#[derive(Clone, Copy)]
-pub enum Acceptance {
-    Accepted,
-    Refused(AcceptRefusal),
-}
-
-// The sums below pass a byte's range, so they are taken wide.
-fn wide(x: u8) -> u32
-    ensures { result ≡ x }
-{
-    x as u32
 }
 
 impl Crew {
@@ -79,49 +67,41 @@ impl Crew {
 pub fn blank_crew() -> Crew
     ensures { result ≡ blank_crew }
 {
-    Crew {
-        class: 0,
-        n: 0,
-        b: 0,
-        f: 0,
-        d: 0,
-        c: 0,
-    }
+    Crew::default()
 }
 
 fn is_class(crew: Crew) -> bool
     ensures { result ≡ class_known crew }
 {
-    (Crew::CLASS_ONE <= crew.class) & (crew.class <= Crew::CLASS_THREE)
+    (Crew::CLASS_ONE..=Crew::CLASS_THREE).contains(&crew.class)
 }
 
 fn is_size(crew: Crew) -> bool
     ensures { result ≡ size_known crew }
 {
-    (1 <= crew.n) & (crew.n as usize <= MOST_NODES)
+    (1..=MOST_NODES).contains(&usize::from(crew.n))
 }
 
-// D votes can be had with b + f nodes missing.
+// D votes can be had with b + f nodes missing. Sums pass a byte's range, so they are taken wide here and below.
 fn is_reachable(crew: Crew) -> bool
     ensures { result ≡ reachable crew }
 {
-    wide(crew.d) + wide(crew.b) + wide(crew.f) <= wide(crew.n)
+    u32::from(crew.d) + u32::from(crew.b) + u32::from(crew.f) <= u32::from(crew.n)
 }
 
 // D is high enough for the class.
 fn is_high_enough(crew: Crew) -> bool
     ensures { result ≡ high_enough crew }
 {
-    let d = wide(crew.d);
-    let b = wide(crew.b);
-    let f = wide(crew.f);
-    if crew.class == Crew::CLASS_ONE {
-        return wide(crew.n) + 3 * b + f < 2 * d;
+    let n = u32::from(crew.n);
+    let d = u32::from(crew.d);
+    let b = u32::from(crew.b);
+    let f = u32::from(crew.f);
+    match crew.class {
+        Crew::CLASS_ONE => n + 3 * b + f < 2 * d,
+        Crew::CLASS_TWO => 3 * b + f < d,
+        _ => 2 * b + f < d,
     }
-    if crew.class == Crew::CLASS_TWO {
-        return 3 * b + f < d;
-    }
-    2 * b + f < d
 }
 
 // The group is large enough for the class, and no larger than the crew. Class 1 has no validation: there all nodes are
@@ -129,81 +109,67 @@ fn is_high_enough(crew: Crew) -> bool
 fn is_group(crew: Crew) -> bool
     ensures { result ≡ group_known crew }
 {
-    if crew.class == Crew::CLASS_ONE {
-        return crew.c == crew.n;
+    let b = u32::from(crew.b);
+    let f = u32::from(crew.f);
+    let c = u32::from(crew.c);
+    match crew.class {
+        Crew::CLASS_ONE => crew.c == crew.n,
+        Crew::CLASS_TWO => crew.c <= crew.n && b < c,
+        _ => crew.c <= crew.n && 3 * b + 2 * f < c,
     }
-    if crew.class == Crew::CLASS_TWO {
-        return (crew.c <= crew.n) & (crew.b < crew.c);
-    }
-    (crew.c <= crew.n) & (3 * wide(crew.b) + 2 * wide(crew.f) < wide(crew.c))
 }
 
 // Accepts all of a crew but its group, or says why not: the first of 01's four conditions that fails.
-fn accept_quorum(crew: Crew) -> Acceptance
+fn accept_quorum(crew: Crew) -> Result<(), AcceptRefusal>
     ensures { accept_answer result ≡ quorum_of crew }
 {
-    if is_class(crew) {
-        if is_size(crew) {
-            if is_reachable(crew) {
-                if is_high_enough(crew) {
-                    return Acceptance::Accepted;
-                }
-                return Acceptance::Refused(AcceptRefusal::QuorumTooLow);
-            }
-            return Acceptance::Refused(AcceptRefusal::QuorumTooHigh);
-        }
-        return Acceptance::Refused(AcceptRefusal::Size);
+    if !is_class(crew) {
+        return Err(AcceptRefusal::Class);
     }
-    Acceptance::Refused(AcceptRefusal::Class)
+    if !is_size(crew) {
+        return Err(AcceptRefusal::Size);
+    }
+    if !is_reachable(crew) {
+        return Err(AcceptRefusal::QuorumTooHigh);
+    }
+    if !is_high_enough(crew) {
+        return Err(AcceptRefusal::QuorumTooLow);
+    }
+    Ok(())
 }
 
 // Accepts a crew, or says why not: the first of the papers' conditions that fails. The group comes last.
-pub fn accept(crew: Crew) -> Acceptance
+#[tactic(auto, unfolding(crate::specs::Acceptance::accept_of))]
+pub fn accept(crew: Crew) -> Result<(), AcceptRefusal>
     ensures { accept_answer result ≡ accept_of crew }
 {
-    match accept_quorum(crew) {
-        Acceptance::Refused(why) => Acceptance::Refused(why),
-        Acceptance::Accepted => {
-            if is_group(crew) {
-                return Acceptance::Accepted;
-            }
-            Acceptance::Refused(AcceptRefusal::Group)
-        }
+    accept_quorum(crew)?;
+    if !is_group(crew) {
+        return Err(AcceptRefusal::Group);
     }
+    Ok(())
 }
 
 // Whether a crew is accepted, where it does not matter why not.
 pub fn is_accepted(crew: Crew) -> bool
     ensures { result ≡ is_accepted (accept_of crew) }
 {
-    match accept(crew) {
-        Acceptance::Accepted => true,
-        Acceptance::Refused(_) => false,
-    }
+    accept(crew).is_ok()
 }
 
-// A number less a piece, where it is not smaller than that.
-fn without(number: u16, piece: u16) -> u16
-    ensures { (piece ≤ number → result + piece ≡ number) × (number < piece → result ≡ number) }
-{
-    if piece <= number {
-        return number - piece;
-    }
-    number
-}
-
-// What a number leaves where n is taken away as often as it can be. The number is below so many times n: half as many
-// are tried at once, then half of what is left to try, down to n itself. For every number that is the same few steps.
-fn left_over(number: u16, n: u16, times: u16) -> u16
-    requires { (number < times * n) × (n < 256) × (times ≤ 256) }
+// What a number leaves where n is taken away as often as it can be. The number is below 256 times n: half as many are
+// tried at once, then half of what is left to try, down to n itself. For every number that is the same few steps: a
+// `while`, which counts no index.
+fn left_over(number: u16, n: u16) -> u16
+    requires { (number < 256 * n) × (n < 256) }
     ensures { (result ≡ number % n) × (result < n) }
 {
     let mut rest = number;
-    let mut left = times;
+    let mut left = BYTE_VALUES;
     while 1 < left {
         let half = left / 2;
-        rest = without(rest, half * n);
-        left = left - half;
+        rest = rest.checked_sub(half * n).unwrap_or(rest);
+        left -= half;
     }
     rest
 }
@@ -214,24 +180,25 @@ fn moved(crew: Crew) -> u16
     ensures { (result ≡ crew.c % crew.n) × (result < crew.n) }
 {
     if crew.c < crew.n {
-        return crew.c as u16;
+        return u16::from(crew.c);
     }
-    left_over(crew.c as u16, crew.n as u16, BYTE_VALUES)
+    left_over(u16::from(crew.c), u16::from(crew.n))
 }
 
 // The first node of a phase's group: c nodes on for each phase, round the end of the crew. It is worked out by
 // subtracting (02, C-14): in round 2 there is no division by n.
 fn first_validator(crew: Crew, phase: u8) -> u8
-    ensures { 0 < crew.n → result ≡ phase * crew.c % crew.n }
+    ensures first { 0 < crew.n → result ≡ phase * crew.c % crew.n }
+    ensures within { result ≤ crew.n }
 {
     if crew.n == 0 {
         return 0;
     }
-    left_over(phase as u16 * moved(crew), crew.n as u16, BYTE_VALUES) as u8
+    left_over(u16::from(phase) * moved(crew), u16::from(crew.n)) as u8
 }
 
-// How many nodes after the first node q comes, round the end of the crew. It is a byte: so the compiler tests 16 nodes
-// at once.
+// How many nodes after the first node q comes, round the end of the crew. It is a byte, and both tests of a row are
+// taken without a jump, by `&`: so the compiler tests 16 nodes at once.
 fn distance(crew: Crew, first: u8, q: u8) -> u8
     requires { first ≤ crew.n }
     ensures { (first ≤ q → result + first ≡ q) × (q < first → result + first ≡ q + crew.n) }
@@ -242,27 +209,16 @@ fn distance(crew: Crew, first: u8, q: u8) -> u8
     q + (crew.n - first)
 }
 
-// The same where the row starts beyond the crew, as no group does: by what row says of it.
-fn is_in_row_beyond(crew: Crew, first: u8, q: u8) -> bool
-    ensures { result ≡ in_row crew first q }
-{
-    let end = wide(first) + wide(crew.c);
-    let reached = (first <= q) & (wide(q) < end);
-    let reached_round_the_end = wide(q) + wide(crew.n) < end;
-    (q < crew.n) & (reached | reached_round_the_end)
-}
-
 // Whether node q is one of the c nodes from the first on, round the end of the crew.
 fn is_in_row(crew: Crew, first: u8, q: u8) -> bool
+    requires { first ≤ crew.n }
     ensures { result ≡ in_row crew first q }
 {
-    if crew.n < first {
-        return is_in_row_beyond(crew, first, q);
-    }
     (q < crew.n) & (distance(crew, first, q) < crew.c)
 }
 
 // Whether node q validates in a phase.
+#[tactic(auto, using(crate::proofs::Rows::validates_row))]
 pub fn is_validator(crew: Crew, phase: u8, q: u8) -> bool
     ensures { result ≡ validates crew phase q }
 {
@@ -276,10 +232,8 @@ pub fn validators_among(crew: Crew, phase: u8, marks: [bool; MOST_NODES]) -> [bo
 {
     let first = first_validator(crew, phase);
     let mut kept = marks;
-    let mut q: usize = 0;
-    while q < MOST_NODES {
-        kept[q] = kept[q] & is_in_row(crew, first, q as u8);
-        q = q + 1;
+    for (q, mark) in kept.iter_mut().enumerate() {
+        *mark &= is_in_row(crew, first, q as u8);
     }
     kept
 }

@@ -1,23 +1,54 @@
 -- What the tests of a split show, and what splitting answers and leaves by them.
 use mathlib.Core.Path.{◌≡◌, refl, sym, ap, ◌∙◌}
-use mathlib.Core.Bool.{Bool, true, false, ◌&&◌}
-use mathlib.Core.List.{List}
-use Prim.Native.Nat.{ℕ, ◌≤◌, ◌<◌}
+use mathlib.Core.Bool.{Bool, true, false, ◌&&◌, and_assoc}
+use mathlib.Core.List.{List, [], ◌∷◌}
+use Prim.Native.Nat.{ℕ, zero, suc, ◌≤◌, ◌<◌}
 use native.Mathlib.Omega.{arith}
 use native.Mathlib.Decide.{dec_lt}
+use native.Mathlib.Numerals.{add-one}
 use lib.Dec.{T, leb, eqb}
-use lib.ListN.{length, get_or-eq_default}
+use lib.ListN.{length, get_or, get_or-eq_default, take}
+use lib.Seq.{take-length}
 use borrow.Author.Tests.{leb-true, eqb-true}
-use Rattle.wire.specs.Outcome.{Outcome, accepted, refused, require, verdict, value_or}
+use Rattle.std.specs.Prelude.{Ok}
+use Rattle.std.specs.List.{fold, list_all}
+use Rattle.std.proofs.Math.Bool.{and_comm}
+use Rattle.std.proofs.lemmas.List.Folds.{list_all_more}
+use Rattle.wire.specs.Outcome.{accepted, refused, require, verdict}
 use Rattle.wire.specs.Below.{every_below}
-use Rattle.wire.proofs.Tests.{tests, both_true, every_below_lem}
+use Rattle.wire.proofs.Tests.{tests, both_true, and_true, every_below_lem}
 use Rattle.wire.proofs.Outcomes.{refused_not_accepted}
 use Rattle.current.specs.Shares.{most_shuttles, most_demand, most_budget, amount, shares_of}
-use Rattle.current.specs.Shares.{right_count, in_range, split_of, split_number, split_answer, SplitInto}
+use Rattle.current.specs.Shares.{right_count, in_range, split_of, SplitInto}
 use Rattle.current.specs.Promises.{Small}
-use Rattle.current.specs.declared.SplitRefusal.{SplitRefusal}
-use Rattle.current.specs.declared.Splitting.{Splitting}
-use Rattle.current.specs.declared.Splitting.TheVariants.{Accepted, Refused}
+
+-- The library tests the elements of a list, here it is the numbers below the list's length.
+module _ (p : ℕ → Bool) (xs : List ℕ) where
+  next : (i : ℕ) → i < length xs → list_all p (take (suc i) xs) ≡ (list_all p (take i xs) && p (get_or xs i 0))
+  next i inside = let more = list_all_more {X = ℕ} p xs i 0 inside in rw add-one at more
+
+  test_of_front : (i : ℕ) → i ≤ length xs → list_all p (take i xs) ≡ every_below (λ k. p (get_or xs k 0)) i
+  unfolding every_below
+  test_of_front zero inside = refl
+  test_of_front (suc i) inside =
+      next i (omega arith)
+      ∙ ap (λ b. b && p (get_or xs i 0)) (test_of_front i (omega arith))
+      ∙ and_comm (every_below (λ k. p (get_or xs k 0)) i) (p (get_or xs i 0))
+
+  test_of_all : list_all p xs ≡ every_below (λ k. p (get_or xs k 0)) (length xs)
+  test_of_all = ap (list_all p) (sym (take-length xs)) ∙ test_of_front (length xs) (omega arith)
+
+-- testing the elements from the front on, with no early end, tells whether all of them pass
+pub all_tested : (p : ℕ → Bool) (good : Bool) (xs : List ℕ)
+    → fold (λ b x. b && p x) good xs ≡ (good && list_all p xs)
+all_tested p good [] = sym (and_true good)
+all_tested p good (x ∷ xs) = all_tested p (good && p x) xs ∙ and_assoc good (p x) (list_all p xs)
+
+pub range_of_all : (demands : List ℕ) (budget : ℕ)
+    → in_range demands budget ≡ (leb budget most_budget && list_all (λ x. leb x most_demand) demands)
+range_of_all demands budget =
+    ap (λ b. b && leb budget most_budget) (sym (test_of_all (λ x. leb x most_demand) demands))
+    ∙ and_comm (list_all (λ x. leb x most_demand) demands) (leb budget most_budget)
 
 -- What a split comes to, by the tests.
 module _ (demands : List ℕ) (budget room : ℕ) where
@@ -79,28 +110,10 @@ module _ (demands : List ℕ) (budget room : ℕ) where
         go i (no outside) = omega (arith, get_or-eq_default demands 0 {n = i} (omega arith))
 
 -- What splitting comes to, by how it was judged.
-
-pub was_accepted : (demands : List ℕ) (budget room : ℕ) {judged : Splitting}
-    → split_answer judged ≡ verdict (split_of demands budget room) → judged ≡ Accepted
-    → verdict (split_of demands budget room) ≡ accepted tt
-was_accepted demands budget room is told = sym is ∙ ap split_answer told
-
-module _ (demands : List ℕ) (budget : ℕ) (shares : List ℕ) {judged : Splitting}
-    (is : split_answer judged ≡ verdict (split_of demands budget (length shares))) where
-  pub shares_written : judged ≡ Accepted → {shares' : List ℕ} → shares' ≡ shares_of demands budget
-      → SplitInto demands budget shares Accepted shares'
-  shares_written told e =
-      let accepts = was_accepted demands budget (length shares) is told in
-      let passed = passed_both demands budget (length shares) accepts in
+module _ (demands : List ℕ) (budget : ℕ) (shares : List ℕ) where
+  pub shares_written : accepted tt ≡ verdict (split_of demands budget (length shares))
+      → {shares' : List ℕ} → shares' ≡ shares_of demands budget → SplitInto demands budget shares (Ok tt) shares'
+  shares_written is e =
+      let passed = passed_both demands budget (length shares) (sym is) in
       let value = judged_accepted demands budget (length shares) passed.0 passed.1 in
-      record { answered = sym accepts; left = rw value e }
-
-  pub shares_kept : (why : SplitRefusal) → judged ≡ Refused why → SplitInto demands budget shares (Refused why) shares
-  shares_kept why told =
-      let answered = sym (ap split_answer told) ∙ is in
-      record { answered = answered; left = go (split_of demands budget (length shares)) answered }
-    where
-      go : (outcome : Outcome (List ℕ)) → refused (split_number why) ≡ verdict outcome
-          → shares ≡ value_or shares outcome
-      go (accepted value) e = absurd (refused_not_accepted (split_number why) tt e)
-      go (refused number) e = refl
+      record { answered = is; left = rw value e }

@@ -1,10 +1,15 @@
 -- The laws of sums over the numbers below n, counts among them.
-use mathlib.Core.Path.{◌≡◌, refl, ap}
-use mathlib.Core.Bool.{Bool}
+use mathlib.Core.Path.{◌≡◌, refl, sym, ap, ◌∙◌}
+use mathlib.Core.Bool.{Bool, true, false, cond}
+use mathlib.Core.List.{List}
 use Prim.Native.Nat.{ℕ, zero, suc, ◌+◌, ◌*◌, ◌≤◌, ◌<◌}
 use native.Mathlib.Omega.{arith}
 use native.Mathlib.Nat.{add-mul, suc-mul}
+use lib.ListN.{length, get_or, take}
+use lib.Seq.{take-length}
 use native.Mathlib.Numerals.{add-one}
+use Rattle.std.specs.List.{sum_by, count_by}
+use Rattle.std.proofs.lemmas.List.Sums.{sum_by_more}
 use Rattle.wire.proofs.Tests.{by_equality}
 use Rattle.ballot.specs.Count.{bit, tally}
 use Rattle.current.specs.Sums.{sum}
@@ -48,7 +53,27 @@ sum_has f zero i l = absurd (omega arith)
 sum_has f (suc n) i l =
     by_equality i n (λ e. omega (arith, ap f e)) (λ e. omega (arith, e, sum_has f n i (omega (arith, e))))
 
--- one number more, as a loop goes
-pub sum_next : (f : ℕ → ℕ) (i : ℕ) → sum f (i + 1) ≡ sum f i + f i
-unfolding sum
-sum_next f i = rw add-one
+-- The library sums up and counts the elements of a list, here it is the numbers below the list's length.
+module _ (f : ℕ → ℕ) (xs : List ℕ) where
+  next : (i : ℕ) → i < length xs → sum_by f (take (suc i) xs) ≡ sum_by f (take i xs) + f (get_or xs i 0)
+  next i inside = let more = sum_by_more {X = ℕ} f xs i 0 inside in rw add-one at more
+
+  sum_of_front : (i : ℕ) → i ≤ length xs → sum_by f (take i xs) ≡ sum (λ k. f (get_or xs k 0)) i
+  unfolding sum
+  sum_of_front zero inside = refl
+  sum_of_front (suc i) inside =
+      omega (arith, next i (omega arith), sum_of_front i (omega arith))
+
+  pub sum_of_all : sum_by f xs ≡ sum (λ k. f (get_or xs k 0)) (length xs)
+  sum_of_all = ap (sum_by f) (sym (take-length xs)) ∙ sum_of_front (length xs) (omega arith)
+
+pub count_of_all : (p : ℕ → Bool) (xs : List ℕ) → count_by p xs ≡ tally (λ k. p (get_or xs k 0)) (length xs)
+count_of_all p xs =
+    sum_of_all (λ x. cond (p x) 1 0) xs
+    ∙ sum_same (λ k. cond (p (get_or xs k 0)) 1 0) (λ k. bit (p (get_or xs k 0))) (length xs)
+    (λ k inside. as_bit (p (get_or xs k 0)))
+    ∙ sum_tally (λ k. p (get_or xs k 0)) (length xs)
+  where
+    as_bit : (b : Bool) → cond b 1 0 ≡ bit b
+    as_bit true = refl
+    as_bit false = refl

@@ -12,11 +12,6 @@ largest = 4294967295
 abbrev pub most_product : ℕ
 most_product = largest * largest
 
--- a number of 32 bits, in 64
-pub record Widened (x r : ℕ) : Type 0 where
-  pub same : r ≡ x
-  pub low : r ≤ largest
-
 -- what two numbers of 32 bits come to, times each other
 pub record Multiplied (a b r : ℕ) : Type 0 where
   pub product : r ≡ a * b
@@ -67,7 +62,7 @@ Prioritised demands budget priorities =
 -- there is room for a whole part and a priority of each shuttle
 pub record Room (demands shares priorities : List ℕ) : Type 0 where
   pub as_many : length shares ≡ length demands
-  pub places : length priorities ≡ most_shuttles
+  pub places : length priorities ≡ length demands
 
 -- the whole parts in the shares, and the priorities beside them
 pub record LaidParts (demands : List ℕ) (budget : ℕ) (shares priorities : List ℕ) : Type 0 where

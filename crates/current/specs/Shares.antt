@@ -1,15 +1,13 @@
 -- How a budget of current is split among shuttles: document 02, C-19. All amounts are in mA, and a shuttle's number is
 -- its place in the list, from 0 on.
 use Rattle.std.specs.Prelude.{ℕ, ◌+◌, ◌-◌, ◌*◌, ◌/◌, ◌%◌, ◌≡◌}
-use Rattle.std.specs.Prelude.{Bool, cond, ◌&&◌, ◌||◌, List, leb, ltb, eqb, length, get_or}
-use Rattle.wire.specs.Outcome.{Outcome, accepted, refused, require, verdict, value_or}
+use Rattle.std.specs.Prelude.{Bool, cond, ◌&&◌, ◌||◌, List, leb, ltb, eqb, length, get_or, Result}
+use Rattle.wire.specs.Outcome.{Outcome, accepted, require, verdict, value_or, outcome_of}
 use Rattle.wire.specs.Below.{every_below, table}
 use Rattle.ballot.specs.Count.{bit, tally}
 use Rattle.current.specs.Sums.{sum}
 use Rattle.current.specs.declared.SplitRefusal.{SplitRefusal}
 use Rattle.current.specs.declared.SplitRefusal.TheVariants.{Count, Amount}
-use Rattle.current.specs.declared.Splitting.{Splitting}
-use Rattle.current.specs.declared.Splitting.TheVariants.{Accepted, Refused}
 
 -- 02: "1 to 64 shuttle demands of 0 to 100,000 mA and a budget of 0 to 1,000,000 mA"
 abbrev pub most_shuttles : ℕ
@@ -87,12 +85,11 @@ split_number Count = 18
 split_number Amount = 19
 
 -- what an answer of `split` says in 02's terms
-abbrev pub split_answer : Splitting → Outcome (Unit {0})
-split_answer Accepted = accepted tt
-split_answer (Refused why) = refused (split_number why)
+abbrev pub split_answer : Result (Unit {0}) SplitRefusal → Outcome (Unit {0})
+split_answer answer = outcome_of split_number answer
 
 -- What splitting answers, and what stands in the share buffer then: the shares, or what stood there before.
-pub record SplitInto (demands : List ℕ) (budget : ℕ) (shares : List ℕ) (answer : Splitting) (shares' : List ℕ) :
-    Type 0 where
+pub record SplitInto (demands : List ℕ) (budget : ℕ) (shares : List ℕ) (answer : Result (Unit {0}) SplitRefusal)
+    (shares' : List ℕ) : Type 0 where
   pub answered : split_answer answer ≡ verdict (split_of demands budget (length shares))
   pub left : shares' ≡ value_or shares (split_of demands budget (length shares))

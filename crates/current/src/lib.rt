@@ -2,10 +2,10 @@
 // shares for any demands. All amounts are in mA.
 #![tactic(auto)]
 
-ghost use Rattle.std.specs.Prelude.{◌≡◌, ◌≤◌, ◌<◌, ltb, length};
+ghost use Rattle.std.specs.Prelude.{◌≡◌, ◌≤◌, ◌<◌, length};
 ghost use Rattle.wire.specs.Outcome.{verdict};
 ghost use Rattle.wire.specs.Below.{table};
-ghost use Rattle.ballot.specs.Promises.{OneIf, Counted};
+ghost use Rattle.ballot.specs.Promises.{Counted};
 ghost use Rattle.current.specs.Shares.{
   most_shuttles,
   total,
@@ -17,7 +17,6 @@ ghost use Rattle.current.specs.Shares.{
   SplitInto,
 };
 ghost use Rattle.current.specs.Promises.{
-  Widened,
   Multiplied,
   most_product,
   Divided,
@@ -44,82 +43,65 @@ pub const MOST_BUDGET: u32 = 1000000;
 const STEP: u64 = MOST_SHUTTLES as u64;
 
 // Why a split is turned down; `split_number` in specs/Shares.antt has 02's numbers.
-#[derive(Clone, Copy)]
+#[derive(Clone, Copy, PartialEq, Eq, Debug)]
 pub enum SplitRefusal {
     Count,
     Amount,
 }
 
-#[derive(Clone, Copy)]
-pub enum Splitting {
-    Accepted,
-    Refused(SplitRefusal),
-}
-
 // A demand's part of the budget: rounded down, and what the division leaves.
-#[derive(Clone, Copy)]
+#[derive(Clone, Copy, PartialEq, Eq, Debug)]
 struct Part {
     whole: u64,
     rest: u64,
 }
 
+// The demands and the budget stay two parameters: with both in one struct each clause below would reach through it, as
+// in `asked.now.demands.now`, and be no plainer.
+
 // As many shares as demands, and no more than there may be.
 fn is_count(count: usize, room: usize) -> bool
     ensures { result ≡ right_count count room }
 {
-    (1 <= count) & (count <= MOST_SHUTTLES) & (room == count)
+    (1..=MOST_SHUTTLES).contains(&count) && room == count
 }
 
-// Every amount is tested, with no early end: so the compiler tests several at once.
+// `all` would end at the first demand that is too large, and so test one at a time; as it is the compiler tests several
+// at once.
 fn is_in_range(demands: &[u32], budget: u32) -> bool
     ensures { result ≡ in_range demands.now budget }
 {
-    let mut good = true;
-    let mut i: usize = 0;
-    while i < demands.len() {
-        good = (demands[i] <= MOST_DEMAND) & good;
-        i = i + 1;
-    }
-    good & (budget <= MOST_BUDGET)
+    demands.iter().fold(
+        budget <= MOST_BUDGET,
+        |good, &demand| good & (demand <= MOST_DEMAND),
+    )
 }
 
 // Whether a split is accepted. The count comes first, so that no more than so many demands are ever looked at.
-fn judge(demands: &[u32], budget: u32, room: usize) -> Splitting
+fn judge(demands: &[u32], budget: u32, room: usize) -> Result<(), SplitRefusal>
     ensures { split_answer result ≡ verdict (split_of demands.now budget room) }
 {
-    if is_count(demands.len(), room) {
-        if is_in_range(demands, budget) {
-            return Splitting::Accepted;
-        }
-        return Splitting::Refused(SplitRefusal::Amount);
+    if !is_count(demands.len(), room) {
+        return Err(SplitRefusal::Count);
     }
-    Splitting::Refused(SplitRefusal::Count)
+    if !is_in_range(demands, budget) {
+        return Err(SplitRefusal::Amount);
+    }
+    Ok(())
 }
 
 // Sums and products pass 32 bits.
-fn wide(x: u32) -> u64
-    ensures { Widened x result }
-{
-    x as u64
-}
-
 fn total(amounts: &[u32]) -> u64
     requires { length amounts.now ≤ most_shuttles }
     ensures { result ≡ total amounts.now }
 {
-    let mut sum: u64 = 0;
-    let mut i: usize = 0;
-    while i < amounts.len() {
-        sum = sum + wide(amounts[i]);
-        i = i + 1;
-    }
-    sum
+    amounts.iter().map(|&amount| u64::from(amount)).sum()
 }
 
 fn product(a: u32, b: u32) -> u64
     ensures { Multiplied a b result }
 {
-    wide(a) * wide(b)
+    u64::from(a) * u64::from(b)
 }
 
 // The part of a demand whose product with the budget this is.
@@ -143,66 +125,37 @@ fn priority(rest: u64, i: usize) -> u32
 }
 
 // Lays the whole parts into the shares, and the priorities beside them: one division for each demand gives both.
-fn lay_parts(
-    demands: &[u32],
-    budget: u32,
-    all: u64,
-    shares: &mut [u32],
-    priorities: &mut [u32; MOST_SHUTTLES],
-)
+fn lay_parts(demands: &[u32], budget: u32, all: u64, shares: &mut [u32], priorities: &mut [u32])
     requires scarce { Scarce demands.now budget all }
     requires room { Room demands.now shares.old priorities.old }
     ensures { LaidParts demands.now budget shares.new priorities.new }
 {
-    let mut i: usize = 0;
-    while i < demands.len() {
-        let part = part_of(product(demands[i], budget), all);
+    for (i, &demand) in demands.iter().enumerate() {
+        let part = part_of(product(demand, budget), all);
         shares[i] = part.whole as u32;
         priorities[i] = priority(part.rest, i);
-        i = i + 1;
     }
 }
 
-fn one_if(test: bool) -> u32
-    ensures { OneIf test result }
+// How many go before the one with this priority. It counts in 32 bits, as the priorities have: so the compiler counts
+// several at once, which `count` in 64 bits does not.
+fn count_above(priorities: &[u32], own: u32) -> u32
+    requires { length priorities.now ≤ most_shuttles }
+    ensures { Counted (is_above priorities.now own) (length priorities.now) result }
 {
-    if test { 1 } else { 0 }
-}
-
-// How many of the first n go before the one with this priority. It counts in 32 bits, as the priorities have: so the
-// compiler counts several at once.
-fn count_above(priorities: &[u32; MOST_SHUTTLES], n: usize, own: u32) -> u32
-    requires { n ≤ most_shuttles }
-    ensures { Counted (is_above priorities.now own) n result }
-{
-    let mut count: u32 = 0;
-    let mut j: usize = 0;
-    while j < n {
-        count = count + one_if(own < priorities[j]);
-        j = j + 1;
-    }
-    count
-}
-
-// What a shuttle gets of the mA left over, where so many go before it.
-fn extra(rank: u32, left: u32) -> u32
-    ensures { OneIf (ltb rank left) result }
-{
-    one_if(rank < left)
+    priorities.iter().map(|&other| u32::from(own < other)).sum()
 }
 
 // Gives the mA left over out, one each.
-fn give_out(priorities: &[u32; MOST_SHUTTLES], left: u32, shares: &mut [u32])
-    requires { Small shares.old }
+fn give_out(priorities: &[u32], left: u32, shares: &mut [u32])
+    requires small { Small shares.old }
+    requires room { length priorities.now ≡ length shares.old }
     ensures { shares.new
         ≡ table (with_extra priorities.now left shares.old) (length shares.old) }
 {
-    let n = shares.len();
-    let mut i: usize = 0;
-    while i < n {
-        let rank = count_above(priorities, n, priorities[i]);
-        shares[i] = shares[i] + extra(rank, left);
-        i = i + 1;
+    for (i, share) in shares.iter_mut().enumerate() {
+        let rank = count_above(priorities, priorities[i]);
+        *share += u32::from(rank < left);
     }
 }
 
@@ -212,21 +165,21 @@ fn share_out(demands: &[u32], budget: u32, all: u64, shares: &mut [u32])
     requires shares_len { length shares.old ≡ length demands.now }
     ensures { shares.new ≡ shares_of demands.now budget }
 {
-    let mut priorities = [0u32; MOST_SHUTTLES];
-    lay_parts(demands, budget, all, shares, &mut priorities);
-    let left = wide(budget) - total(shares);
-    give_out(&priorities, left as u32, shares);
+    let mut room = [0; MOST_SHUTTLES];
+    let priorities = &mut room[..demands.len()];
+    lay_parts(demands, budget, all, shares, priorities);
+    let left = u64::from(budget) - total(shares);
+    give_out(priorities, left as u32, shares);
 }
 
-// The shares where it is enough.
+// The shares where it is enough. Not `copy_from_slice`: for slices of any length that is a call of `memmove`, and the
+// archive is to need no function of the C library but `memcpy` and `memset` (docs/LINKING.md).
 fn copy(demands: &[u32], shares: &mut [u32])
     requires { length shares.old ≡ length demands.now }
     ensures { shares.new ≡ demands.now }
 {
-    let mut i: usize = 0;
-    while i < demands.len() {
-        shares[i] = demands[i];
-        i = i + 1;
+    for (i, &demand) in demands.iter().enumerate() {
+        shares[i] = demand;
     }
 }
 
@@ -237,7 +190,7 @@ fn fill(demands: &[u32], budget: u32, shares: &mut [u32])
     ensures { shares.new ≡ shares_of demands.now budget }
 {
     let all = total(demands);
-    if all <= wide(budget) {
+    if all <= u64::from(budget) {
         copy(demands, shares);
     } else {
         share_out(demands, budget, all, shares);
@@ -245,15 +198,10 @@ fn fill(demands: &[u32], budget: u32, shares: &mut [u32])
 }
 
 // Splits the budget among the demands, into the lent shares: as many as there are demands. A refusal writes nothing.
-pub fn split(demands: &[u32], budget: u32, shares: &mut [u32]) -> Splitting
+pub fn split(demands: &[u32], budget: u32, shares: &mut [u32]) -> Result<(), SplitRefusal>
     ensures { SplitInto demands.now budget shares.old result shares.new }
 {
-    let answer = judge(demands, budget, shares.len());
-    match answer {
-        Splitting::Accepted => {
-            fill(demands, budget, shares);
-            Splitting::Accepted
-        }
-        Splitting::Refused(why) => Splitting::Refused(why),
-    }
+    judge(demands, budget, shares.len())?;
+    fill(demands, budget, shares);
+    Ok(())
 }

@@ -1,93 +1,51 @@
 -- Cuts and says that are noted: what a line tells that is one, and that the step from behind it is the step from it.
 use mathlib.Core.Path.{◌≡◌, refl, ap, sym, ◌∙◌}
-use mathlib.Core.Bool.{Bool, true, false, not, cond, ◌&&◌, true≢false}
+use mathlib.Core.Bool.{Bool, true, false, cond}
+use Rattle.std.specs.Prelude.{Option, Some, None}
 use mathlib.Core.List.{List}
 use Prim.Native.Nat.{ℕ, ◌+◌, ◌<◌, ◌≤◌}
 use native.Mathlib.Omega.{arith}
-use lib.ListN.{length, drop, get_or, set}
-use lib.Dec.{ltb, leb}
-use borrow.Author.Tests.{ltb-true}
-use Rattle.wire.specs.Sizes.{spent_phase}
-use Rattle.wire.proofs.Tests.{both_true}
-use Rattle.crew.specs.Parts.{most_nodes}
+use lib.ListN.{length, drop}
 use Rattle.script.specs.Lines.{newline}
 use Rattle.script.specs.Commands.{line_of}
 use Rattle.script.specs.declared.Note.{Note}
-use Rattle.script.specs.declared.Note.TheVariants.{Cut, Say}
 use Rattle.script.specs.declared.Command.TheVariants.{Note as Noted, Go}
-use Rattle.script.specs.declared.Line.{Line}
-use Rattle.script.specs.declared.Line.TheVariants.{Good, Bad}
-use Rattle.pending.specs.declared.Pending.{Pending}
+use Rattle.script.specs.declared.Command.{Command}
 use Rattle.aisle.specs.declared.Setup.{Setup}
-use Rattle.aisle.specs.Round.{nobody, is_in}
 use Rattle.drill.specs.declared.Cursor.{Cursor}
-use Rattle.drill.specs.declared.Noting.{Noting}
-use Rattle.drill.specs.declared.Noting.TheVariants.{Fit, Other}
-use Rattle.drill.specs.Lines.{stamp_fits, fits, receiver_of, with_note}
+use Rattle.drill.specs.Lines.{fits}
 use Rattle.drill.specs.Run.{on_good}
 use Rattle.drill.specs.Stepping.{lines_from, Turn, over_bad, pass_go, on_note, fits_at, behind_note, step_later}
-use Rattle.drill.specs.Promises.{Standing, noting_of, settled, passing, finishing}
-use Rattle.drill.proofs.Pieces.{Found, ended, unended, split_some, here, here_end}
+use Rattle.drill.specs.Promises.{Standing, here, note_of, passing, finishing}
+use Rattle.drill.proofs.Pieces.{Found, ended, unended, split_some, here_end}
 use Rattle.drill.proofs.Places.{behind_stands}
 
--- a cut or a say that fits is for a node of the crew
-receiver_small : (setup : Setup) (phase round : ℕ) (note : Note) → fits setup phase round note ≡ true
-    → receiver_of note < setup.crew.n
-receiver_small setup phase round (Cut sender receiver) fit =
-    ltb-true _ _ (both_true (ltb sender setup.crew.n) (ltb receiver setup.crew.n) fit).1
-receiver_small setup phase round (Say sender receiver plan stamp) fit =
-    let nodes : Bool = ltb sender setup.crew.n && ltb receiver setup.crew.n in
-    let planned : Bool = nodes && leb 1 plan in
-    let liar : Bool = planned && not (is_in setup.honest sender) in
-    let stamped : Bool = liar && stamp_fits round phase stamp in
-    let unspent = both_true stamped (ltb phase spent_phase) fit in
-    let stamp-fits = both_true liar (stamp_fits round phase stamp) unspent.0 in
-    let lies = both_true planned (not (is_in setup.honest sender)) stamp-fits.0 in
-    let some-plan = both_true nodes (leb 1 plan) lies.0 in
-    ltb-true _ _ (both_true (ltb sender setup.crew.n) (ltb receiver setup.crew.n) some-plan.0).1
-
-abbrev is_other : Noting → Bool
-is_other (Fit note) = false
-is_other Other = true
-
-abbrev note_in : Note → Noting → Note
-note_in other (Fit note) = note
-note_in other Other = other
-
 -- a line that is to be noted: it has a cut or a say, which fits
-pub record Waits (setup : Setup) (phase round : ℕ) (line : Line) (note : Note) : Type 0 where
-  pub read : line ≡ Good (Noted note)
+pub record Waits (setup : Setup) (phase round : ℕ) (line : Option Command) (note : Note) : Type 0 where
+  pub read : line ≡ Some (Noted note)
   pub fit : fits setup phase round note ≡ true
 
 module _ (setup : Setup) (phase round : ℕ) where
   fitting : (note found : Note) (good : Bool) → fits setup phase round found ≡ good
-      → cond good (Fit found) Other ≡ Fit note → Waits setup phase round (Good (Noted found)) note
+      → cond good (Some found) None ≡ Some note → Waits setup phase round (Some (Noted found)) note
   fitting note found true fit e =
-      let same : found ≡ note = ap (note_in note) e in
-      record { read = ap (λ n. Good (Noted n)) same; fit = rw (← same) fit }
-  fitting note found false fit e = absurd (true≢false (ap is_other e))
+      let same : found ≡ note = cc e in
+      record { read = ap (λ (n : Note). Some (Noted n)) same; fit = rw (← same) fit }
+  fitting note found false fit e = cc e
 
-  noting_note : (line : Line) (note : Note) → noting_of setup phase round line ≡ Fit note
+  noted_note : (line : Option Command) (note : Note) → note_of setup phase round line ≡ Some note
       → Waits setup phase round line note
-  noting_note (Good (Noted found)) note e = fitting note found (fits setup phase round found) refl e
-  noting_note (Good Go) note e = absurd (true≢false (ap is_other e))
-  noting_note Bad note e = absurd (true≢false (ap is_other e))
+  noted_note (Some (Noted found)) note e = fitting note found (fits setup phase round found) refl e
+  noted_note (Some Go) note e = cc e
+  noted_note None note e = cc e
 
--- what is noted is for a node of the crew
-pub for_a_node : (setup : Setup) (phase round : ℕ) (line : Line) (note : Note) (receiver : ℕ)
-    → noting_of setup phase round line ≡ Fit note → receiver ≡ receiver_of note → setup.crew.n ≤ most_nodes
-    → receiver < most_nodes
-for_a_node setup phase round line note receiver told for small =
-    let fit = (noting_note setup phase round line note told).fit in
-    omega (arith, receiver_small setup phase round note fit)
-
--- a line where a drill stands, as one that is noted or another
-abbrev noting_at : Cursor → Line → Noting
-noting_at c = noting_of c.state.setup c.state.moment.phase c.state.moment.round
+-- what is noted of a line where a drill stands
+abbrev noted_at : Cursor → Option Command → Option Note
+noted_at c = note_of c.state.setup c.state.moment.phase c.state.moment.round
 
 module _ (c : Cursor) (w : List ℕ) (ws : List (List ℕ)) where
   -- what a step does from an ended line on
-  abbrev pub step_line : Line → Turn
+  abbrev pub step_line : Option Command → Turn
   step_line line =
       on_good line
       (λ command.
@@ -96,19 +54,19 @@ module _ (c : Cursor) (w : List ℕ) (ws : List (List ℕ)) where
       (pass_go c w))
       (over_bad c)
 
-  unfit : (note : Note) (good : Bool) → fits_at c note ≡ good → cond good (Fit note) Other ≡ Other
+  unfit : (note : Note) (good : Bool) → fits_at c note ≡ good → cond good (Some note) None ≡ None
       → cond good (step_later (behind_note c w note) ws) (over_bad c) ≡ over_bad c
-  unfit note true fit e = absurd (true≢false (sym (ap is_other e)))
+  unfit note true fit e = cc e
   unfit note false fit e = refl
 
   -- a line that is not noted is the last of its step
-  other_last : (line : Line) → noting_at c line ≡ Other → step_line line ≡ passing c w line
-  other_last (Good (Noted note)) e = unfit note (fits_at c note) refl e
-  other_last (Good Go) e = refl
-  other_last Bad e = refl
+  other_last : (line : Option Command) → noted_at c line ≡ None → step_line line ≡ passing c w line
+  other_last (Some (Noted note)) e = unfit note (fits_at c note) refl e
+  other_last (Some Go) e = refl
+  other_last None e = refl
 
   -- one that is noted is not
-  note_behind : (line : Line) (note : Note)
+  note_behind : (line : Option Command) (note : Note)
       → Waits c.state.setup c.state.moment.phase c.state.moment.round line note
       → step_line line ≡ step_later (behind_note c w note) ws
   note_behind line note is = rw (is.read, is.fit)
@@ -127,45 +85,31 @@ module _ (c : Cursor) (input : List ℕ) (e : ℕ) (line : Found input c.at e) w
     abbrev behind : List (List ℕ)
     behind = lines_from input (e + 1)
 
-    pub other_finishes : noting_at c (line_of word) ≡ Other
+    pub other_finishes : noted_at c (line_of word) ≡ None
         → step_later c (lines_from input c.at) ≡ finishing c (lines_from input c.at)
     unfolding step_later finishing
     other_finishes other =
         rw (ended line before, split_some newline (drop (e + 1) input)) (other_last c word behind (line_of word) other)
 
-    pub note_goes_on : (note : Note) → noting_at c (line_of word) ≡ Fit note
+    pub note_goes_on : (note : Note) → noted_at c (line_of word) ≡ Some note
         → step_later c (lines_from input c.at) ≡ step_later (behind_note c word note) behind
     unfolding step_later
     note_goes_on note is =
         rw (ended line before, split_some newline (drop (e + 1) input))
-        (note_behind c word behind (line_of word) note (noting_note _ _ _ (line_of word) note is))
+        (note_behind c word behind (line_of word) note (noted_note _ _ _ (line_of word) note is))
 
 -- the drill goes on behind a line that is noted
-module _ (c : Cursor) (input : List ℕ) (at line e : ℕ) (pending : List Pending) (found : Found input at e)
-    (before : e < length input) (note : Note) (receiver : ℕ) (more : Pending) where
-  abbrev now : Cursor
-  now = settled c at line pending
-
+module _ (c : Cursor) (input : List ℕ) (e : ℕ) (found : Found input c.at e) (before : e < length input) (note : Note)
+    (told : noted_at c (line_of (here input c.at e)) ≡ Some note) where
   abbrev next : Cursor
-  next = settled c (e + 1) (line + 1) (set pending receiver more)
+  next = behind_note c (here input c.at e) note
 
-  pub record Notes : Type 0 where
-    pub told : noting_at c (line_of (here input at e)) ≡ Fit note
-    pub for : receiver ≡ receiver_of note
-    pub waiting : more ≡ with_note (get_or pending receiver nobody) note
+  pub goes_on : step_later c (lines_from input c.at) ≡ step_later next (lines_from input next.at)
+  goes_on =
+      note_goes_on c input e found before note told
+      ∙ ap (λ (at : ℕ). step_later next (lines_from input at)) (sym (here_end found))
 
-  module _ (notes : Notes) where
-    same_place : behind_note now (here input at e) note ≡ next
-    same_place = rw (here_end found, ← notes.for, ← notes.waiting)
-
-    pub goes_on : step_later now (lines_from input at) ≡ step_later next (lines_from input (e + 1))
-    goes_on =
-        note_goes_on now input e found before note notes.told
-        ∙ ap (λ d. step_later d (lines_from input (e + 1))) same_place
-
-    pub goes_standing : Standing input now → Standing input next
-    goes_standing facts =
-        let inside : at + length (here input at e) + 1 ≤ length input = rw (here_end found) (omega arith) in
-        rw same_place at
-        (behind_stands input now facts (here input at e) (behind_note now (here input at e) note).state inside
-        facts.small)
+  pub goes_standing : Standing input c → Standing input next
+  goes_standing facts =
+      let inside : c.at + length (here input c.at e) + 1 ≤ length input = rw (here_end found) (omega arith) in
+      behind_stands input c facts (here input c.at e) next.state inside facts.small

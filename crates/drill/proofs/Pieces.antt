@@ -4,7 +4,7 @@ use mathlib.Core.Bool.{Bool, true, false, cond, true≢false}
 use mathlib.Core.List.{List, [], ◌∷◌, head-eq_of_cons-eq, tail-eq_of_cons-eq}
 use Prim.Native.Nat.{ℕ, ◌+◌, ◌-◌, ◌<◌, ◌≤◌}
 use native.Mathlib.Omega.{arith}
-use lib.ListN.{length, take, drop, length-drop}
+use lib.ListN.{length, drop, length-drop}
 use lib.Seq.{length-take-le}
 use lib.Dec.{ltb, eqb}
 use borrow.Author.Tests.{ltb-true, ltb-false}
@@ -12,6 +12,7 @@ use Rattle.script.specs.Lines.{newline, until, split, onto}
 use Rattle.script.proofs.Words.{piece_within, piece_last, piece_first}
 use Rattle.drill.specs.Run.{is_last}
 use Rattle.drill.specs.Stepping.{lines_from}
+use Rattle.drill.specs.Promises.{here}
 
 onto_some : (x : ℕ) (ws : List (List ℕ)) → is_last (onto x ws) ≡ false
 unfolding onto
@@ -27,10 +28,6 @@ pub split_some : (b : ℕ) (l : List ℕ) → is_last (split b l) ≡ false
 unfolding split
 split_some b [] = refl
 split_some b (x ∷ l) = some_go (eqb x b) x (split b l)
-
--- what stands from one place to another
-abbrev pub here : List ℕ → ℕ → ℕ → List ℕ
-here input at e = take (e - at) (drop at input)
 
 -- a line from `at` to e, its byte 10, or an unended one
 pub record Found (input : List ℕ) (at e : ℕ) : Type 0 where

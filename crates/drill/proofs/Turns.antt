@@ -27,18 +27,18 @@ use Rattle.drill.specs.Stepping.{
   step_later,
   step_of,
 }
-use Rattle.drill.specs.Promises.{Standing, passing, finishing, step_head}
-use Rattle.drill.proofs.Pieces.{Found, ended, unended, within, split_some, here, here_long}
+use Rattle.drill.specs.Promises.{Standing, here, passing, finishing, step_head}
+use Rattle.drill.proofs.Pieces.{Found, ended, unended, within, split_some, here_long}
 use Rattle.drill.proofs.Places.{standing_test}
 
 -- a step that prints nothing
 pub silent : {next got : Cursor} {buffer : List ℕ} → got ≡ next
-    → Stepped (record { text = []; next = next }) buffer buffer (record { next = got; size = 0 })
+    → Stepped (record { text = []; next = next }) got buffer buffer 0
 silent e = record { next = e; size = refl; left = refl; within = omega arith }
 
 -- one that prints a line
 pub printed : {next got : Cursor} {line buffer buffer' : List ℕ} {size : ℕ} → Laid buffer line buffer' size
-    → got ≡ next → Stepped (record { text = line; next = next }) buffer buffer' (record { next = got; size = size })
+    → got ≡ next → Stepped (record { text = line; next = next }) got buffer buffer' size
 printed laid e = record { next = e; size = laid.size; left = laid.left; within = laid.within }
 
 module _ (c : Cursor) (input : List ℕ) (e : ℕ) (line : Found input c.at e) where

@@ -3,6 +3,7 @@
 use mathlib.Core.Path.{◌≡◌, refl, ap, sym, ◌∙◌}
 use mathlib.Core.Bool.{Bool, true, false, cond}
 use mathlib.Core.List.{List, [], ◌∷◌, ◌++◌, append-nil}
+use Rattle.std.specs.Prelude.{Option, Some, None}
 use Prim.Native.Nat.{ℕ, zero, suc, ◌+◌, ◌<◌, ◌≤◌}
 use native.Mathlib.Omega.{arith}
 use lib.ListN.{length}
@@ -19,17 +20,12 @@ use Rattle.script.specs.Fields.{numbers_on}
 use Rattle.script.specs.Commands.{line_of, crew_line_of, plans_of}
 use Rattle.script.specs.declared.Note.{Note}
 use Rattle.script.specs.declared.Command.TheVariants.{Note as Noted, Go}
-use Rattle.script.specs.declared.Line.{Line}
-use Rattle.script.specs.declared.Line.TheVariants.{Good, Bad}
-use Rattle.script.specs.declared.Plans.{Plans}
-use Rattle.script.specs.declared.CrewLine.{CrewLine}
-use Rattle.script.specs.declared.CrewLine.TheVariants.{Crew as CrewRead, NoCrew}
+use Rattle.script.specs.declared.Command.{Command}
 use Rattle.print.specs.Texts.{bad_line, end_line, long_line}
 use Rattle.aisle.specs.declared.State.{State}
 use Rattle.aisle.specs.Round.{go_of}
 use Rattle.aisle.specs.Start.{begun_of}
 use Rattle.drill.specs.declared.Cursor.{Cursor}
-use Rattle.drill.specs.declared.Advance.{Advance}
 use Rattle.drill.specs.Lines.{allowed, after, text, go_text}
 use Rattle.drill.specs.Run.{most_bytes, is_last, on_good, follow, third, second, crewed, first, drill_of}
 use Rattle.drill.specs.Stepping.{
@@ -46,6 +42,7 @@ use Rattle.drill.specs.Stepping.{
   behind_note,
   fits_at,
   pass_crew,
+  pass_plans,
   step_first,
   step_second,
   step_later,
@@ -113,7 +110,7 @@ right_before input c d come turn less right = record { splits = right.splits; ah
     go (further more stands-next) = further (omega arith) stands-next
 
 -- what an ended line from line 3 on prints, and those after it
-abbrev follow_line : Cursor → List (List ℕ) → Line → List ℕ
+abbrev follow_line : Cursor → List (List ℕ) → Option Command → List ℕ
 follow_line c ws line =
     let setup = c.state.setup in
     let m = c.state.moment in
@@ -166,10 +163,11 @@ module _ (input : List ℕ) (c : Cursor) (facts : Standing input c) (late : 3 �
         (sym (onward_later (behind c w state) ws (omega arith)))
     go_right false = over_right input c (bad_line c.line)
 
-    line_right : LaterRight input ws → (line : Line) → Right input c (follow_line c ws line) (step_line c w ws line)
-    line_right ih (Good (Noted note)) = note_right ih note (fits_at c note)
-    line_right ih (Good Go) = go_right (ltb c.state.moment.phase spent_phase)
-    line_right ih Bad = over_right input c (bad_line c.line)
+    line_right : LaterRight input ws → (line : Option Command)
+        → Right input c (follow_line c ws line) (step_line c w ws line)
+    line_right ih (Some (Noted note)) = note_right ih note (fits_at c note)
+    line_right ih (Some Go) = go_right (ltb c.state.moment.phase spent_phase)
+    line_right ih None = over_right input c (bad_line c.line)
 
   piece_right : LaterRight input ws → (last : Bool) → is_last ws ≡ last
       → Right input c
@@ -200,8 +198,8 @@ module _ (input : List ℕ) (c : Cursor) (facts : Standing input c) where
 
   module _ (one : c.line ≡ 1) where
     crew_right : (w : List ℕ) (ws : List (List ℕ)) → lines_from input c.at ≡ w ∷ ws → is_last ws ≡ false
-        → (line : CrewLine) → Right input c (crewed line ws) (pass_crew c w line)
-    crew_right w ws lines more (CrewRead crew) = go (is_accepted (accept_of crew)) refl
+        → (line : Option Crew) → Right input c (crewed line ws) (pass_crew c w line)
+    crew_right w ws lines more (Some crew) = go (is_accepted (accept_of crew)) refl
       where
         go : (good : Bool) → is_accepted (accept_of crew) ≡ good
             → Right input c (cond good (second crew ws) (bad_line 1))
@@ -210,7 +208,7 @@ module _ (input : List ℕ) (c : Cursor) (facts : Standing input c) where
             passed_right input c facts w ws lines more (begun_of crew unmanned)
             (begun_small crew unmanned (crew_small crew is)) [] (second crew ws) (second_onward c w ws crew one)
         go false is = bad_right 1 one
-    crew_right w ws lines more NoCrew = bad_right 1 one
+    crew_right w ws lines more None = bad_right 1 one
 
     first_go : (w : List ℕ) (ws : List (List ℕ)) → lines_from input c.at ≡ w ∷ ws → (last : Bool) → is_last ws ≡ last
         → Right input c
@@ -226,25 +224,24 @@ module _ (input : List ℕ) (c : Cursor) (facts : Standing input c) where
 
   module _ (two : c.line ≡ 2) where
     plans_right : (w : List ℕ) (ws : List (List ℕ)) → lines_from input c.at ≡ w ∷ ws → is_last ws ≡ false
-        → (plans : List ℕ) (good : Bool)
-        → let begun = begun_of c.state.setup.crew plans in
-        Right input c
-        (cond good (third begun ws) (bad_line 2))
-        (cond good (record { text = []; next = behind c w begun }) (over_bad c))
-    plans_right w ws lines more plans true =
+        → (line : Option (List ℕ))
+        → Right input c
+        (on_good line (λ plans. third (begun_of c.state.setup.crew plans) ws) (bad_line 2))
+        (pass_plans c w line)
+    plans_right w ws lines more (Some plans) =
         let crew = c.state.setup.crew in
         passed_right input c facts w ws lines more (begun_of crew plans) (begun_small crew plans facts.small) []
         (third (begun_of crew plans) ws) (third_onward c w ws (begun_of crew plans) two)
-    plans_right w ws lines more plans false = bad_right 2 two
+    plans_right w ws lines more None = bad_right 2 two
 
     second_go : (w : List ℕ) (ws : List (List ℕ)) → lines_from input c.at ≡ w ∷ ws → (last : Bool) → is_last ws ≡ last
-        → (line : Plans)
-        → let begun = begun_of c.state.setup.crew line.plans in
-        Right input c
-        (cond last (bad_line 2) (cond line.good (third begun ws) (bad_line 2)))
-        (cond last (over_bad c) (cond line.good (record { text = []; next = behind c w begun }) (over_bad c)))
+        → (line : Option (List ℕ))
+        → Right input c
+        (cond last (bad_line 2)
+        (on_good line (λ plans. third (begun_of c.state.setup.crew plans) ws) (bad_line 2)))
+        (cond last (over_bad c) (pass_plans c w line))
     second_go w ws lines true is line = bad_right 2 two
-    second_go w ws lines false is line = plans_right w ws lines is line.plans line.good
+    second_go w ws lines false is line = plans_right w ws lines is line
 
     second_right : (ws : List (List ℕ)) → lines_from input c.at ≡ ws
         → Right input c (second c.state.setup.crew ws) (step_second c ws)
@@ -291,8 +288,8 @@ module _ (input : List ℕ) (c : Cursor) where
   pub step_splits : rest input c ≡ (step_of input c).text ++ rest input (step_of input c).next
   step_splits = step_right.splits
 
-  pub stepped_from : {buffer buffer' : List ℕ} {step : Advance} → Stepped (step_of input c) buffer buffer' step
-      → SteppedFrom input c buffer buffer' step
+  pub stepped_from : {next : Cursor} {buffer buffer' : List ℕ} {r : ℕ} → Stepped (step_of input c) next buffer buffer' r
+      → SteppedFrom input c next buffer buffer' r
   stepped_from made = record { made = made; splits = rw made.next step_splits }
 
   -- behind a step the drill is over, or stands further on

@@ -1,23 +1,22 @@
 -- What the drill's functions require and promise that pass over a script's lines.
 -- Promises of private functions: no public contract cites this file.
-use Rattle.std.specs.Prelude.{◌≡◌, cond, List, [], ◌∷◌, ℕ, ◌+◌, ◌≤◌, length, eqb}
+use Rattle.std.specs.Prelude.{◌≡◌, cond, List, [], ◌∷◌, ℕ, ◌+◌, ◌-◌, ◌≤◌, ◌<◌, length, take, drop, eqb}
+use Rattle.std.specs.Prelude.{Option, Some, None}
 use Rattle.crew.specs.Parts.{most_nodes}
 use Rattle.script.specs.Commands.{line_of}
-use Rattle.script.specs.declared.Line.{Line}
+use Rattle.script.specs.Lines.{newline, until}
+use Rattle.script.specs.declared.Note.{Note}
+use Rattle.script.specs.declared.Command.{Command}
 use Rattle.print.specs.Texts.{end_line}
-use Rattle.pending.specs.declared.Pending.{Pending}
 use Rattle.aisle.specs.declared.Setup.{Setup}
 use Rattle.drill.specs.declared.Cursor.{Cursor}
-use Rattle.drill.specs.declared.Noting.{Noting}
-use Rattle.drill.specs.declared.Noting.TheVariants.{Fit, Other}
-use Rattle.drill.specs.Lines.{fits, holding}
+use Rattle.drill.specs.Lines.{fits}
 use Rattle.drill.specs.Run.{most_bytes, is_last, on_good}
 use Rattle.drill.specs.Stepping.{
   lines_from,
   Turn,
   over,
   over_bad,
-  moved,
   on_note,
   pass_go,
   step_first,
@@ -33,18 +32,24 @@ pub record Standing (input : List ℕ) (c : Cursor) : Type 0 where
   pub small : c.state.setup.crew.n ≤ most_nodes
   pub short : length input ≤ most_bytes
 
--- a line as a cut or a say that can wait for the coming round, or anything else
-abbrev pub noting_of : Setup → ℕ → ℕ → Line → Noting
-noting_of setup phase round line =
-    on_good line (λ command. on_note command (λ note. cond (fits setup phase round note) (Fit note) Other) Other) Other
+-- the bytes from one place to another
+abbrev pub here : List ℕ → ℕ → ℕ → List ℕ
+here input at end = take (end - at) (drop at input)
 
--- a drill at another line, with other cuts and says
-abbrev pub settled : Cursor → ℕ → ℕ → List Pending → Cursor
-settled c at line pending =
-    record { at = at; line = line; state = moved c.state (holding c.state.moment pending) }
+-- a line that begins at a place, without the byte 10 that ends it
+pub record LineAt (input : List ℕ) (at : ℕ) (line : List ℕ) : Type 0 where
+  pub end : ℕ
+  pub found : end ≡ at + until newline (drop at input)
+  pub before : end < length input
+  pub bytes : line ≡ here input at end
+
+-- the cut or the say of a line, where it can wait for the coming round
+abbrev pub note_of : Setup → ℕ → ℕ → Option Command → Option Note
+note_of setup phase round line =
+    on_good line (λ command. on_note command (λ note. cond (fits setup phase round note) (Some note) None) None) None
 
 -- the command at which a step stops: a go, or one that cannot be done
-abbrev pub passing : Cursor → List ℕ → Line → Turn
+abbrev pub passing : Cursor → List ℕ → Option Command → Turn
 passing c w line = on_good line (λ command. on_note command (λ note. over_bad c) (pass_go c w)) (over_bad c)
 
 -- what a step does once no cut or say that can wait comes first

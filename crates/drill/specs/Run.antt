@@ -1,16 +1,12 @@
 -- What a whole script prints, from its bytes to the output's bytes: document 01, 'The drill'.
 use Rattle.std.specs.Prelude.{ℕ, ◌+◌, Bool, true, false, cond, List, [], ◌∷◌, ◌++◌, length, ltb, eqb}
+use Rattle.std.specs.Prelude.{Option, Some, None}
 use Rattle.wire.specs.Outcome.{is_accepted}
 use Rattle.crew.specs.declared.Crew.{Crew}
 use Rattle.crew.specs.Acceptance.{accept_of}
 use Rattle.script.specs.Lines.{newline, split}
 use Rattle.script.specs.Fields.{numbers_on}
 use Rattle.script.specs.Commands.{line_of, crew_line_of, plans_of}
-use Rattle.script.specs.declared.Command.{Command}
-use Rattle.script.specs.declared.Line.{Line}
-use Rattle.script.specs.declared.Line.TheVariants.{Good, Bad}
-use Rattle.script.specs.declared.CrewLine.{CrewLine}
-use Rattle.script.specs.declared.CrewLine.TheVariants.{Crew as CrewRead, NoCrew}
 use Rattle.print.specs.Texts.{bad_line, end_line, long_line}
 use Rattle.aisle.specs.declared.Setup.{Setup}
 use Rattle.aisle.specs.declared.Moment.{Moment}
@@ -27,10 +23,10 @@ abbrev pub is_last : List (List ℕ) → Bool
 is_last [] = true
 is_last (w ∷ ws) = false
 
--- a line by what it asks for, or bad
-abbrev pub on_good : {A : Type 0} → Line → (Command → A) → A → A
-on_good (Good command) good bad = good command
-on_good Bad good bad = bad
+-- a line by what it says, or bad
+abbrev pub on_good : {A B : Type 0} → Option B → (B → A) → A → A
+on_good (Some said) good bad = good said
+on_good None good bad = bad
 
 -- The lines from number l on.
 -- 01: "A bad line L (also a missing, empty or unended one ..) prints `bad L` and stops, without `end`."
@@ -54,13 +50,12 @@ third state = follow state.setup state.moment 3
 unfoldable pub second : Crew → List (List ℕ) → List ℕ
 second crew [] = []
 second crew (w ∷ ws) =
-    let line = plans_of (numbers_on w) crew.n in
-    cond (is_last ws) (bad_line 2) (cond line.good (third (begun_of crew line.plans) ws) (bad_line 2))
+    cond (is_last ws) (bad_line 2)
+    (on_good (plans_of (numbers_on w) crew.n) (λ plans. third (begun_of crew plans) ws) (bad_line 2))
 
 -- the rest of a script by what its line 1 says
-abbrev pub crewed : CrewLine → List (List ℕ) → List ℕ
-crewed (CrewRead crew) ws = cond (is_accepted (accept_of crew)) (second crew ws) (bad_line 1)
-crewed NoCrew ws = bad_line 1
+abbrev pub crewed : Option Crew → List (List ℕ) → List ℕ
+crewed line ws = on_good line (λ crew. cond (is_accepted (accept_of crew)) (second crew ws) (bad_line 1)) (bad_line 1)
 
 unfoldable pub first : List (List ℕ) → List ℕ
 first [] = []

@@ -22,11 +22,13 @@ use Rattle.std.specs.Prelude.{
   leb,
   ltb,
   eqb,
+  Option,
 }
 use Rattle.std.proofs.lemmas.List.Edits.{sets}
 use Rattle.wire.specs.Outcome.{is_accepted}
 use Rattle.wire.specs.Sizes.{spent_phase}
 use Rattle.crew.specs.Parts.{most_nodes, blank_crew}
+use Rattle.crew.specs.declared.Crew.{Crew}
 use Rattle.crew.specs.Acceptance.{accept_of}
 use Rattle.script.specs.Lines.{newline, split}
 use Rattle.script.specs.Fields.{numbers_on}
@@ -34,16 +36,12 @@ use Rattle.script.specs.Commands.{line_of, crew_line_of, plans_of}
 use Rattle.script.specs.declared.Note.{Note}
 use Rattle.script.specs.declared.Command.{Command}
 use Rattle.script.specs.declared.Command.TheVariants.{Note as Noted, Go}
-use Rattle.script.specs.declared.Plans.{Plans}
-use Rattle.script.specs.declared.CrewLine.{CrewLine}
-use Rattle.script.specs.declared.CrewLine.TheVariants.{Crew as CrewRead, NoCrew}
 use Rattle.print.specs.Texts.{line_most, bad_line, end_line, long_line}
 use Rattle.aisle.specs.declared.Moment.{Moment}
 use Rattle.aisle.specs.declared.State.{State}
 use Rattle.aisle.specs.Round.{go_of}
 use Rattle.aisle.specs.Start.{begun_of}
 use Rattle.drill.specs.declared.Cursor.{Cursor}
-use Rattle.drill.specs.declared.Advance.{Advance}
 use Rattle.drill.specs.Lines.{fits, noted, holding, go_text}
 use Rattle.drill.specs.Run.{most_bytes, is_last, on_good, follow, second, first}
 
@@ -107,22 +105,24 @@ abbrev pub moved : State → Moment → State
 moved state m = record { setup = state.setup; moment = m }
 
 -- a step over line 1
-abbrev pub pass_crew : Cursor → List ℕ → CrewLine → Turn
-pass_crew c line (CrewRead crew) =
+abbrev pub pass_crew : Cursor → List ℕ → Option Crew → Turn
+pass_crew c line read =
+    on_good read
+    (λ crew.
     cond (is_accepted (accept_of crew))
     (record { text = []; next = behind c line (begun_of crew unmanned) })
+    (over_bad c))
     (over_bad c)
-pass_crew c line NoCrew = over_bad c
 
 unfoldable pub step_first : Cursor → List (List ℕ) → Turn
 step_first c [] = over [] c
 step_first c (w ∷ ws) = cond (is_last ws) (over_bad c) (pass_crew c w (crew_line_of (numbers_on w)))
 
 -- a step over line 2
-abbrev pub pass_plans : Cursor → List ℕ → Plans → Turn
+abbrev pub pass_plans : Cursor → List ℕ → Option (List ℕ) → Turn
 pass_plans c line read =
-    cond read.good
-    (record { text = []; next = behind c line (begun_of c.state.setup.crew read.plans) })
+    on_good read
+    (λ plans. record { text = []; next = behind c line (begun_of c.state.setup.crew plans) })
     (over_bad c)
 
 unfoldable pub step_second : Cursor → List (List ℕ) → Turn
@@ -177,18 +177,18 @@ step_of input c =
     (cond (eqb c.line 2) (step_second c lines) (step_later c lines))))
     (over [] c)
 
--- A step is made: its text stands at the front of the lent buffer as far as that goes, and no other byte of it has
--- changed. No text is too long for a buffer of one line.
-pub record Stepped (turn : Turn) (buffer buffer' : List ℕ) (step : Advance) : Type 0 where
-  pub next : step.next ≡ turn.next
-  pub size : step.size ≡ length turn.text
+-- A step is made: the drill stands behind it, its text stands at the front of the lent buffer as far as that goes, and
+-- no other byte of it has changed; the answer is the text's size. No text is too long for a buffer of one line.
+pub record Stepped (turn : Turn) (c : Cursor) (buffer buffer' : List ℕ) (r : ℕ) : Type 0 where
+  pub next : c ≡ turn.next
+  pub size : r ≡ length turn.text
   pub left : buffer' ≡ sets buffer 0 turn.text
-  pub within : step.size ≤ line_most
+  pub within : r ≤ line_most
 
 -- The step from a cursor is made, and what is still to come splits: it is the step's text, and what is to come after.
-pub record SteppedFrom (input : List ℕ) (c : Cursor) (buffer buffer' : List ℕ) (step : Advance) : Type 0 where
-  pub made : Stepped (step_of input c) buffer buffer' step
-  pub splits : rest input c ≡ (step_of input c).text ++ rest input step.next
+pub record SteppedFrom (input : List ℕ) (c next : Cursor) (buffer buffer' : List ℕ) (r : ℕ) : Type 0 where
+  pub made : Stepped (step_of input c) next buffer buffer' r
+  pub splits : rest input c ≡ (step_of input c).text ++ rest input next
 
 -- the texts of the first k steps from a cursor, joined
 unfoldable pub texts_of : List ℕ → Cursor → ℕ → List ℕ

@@ -5,17 +5,16 @@
 // lent.
 #![tactic(auto)]
 
-ghost use Rattle.std.specs.Prelude.{◌≡◌, false, ◌&&◌, ◌+◌, get_or, length, leb};
-ghost use Rattle.crew.specs.Parts.{most_nodes};
+ghost use Rattle.std.specs.Prelude.{◌≡◌, false, ◌+◌, ◌≤◌, get_or, length, drop, MatchOption};
+ghost use Rattle.script.specs.Lines.{newline, until};
 ghost use Rattle.script.specs.Fields.{numbers_on};
 ghost use Rattle.script.specs.Commands.{crew_line_of, plans_of, line_of};
-ghost use Rattle.print.specs.Texts.{end_line, long_line};
 ghost use Rattle.drill.specs.Lines.{stamp_fits, fits, receiver_of, with_note};
 ghost use Rattle.drill.specs.Stepping.{
   lines_from,
   outset,
+  stands,
   stopped,
-  over,
   over_bad,
   behind,
   pass_crew,
@@ -28,27 +27,28 @@ ghost use Rattle.drill.specs.Promises.{
   Standing,
   Passable,
   Heading,
-  noting_of,
-  settled,
+  LineAt,
+  note_of,
   passing,
   finishing,
   step_head,
   NotedAll,
 };
 
-use aisle::{Setup, State};
+use aisle::State;
 use crew::MOST_NODES;
 use node::Node;
 use pending::Pending;
-use script::{Command, CrewLine, Line, Note};
+use script::{Command, Note};
 
 // A script has at most so many bytes.
-pub const MOST_BYTES: usize = 65536;
+pub const MOST_BYTES: usize = 65_536;
 // A program reads so many: one byte more is enough for the drill to see that a script is too long.
 pub const MOST_READ: usize = MOST_BYTES + 1;
 // No step's text is longer: a step prints one line at most.
 pub const MOST_TEXT: usize = print::MOST_LINE;
-// The line of a drill that is over.
+// The line of a drill that is over: lines begin with 1, and the definitions `stands`, `stopped` and `way` of
+// specs/Stepping.antt have 0 for none. An Option in its place would be a second word for the same.
 pub const NO_LINE: u32 = 0;
 
 const FIRST_LINE: u32 = 1;
@@ -56,7 +56,7 @@ const FIRST_LINE: u32 = 1;
 const SECOND_LINE: u32 = 2;
 
 // Where a drill stands in a script.
-#[derive(Clone, Copy)]
+#[derive(Clone, Copy, PartialEq, Eq, Debug)]
 pub struct Cursor {
     // Where the coming line begins.
     pub at: u32,
@@ -65,62 +65,56 @@ pub struct Cursor {
     pub state: State,
 }
 
-// Where a drill stands after a step, and how long the step's text is.
-#[derive(Clone, Copy)]
-pub struct Advance {
-    pub next: Cursor,
-    pub size: usize,
-}
-
-// What a line can be while cuts and says are noted: one that can wait for the coming round, or anything else.
-#[derive(Clone, Copy)]
-pub enum Noting {
-    Fit(Note),
-    Other,
-}
-
-fn is_honest(honest: [bool; MOST_NODES], i: u8) -> bool
-    ensures { result ≡ get_or honest i false }
+// The line that begins at a place, without the byte 10 that ends it; none where no such byte follows.
+fn line_at(input: &[u8], at: u32) -> Option<&[u8]>
+    ensures { MatchOption result (length input.now ≤ at + until newline (drop at input.now))
+        (λ line. LineAt input.now at line.now) }
 {
-    let place = i as usize;
-    if place < MOST_NODES {
-        return honest[place];
+    let from = at as usize;
+    let end = script::find(input, script::NEWLINE, from);
+    if end < input.len() {
+        return Some(&input[from..end]);
     }
-    false
+    None
 }
 
-// Whether a say may have this stamp in the coming round.
+fn is_honest(honest: &[bool; MOST_NODES], i: u8) -> bool
+    ensures { result ≡ get_or honest.now i false }
+{
+    honest.get(usize::from(i)).copied().unwrap_or(false)
+}
+
+// Whether a say may have this stamp in the coming round: its phase and round, which a state has among much else.
 fn stamp_fits(round: u8, phase: u8, stamp: u8) -> bool
     ensures { result ≡ stamp_fits round phase stamp }
 {
-    if round == Node::SELECTION {
-        return stamp < phase;
+    match round {
+        Node::SELECTION => stamp < phase,
+        Node::VALIDATION => stamp == Node::UNSTAMPED,
+        _ => stamp <= phase,
     }
-    if round == Node::VALIDATION {
-        return stamp == Node::UNSTAMPED;
-    }
-    stamp <= phase
 }
 
 // Whether a cut or a say can wait for the coming round.
-fn is_fit(setup: Setup, phase: u8, round: u8, note: Note) -> bool
-    ensures { result ≡ fits setup phase round note }
+fn is_fit(state: &State, note: Note) -> bool
+    ensures { result ≡ fits state.now.setup state.now.moment.phase state.now.moment.round note }
 {
+    let n = state.setup.crew.n;
+    let phase = state.moment.phase;
     match note {
-        Note::Cut { sender, receiver } => (sender < setup.crew.n) & (receiver < setup.crew.n),
+        Note::Cut { sender, receiver } => sender < n && receiver < n,
         Note::Say {
             sender,
             receiver,
             plan,
             stamp,
         } => {
-            let honest = setup.honest;
-            (sender < setup.crew.n)
-                & (receiver < setup.crew.n)
-                & (Node::NO_PLAN < plan)
-                & !is_honest(honest, sender)
-                & stamp_fits(round, phase, stamp)
-                & (phase < Node::SPENT)
+            sender < n
+                && receiver < n
+                && wire::is_plan(plan)
+                && !is_honest(&state.setup.honest, sender)
+                && stamp_fits(state.moment.round, phase, stamp)
+                && phase < Node::SPENT
         }
     }
 }
@@ -129,318 +123,213 @@ fn receiver_of(note: Note) -> u8
     ensures { result ≡ receiver_of note }
 {
     match note {
-        Note::Cut { sender, receiver } => receiver,
+        Note::Cut { receiver, .. } | Note::Say { receiver, .. } => receiver,
+    }
+}
+
+// A cut or a say waits for its receiver.
+fn add_note(pending: &mut Pending, note: Note)
+    ensures { pending.new ≡ with_note pending.old note }
+{
+    *pending = match note {
+        Note::Cut { sender, .. } => pending.with_cut(usize::from(sender)),
         Note::Say {
             sender,
-            receiver,
             plan,
             stamp,
-        } => receiver,
-    }
-}
-
-// What waits for the receiver of a cut or a say, with it.
-fn with_note(pending: Pending, note: Note) -> Pending
-    ensures { result ≡ with_note pending note }
-{
-    match note {
-        Note::Cut { sender, receiver } => pending.with_cut(sender as usize),
-        Note::Say {
-            sender,
-            receiver,
-            plan,
-            stamp,
-        } => pending.with_say(sender as usize, plan, stamp),
-    }
-}
-
-fn noting_of(setup: Setup, phase: u8, round: u8, line: &[u8]) -> Noting
-    ensures { result ≡ noting_of setup phase round (line_of line.now) }
-{
-    let read = script::command_line(line);
-    let Line::Good(command) = read else {
-        return Noting::Other;
+            ..
+        } => pending.with_say(usize::from(sender), plan, stamp),
     };
-    let Command::Note(note) = command else {
-        return Noting::Other;
-    };
-    if is_fit(setup, phase, round, note) {
-        return Noting::Fit(note);
-    }
-    Noting::Other
 }
 
-// The drill at another line, with other cuts and says.
-fn settle(cursor: Cursor, at: u32, line: u32, pending: [Pending; MOST_NODES]) -> Cursor
-    ensures { result ≡ settled cursor at line pending }
+// The cut or the say of a line, where it can wait for the coming round.
+fn note_of(state: &State, line: &[u8]) -> Option<Note>
+    ensures { result ≡ note_of state.now.setup state.now.moment.phase state.now.moment.round
+        (line_of line.now) }
 {
-    let mut moment = cursor.state.moment;
-    moment.pending = pending;
-    let setup = cursor.state.setup;
-    let state = State {
-        setup: setup,
-        moment: moment,
-    };
-    Cursor {
-        at: at,
-        line: line,
-        state: state,
+    match script::command_line(line) {
+        Some(Command::Note(note)) if is_fit(state, note) => Some(note),
+        _ => None,
     }
 }
 
-// Notes the cuts and says that come first: the drill then stands before the first line that cannot be noted, or the
-// script's end.
-fn note_all(input: &[u8], cursor: Cursor) -> Cursor
-    requires { Standing input.now cursor }
-    ensures { NotedAll input.now cursor result }
-{
-    let setup = cursor.state.setup;
-    let phase = cursor.state.moment.phase;
-    let round = cursor.state.moment.round;
-    let mut pending = cursor.state.moment.pending;
-    let mut at = cursor.at as usize;
-    let mut line = cursor.line;
-    loop {
-        let end = script::find(input, script::NEWLINE, at);
-        if input.len() <= end {
-            return settle(cursor, at as u32, line, pending);
+impl Cursor {
+    // Whether a drill can stand there before a line of a script: no drill comes to any other place.
+    fn can_stand(&self, input: &[u8]) -> bool
+        ensures { result ≡ stands input.now self.now }
+    {
+        FIRST_LINE <= self.line
+            && self.line as usize <= self.at as usize + 1
+            && self.at as usize <= input.len()
+            && usize::from(self.state.setup.crew.n) <= MOST_NODES
+    }
+
+    // The drill goes on behind a line.
+    fn pass(&mut self, line: &[u8])
+        requires { Passable self.old line.now }
+        ensures { self.new ≡ behind self.old line.now self.old.state }
+    {
+        self.at += line.len() as u32 + 1;
+        self.line += 1;
+    }
+
+    // Notes the cuts and says that come first: the drill then stands before the first line that cannot be noted, or the
+    // script's end. A `while let`: where a line ends is not known before.
+    fn note_all(&mut self, input: &[u8])
+        requires { Standing input.now self.old }
+        ensures { NotedAll input.now self.old self.new }
+    {
+        while let Some(line) = line_at(input, self.at) {
+            let Some(note) = note_of(&self.state, line) else {
+                return;
+            };
+            let receiver = usize::from(receiver_of(note));
+            add_note(&mut self.state.moment.pending[receiver], note);
+            self.pass(line);
         }
-        let noting = noting_of(setup, phase, round, &input[at..end]);
-        let Noting::Fit(note) = noting else {
-            return settle(cursor, at as u32, line, pending);
-        };
-        let receiver = receiver_of(note) as usize;
-        let held = pending[receiver];
-        let more = with_note(held, note);
-        pending[receiver] = more;
-        at = end + 1;
-        line = line + 1;
     }
-}
 
-fn stop(cursor: Cursor) -> Cursor
-    ensures { result ≡ stopped cursor }
-{
-    let mut next = cursor;
-    next.line = NO_LINE;
-    next
-}
-
-// The drill is over at a bad line.
-fn over_bad(cursor: Cursor, text: &mut [u8]) -> Advance
-    ensures { Stepped (over_bad cursor) text.old text.new result }
-{
-    let size = print::bad_line(text, cursor.line);
-    let next = stop(cursor);
-    Advance {
-        next: next,
-        size: size,
+    // The drill is over: no line comes any more.
+    fn stop(&mut self)
+        ensures { self.new ≡ stopped self.old }
+    {
+        self.line = NO_LINE;
     }
-}
 
-// The drill is over behind its last line.
-fn over_end(cursor: Cursor, text: &mut [u8]) -> Advance
-    ensures { Stepped (over end_line cursor) text.old text.new result }
-{
-    let size = print::end_line(text);
-    let next = stop(cursor);
-    Advance {
-        next: next,
-        size: size,
+    // The drill is over at a bad line.
+    fn stop_bad(&mut self, text: &mut [u8]) -> usize
+        ensures { Stepped (over_bad self.old) self.new text.old text.new result }
+    {
+        let size = print::bad_line(text, self.line);
+        self.stop();
+        size
     }
-}
 
-// The drill is over before it begins: the script is too long.
-fn over_long(cursor: Cursor, text: &mut [u8]) -> Advance
-    ensures { Stepped (over long_line cursor) text.old text.new result }
-{
-    let size = print::long_line(text);
-    let next = stop(cursor);
-    Advance {
-        next: next,
-        size: size,
-    }
-}
-
-// The drill behind a line, in another state.
-fn pass(cursor: Cursor, line: &[u8], state: State) -> Cursor
-    requires { Passable cursor line.now }
-    ensures { result ≡ behind cursor line.now state }
-{
-    Cursor {
-        at: cursor.at + line.len() as u32 + 1,
-        line: cursor.line + 1,
-        state: state,
-    }
-}
-
-// A go: a whole round, and the line that it prints.
-fn pass_go(cursor: Cursor, line: &[u8], text: &mut [u8]) -> Advance
-    requires { Passable cursor line.now }
-    ensures { Stepped (pass_go cursor line.now) text.old text.new result }
-{
-    let setup = cursor.state.setup;
-    let moment = cursor.state.moment;
-    if moment.phase < Node::SPENT {
+    // A go: a whole round, and the line that it prints.
+    fn pass_go(&mut self, line: &[u8], text: &mut [u8]) -> usize
+        requires { Passable self.old line.now }
+        ensures { Stepped (pass_go self.old line.now) self.new text.old text.new result }
+    {
+        let setup = self.state.setup;
+        let moment = self.state.moment;
+        let spent = Node::SPENT <= moment.phase;
+        if spent {
+            return self.stop_bad(text);
+        }
+        let n = usize::from(setup.crew.n);
         let after = aisle::go(setup, moment);
-        let nodes = after.nodes;
-        let n = setup.crew.n as usize;
-        let results = aisle::results_of(nodes, n);
-        let honest = setup.honest;
-        let size = print::result_line(text, moment.phase, moment.round, n, results, honest);
-        let state = State {
-            setup: setup,
-            moment: after,
-        };
-        let next = pass(cursor, line, state);
-        return Advance {
-            next: next,
-            size: size,
-        };
+        self.state.moment = after;
+        self.pass(line);
+        let results = aisle::results_of(after.nodes, n);
+        print::result_line(text, moment.phase, moment.round, n, results, setup.honest)
     }
-    over_bad(cursor, text)
-}
 
-// The line behind the cuts and says: a go, or a bad one, be it a cut or a say that cannot wait.
-fn pass_command(cursor: Cursor, line: &[u8], text: &mut [u8]) -> Advance
-    requires { Passable cursor line.now }
-    ensures { Stepped (passing cursor line.now (line_of line.now))
-        text.old text.new result }
-{
-    let read = script::command_line(line);
-    let Line::Good(command) = read else {
-        return over_bad(cursor, text);
-    };
-    let Command::Go = command else {
-        return over_bad(cursor, text);
-    };
-    pass_go(cursor, line, text)
-}
-
-// What stands behind the cuts and says: a line, or the script's end.
-fn pass_line(input: &[u8], cursor: Cursor, text: &mut [u8]) -> Advance
-    requires { Standing input.now cursor }
-    ensures { Stepped (finishing cursor (lines_from input.now cursor.at))
-        text.old text.new result }
-{
-    let at = cursor.at as usize;
-    let end = script::find(input, script::NEWLINE, at);
-    if end < input.len() {
-        return pass_command(cursor, &input[at..end], text);
+    // The line behind the cuts and says: a go, or a bad one, be it a cut or a say that cannot wait.
+    fn pass_command(&mut self, line: &[u8], text: &mut [u8]) -> usize
+        requires { Passable self.old line.now }
+        ensures { Stepped (passing self.old line.now (line_of line.now))
+            self.new text.old text.new result }
+    {
+        match script::command_line(line) {
+            Some(Command::Go) => self.pass_go(line, text),
+            _ => self.stop_bad(text),
+        }
     }
-    if at == input.len() {
-        return over_end(cursor, text);
-    }
-    over_bad(cursor, text)
-}
 
-// Line 1, a crew. Its nodes start with line 2.
-fn pass_crew(cursor: Cursor, line: &[u8], text: &mut [u8]) -> Advance
-    requires { Passable cursor line.now }
-    ensures { Stepped (pass_crew cursor line.now (crew_line_of (numbers_on line.now)))
-        text.old text.new result }
-{
-    match script::crew_line(line) {
-        CrewLine::Crew(crew) => {
-            if crew::is_accepted(crew) {
-                let state = aisle::begin(crew, [Node::NO_PLAN; MOST_NODES]);
-                let next = pass(cursor, line, state);
-                return Advance {
-                    next: next,
-                    size: 0,
-                };
+    // What stands behind the cuts and says: a line, or the script's end.
+    fn pass_line(&mut self, input: &[u8], text: &mut [u8]) -> usize
+        requires { Standing input.now self.old }
+        ensures { Stepped (finishing self.old (lines_from input.now self.old.at))
+            self.new text.old text.new result }
+    {
+        if let Some(line) = line_at(input, self.at) {
+            return self.pass_command(line, text);
+        }
+        let at_end = self.at as usize == input.len();
+        if at_end {
+            self.stop();
+            return print::end_line(text);
+        }
+        self.stop_bad(text)
+    }
+
+    // Line 1, a crew. Its nodes start with line 2.
+    fn pass_crew(&mut self, line: &[u8], text: &mut [u8]) -> usize
+        requires { Passable self.old line.now }
+        ensures { Stepped (pass_crew self.old line.now (crew_line_of (numbers_on line.now)))
+            self.new text.old text.new result }
+    {
+        match script::crew_line(line) {
+            Some(crew) if crew::is_accepted(crew) => {
+                self.pass(line);
+                self.state = aisle::begin(crew, [Node::NO_PLAN; MOST_NODES]);
+                0
             }
-            over_bad(cursor, text)
+            _ => self.stop_bad(text),
         }
-        CrewLine::NoCrew => over_bad(cursor, text),
     }
-}
 
-// Line 2, the nodes' initial plans.
-fn pass_plans(cursor: Cursor, line: &[u8], text: &mut [u8]) -> Advance
-    requires { Passable cursor line.now }
-    ensures { Stepped
-        (pass_plans cursor line.now (plans_of (numbers_on line.now) cursor.state.setup.crew.n))
-        text.old text.new result }
-{
-    let crew = cursor.state.setup.crew;
-    let read = script::plans_line(line, crew.n as usize);
-    if read.good {
-        let plans = read.plans;
-        let state = aisle::begin(crew, plans);
-        let next = pass(cursor, line, state);
-        return Advance {
-            next: next,
-            size: 0,
+    // Line 2, the nodes' initial plans.
+    fn pass_plans(&mut self, line: &[u8], text: &mut [u8]) -> usize
+        requires { Passable self.old line.now }
+        ensures { Stepped
+            (pass_plans self.old line.now (plans_of (numbers_on line.now) self.old.state.setup.crew.n))
+            self.new text.old text.new result }
+    {
+        let crew = self.state.setup.crew;
+        let Some(plans) = script::plans_line(line, usize::from(crew.n)) else {
+            return self.stop_bad(text);
         };
+        self.pass(line);
+        self.state = aisle::begin(crew, plans);
+        0
     }
-    over_bad(cursor, text)
-}
 
-// One of the first two lines.
-fn pass_head(input: &[u8], cursor: Cursor, text: &mut [u8]) -> Advance
-    requires { Heading input.now cursor }
-    ensures { Stepped (step_head cursor (lines_from input.now cursor.at))
-        text.old text.new result }
-{
-    let at = cursor.at as usize;
-    let end = script::find(input, script::NEWLINE, at);
-    if end < input.len() {
-        if cursor.line == FIRST_LINE {
-            return pass_crew(cursor, &input[at..end], text);
+    // One of the first two lines.
+    fn pass_head(&mut self, input: &[u8], text: &mut [u8]) -> usize
+        requires { Heading input.now self.old }
+        ensures { Stepped (step_head self.old (lines_from input.now self.old.at))
+            self.new text.old text.new result }
+    {
+        let Some(line) = line_at(input, self.at) else {
+            return self.stop_bad(text);
+        };
+        if self.line == FIRST_LINE {
+            self.pass_crew(line, text)
+        } else {
+            self.pass_plans(line, text)
         }
-        return pass_plans(cursor, &input[at..end], text);
     }
-    over_bad(cursor, text)
-}
-
-// Whether a drill can stand there before a line of a script: no drill comes to any other place.
-fn can_stand(length: usize, at: u32, line: u32, n: u8) -> bool
-    ensures { result ≡ leb 1 line && leb line (at + 1) && leb at length && leb n most_nodes }
-{
-    (FIRST_LINE <= line)
-        & (line as usize <= at as usize + 1)
-        & (at as usize <= length)
-        & (n as usize <= MOST_NODES)
 }
 
 // The drill goes on by a step: over the cuts and says that come first, and one line more. The step's text stands at the
-// front of the lent buffer; what would lie beyond its end is left out, so a caller lends MOST_TEXT bytes. Of a drill
-// that is over, and from a place where no drill can stand, nothing is to come.
-pub fn step(input: &[u8], cursor: Cursor, text: &mut [u8]) -> Advance
-    ensures { SteppedFrom input.now cursor text.old text.new result }
+// front of the lent buffer, and its size is the answer; what would lie beyond the buffer's end is left out, so a caller
+// lends MOST_TEXT bytes. Of a drill that is over, and from a place where no drill can stand, nothing is to come.
+pub fn step(input: &[u8], cursor: &mut Cursor, text: &mut [u8]) -> usize
+    ensures { SteppedFrom input.now cursor.old cursor.new text.old text.new result }
 {
-    if can_stand(
-        input.len(),
-        cursor.at,
-        cursor.line,
-        cursor.state.setup.crew.n,
-    ) {
-        if MOST_BYTES < input.len() {
-            return over_long(cursor, text);
-        }
-        if cursor.line <= SECOND_LINE {
-            return pass_head(input, cursor, text);
-        }
-        let noted = note_all(input, cursor);
-        return pass_line(input, noted, text);
+    if !cursor.can_stand(input) {
+        cursor.stop();
+        return 0;
     }
-    let next = stop(cursor);
-    Advance {
-        next: next,
-        size: 0,
+    if MOST_BYTES < input.len() {
+        cursor.stop();
+        return print::long_line(text);
     }
+    if cursor.line <= SECOND_LINE {
+        return cursor.pass_head(input, text);
+    }
+    cursor.note_all(input);
+    cursor.pass_line(input, text)
 }
 
 // A drill before line 1.
 pub fn start() -> Cursor
     ensures { result ≡ outset }
 {
-    let crew = crew::blank_crew();
-    let state = aisle::begin(crew, [Node::NO_PLAN; MOST_NODES]);
     Cursor {
         at: 0,
         line: FIRST_LINE,
-        state: state,
+        state: aisle::begin(crew::blank_crew(), [Node::NO_PLAN; MOST_NODES]),
     }
 }

@@ -5,7 +5,7 @@ use std::io;
 
 fn main(rt: HostRuntime) -> io::Result<()> {
     let mut input = [0u8; drill::MOST_READ];
-    let size = console::read_front(&mut rt.stdin(), &mut input)?;
+    let size = intake::read_front(&mut rt.stdin(), &mut input)?;
     console::run(&rt, &input[..size]);
     Ok(())
 }

@@ -4,13 +4,12 @@
 --   field class  n  b  f  D  c  own  run  phase  round  vote  base  stamp  select  result  history
 --   bytes 1      1  1  1  1  1  1    4    1      1      2     2     1      2       2       64 times 2, from phase 0 on
 use Rattle.std.specs.Prelude.{ℕ, zero, suc, ◌+◌, ◌*◌, ◌≡◌, Bool, cond, List, [], ◌∷◌, ◌++◌, length, get_or, eqb}
+use Rattle.std.specs.Prelude.{Option, Some, None}
 use Rattle.wire.specs.Bytes.{number_at, bytes_of}
 use Rattle.wire.specs.Sizes.{plan_size, run_size, history_size}
 use Rattle.crew.specs.declared.Crew.{Crew}
 use Rattle.crew.specs.Parts.{crew_of}
 use Rattle.node.specs.declared.Node.{Node}
-use Rattle.node.specs.Record.{blank}
-use Rattle.image.specs.declared.Loaded.{Loaded}
 
 -- the places, each where the field before it ends; the code has them as constants in src/lib.rt
 abbrev pub crew_place : ℕ
@@ -109,18 +108,13 @@ record_in s = record {
 abbrev pub image_fits : List ℕ → Bool
 image_fits s = eqb (length s) image_size
 
--- the record that a slice is the image of, or a blank one where it has another length
-abbrev pub load_of : List ℕ → Node
-load_of s = cond (image_fits s) (record_in s) blank
+-- the record that a slice is the image of; none where the slice has another length
+abbrev pub load_of : List ℕ → Option Node
+load_of s = cond (image_fits s) (Some (record_in s)) None
 
 -- what storing a record leaves in a lent slice: its image, or the slice as it was where it has another length
 abbrev pub image_after : Node → List ℕ → List ℕ
 image_after d s = cond (image_fits s) (image_of d) s
-
--- What loading a slice gives: whether it has the length of an image, and the record that it is the image of.
-pub record LoadedFrom (s : List ℕ) (loaded : Loaded) : Type 0 where
-  pub fits : loaded.fits ≡ image_fits s
-  pub node : loaded.node ≡ load_of s
 
 -- What storing a record in a slice gives: whether it has the length of an image, and what stands in it then.
 pub record StoredIn (s : List ℕ) (d : Node) (stored : Bool) (s' : List ℕ) : Type 0 where

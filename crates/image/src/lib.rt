@@ -3,7 +3,7 @@
 // proofs/RoundTrip.antt.
 #![tactic(auto)]
 
-ghost use Rattle.std.specs.Prelude.{◌≡◌, ◌+◌, ◌≤◌, length};
+ghost use Rattle.std.specs.Prelude.{◌≡◌, ◌+◌, ◌≤◌};
 ghost use Rattle.std.proofs.lemmas.List.Edits.{sets};
 ghost use Rattle.wire.specs.Bytes.{number_at};
 ghost use Rattle.wire.specs.Sizes.{plan_size, run_size, history_size};
@@ -22,14 +22,14 @@ ghost use Rattle.image.specs.Layout.{
   crew_in,
   record_in,
   image_fits,
-  LoadedFrom,
+  load_of,
   StoredIn,
 };
 ghost use Rattle.image.specs.Promises.{HistoryLaid};
 
 use crew::Crew;
 use node::Node;
-use wire::{PHASES, PLAN_SIZE, Plan, RUN_SIZE};
+use wire::{Number, PHASES, PLAN_SIZE, Plan, RUN_SIZE};
 
 // Where the fields stand: each where the one before it ends. A crew is six bytes.
 const CREW_AT: usize = 0;
@@ -58,23 +58,22 @@ const HISTORY_AT: usize = RESULT_AT + PLAN_SIZE;
 // How many bytes an image has.
 const LENGTH: usize = HISTORY_AT + PLAN_SIZE * PHASES;
 
-// The plan that stands from a place on.
-fn plan_at(s: &[u8], place: usize) -> Plan
-    requires { place + plan_size ≤ length s.now }
+// The plan that stands from a place on: the twin of message's, since a public one in wire would test the place again.
+fn plan_at(s: &[u8; LENGTH], place: usize) -> Plan
+    requires { place + plan_size ≤ image_size }
     ensures { result ≡ number_at plan_size s.now place }
 {
     wire::plan_of(s[place], s[place + 1])
 }
 
-fn run_in(s: &[u8]) -> u32
-    requires { image_size ≤ length s.now }
+// The run, likewise.
+fn run_in(s: &[u8; LENGTH]) -> u32
     ensures { result ≡ number_at run_size s.now run_place }
 {
     wire::u32_of(s[RUN_AT], s[RUN_AT + 1], s[RUN_AT + 2], s[RUN_AT + 3])
 }
 
-fn crew_in(s: &[u8]) -> Crew
-    requires { image_size ≤ length s.now }
+fn crew_in(s: &[u8; LENGTH]) -> Crew
     ensures { result ≡ crew_in s.now }
 {
     Crew {
@@ -88,15 +87,12 @@ fn crew_in(s: &[u8]) -> Crew
 }
 
 // The plans of the history, the last bytes of an image.
-fn history_in(s: &[u8]) -> [Plan; PHASES]
-    requires { image_size ≤ length s.now }
+fn history_in(s: &[u8; LENGTH]) -> [Plan; PHASES]
     ensures { result ≡ plans_in s.now history_place history_size }
 {
     let mut history = [Node::NO_PLAN; PHASES];
-    let mut phase = 0;
-    while phase < PHASES {
-        history[phase] = plan_at(s, HISTORY_AT + PLAN_SIZE * phase);
-        phase = phase + 1;
+    for (phase, plan) in history.iter_mut().enumerate() {
+        *plan = plan_at(s, HISTORY_AT + PLAN_SIZE * phase);
     }
     history
 }
@@ -109,8 +105,7 @@ pub fn fits(s: &[u8]) -> bool
 }
 
 // The record that 150 bytes are the image of.
-fn record_in(s: &[u8]) -> Node
-    requires { image_size ≤ length s.now }
+fn record_in(s: &[u8; LENGTH]) -> Node
     ensures { result ≡ record_in s.now }
 {
     Node {
@@ -128,31 +123,14 @@ fn record_in(s: &[u8]) -> Node
     }
 }
 
-// What loading an image gives: the record, or a blank one where the slice is not as long as an image.
-#[derive(Clone, Copy)]
-pub struct Loaded {
-    pub fits: bool,
-    pub node: Node,
-}
-
-// Loads the record that a slice is the image of.
-pub fn load(s: &[u8]) -> Loaded
-    ensures { LoadedFrom s.now result }
+// Loads the record that a slice is the image of: none where the slice is not as long as an image.
+pub fn load(s: &[u8]) -> Option<Node>
+    ensures { result ≡ load_of s.now }
 {
-    if s.len() == LENGTH {
-        return Loaded {
-            fits: true,
-            node: record_in(s),
-        };
-    }
-    Loaded {
-        fits: false,
-        node: node::blank_node(),
-    }
+    s.as_array().map(record_in)
 }
 
-fn put_crew(image: &mut [u8], crew: Crew)
-    requires { image_size ≤ length image.old }
+fn put_crew(image: &mut [u8; LENGTH], crew: Crew)
     ensures { image.new ≡ sets image.old crew_place (crew_bytes crew) }
 {
     image[CREW_AT] = crew.class;
@@ -164,58 +142,52 @@ fn put_crew(image: &mut [u8], crew: Crew)
 }
 
 // The own number, the run and the coming round.
-fn put_place(image: &mut [u8], node: Node)
-    requires { image_size ≤ length image.old }
-    ensures { image.new ≡ sets image.old own_place (place_bytes node) }
+fn put_place(image: &mut [u8; LENGTH], node: &Node)
+    ensures { image.new ≡ sets image.old own_place (place_bytes node.now) }
 {
     image[OWN_AT] = node.own;
-    wire::put_u32(image, RUN_AT, node.run);
+    node.run.put(image, RUN_AT);
     image[PHASE_AT] = node.phase;
     image[ROUND_AT] = node.round;
 }
 
 // The plans that the node votes for, falls back to, selected and decided, and the stamp.
-fn put_plans(image: &mut [u8], node: Node)
-    requires { image_size ≤ length image.old }
-    ensures { image.new ≡ sets image.old vote_place (plan_bytes node) }
+fn put_plans(image: &mut [u8; LENGTH], node: &Node)
+    ensures { image.new ≡ sets image.old vote_place (plan_bytes node.now) }
 {
-    wire::put_plan(image, VOTE_AT, node.vote);
-    wire::put_plan(image, BASE_AT, node.base);
+    node.vote.put(image, VOTE_AT);
+    node.base.put(image, BASE_AT);
     image[STAMP_AT] = node.stamp;
-    wire::put_plan(image, SELECT_AT, node.select);
-    wire::put_plan(image, RESULT_AT, node.result);
+    node.select.put(image, SELECT_AT);
+    node.result.put(image, RESULT_AT);
 }
 
 // The fields before the history.
-fn put_scalars(image: &mut [u8], node: Node)
-    requires { image_size ≤ length image.old }
-    ensures { image.new ≡ sets image.old crew_place (scalar_bytes node) }
+fn put_scalars(image: &mut [u8; LENGTH], node: &Node)
+    ensures { image.new ≡ sets image.old crew_place (scalar_bytes node.now) }
 {
     put_crew(image, node.crew);
     put_place(image, node);
     put_plans(image, node);
 }
 
-fn put_history(image: &mut [u8], history: [Plan; PHASES])
-    requires { image_size ≤ length image.old }
-    ensures { HistoryLaid image.old history image.new }
+fn put_history(image: &mut [u8; LENGTH], history: &[Plan; PHASES])
+    ensures { HistoryLaid image.old history.now image.new }
 {
-    let mut phase = 0;
-    while phase < PHASES {
-        wire::put_plan(image, HISTORY_AT + PLAN_SIZE * phase, history[phase]);
-        phase = phase + 1;
+    for (phase, plan) in history.iter().enumerate() {
+        plan.put(image, HISTORY_AT + PLAN_SIZE * phase);
     }
 }
 
-// Writes a record's image. A slice of another length is left as it is.
-pub fn store(node: Node, image: &mut [u8]) -> bool
-    ensures { StoredIn image.old node result image.new }
+// Writes a record's image, and answers whether it did: a Result of nothing would be no plainer. A slice of another
+// length is left as it is.
+pub fn store(node: &Node, image: &mut [u8]) -> bool
+    ensures { StoredIn image.old node.now result image.new }
 {
-    if image.len() == LENGTH {
-        put_scalars(image, node);
-        let history = node.history;
-        put_history(image, history);
-        return true;
-    }
-    false
+    let Some(image) = image.as_mut_array() else {
+        return false;
+    };
+    put_scalars(image, node);
+    put_history(image, &node.history);
+    true
 }

@@ -20,8 +20,8 @@ use Rattle.message.specs.declared.Header.{Header}
 use Rattle.ballot.specs.Count.{holds}
 use Rattle.ballot.specs.Ballot.{Ballot}
 use Rattle.inbox.specs.Inbox.{slot_at, ballot_in, heard_in, counts_in, ballots_for}
+use Rattle.inbox.specs.declared.Columns.{Columns}
 use Rattle.inbox.specs.Columns.{
-  Columns,
   columns,
   empty,
   slots_in,

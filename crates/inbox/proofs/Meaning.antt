@@ -14,7 +14,8 @@ use Rattle.wire.proofs.Tests.{by_equality}
 use Rattle.crew.specs.Parts.{most_nodes}
 use Rattle.ballot.specs.Count.{gather, push}
 use Rattle.ballot.specs.Ballot.{Ballot}
-use Rattle.inbox.specs.Columns.{Columns, put, filled, slot_of, empty}
+use Rattle.inbox.specs.declared.Columns.{Columns}
+use Rattle.inbox.specs.Columns.{put, filled, slot_of, empty}
 
 -- Columns of n slots: every column has its places, and later slots are absent.
 record Shape (read : Columns) (n : ℕ) : Type 0 where

@@ -57,7 +57,7 @@ selection_shown coming slot m first e =
     (ap (is_of coming.run coming.phase coming.kind) passes.fields ∙ c.coming) in
     let run-kind = both_true run-test kind-test tests.0 in
     let kind : kind_at slot ≡ 1 = kind_shown slot (eqb-true _ _ run-kind.1 ∙ first) in
-    let body : body_at slot ≡ selection_at slot = kind_one (record { same = sym kind }) refl in
+    let body : body_at slot ≡ selection_at slot = kind_one slot kind in
     let lists : entries_at slot ≡ m.entries =
     ap (λ b. (ballot_of b).entries) (sym body)
     ∙ ap (λ (k : Message). (ballot_of k.body).entries) passes.fields

@@ -13,19 +13,11 @@ use Rattle.message.specs.Layout.{slot_size}
 use Rattle.message.specs.Laying.{expected_as, ExpectedFrom}
 use Rattle.message.specs.Reading.{read_of}
 use Rattle.message.specs.declared.Header.{Header}
-use Rattle.message.specs.declared.Expected.{Expected}
+use Rattle.std.specs.Prelude.{Option as Answer}
+use Rattle.message.specs.declared.Body.{Body as ReadBody}
 use Rattle.inbox.specs.Inbox.{slot_at, counted, ballot_in}
-use Rattle.inbox.specs.Columns.{
-  Columns,
-  put,
-  ballot_if,
-  slots_in,
-  filled,
-  row_width,
-  rows_after,
-  histories_after,
-  ReadInto,
-}
+use Rattle.inbox.specs.declared.Columns.{Columns}
+use Rattle.inbox.specs.Columns.{put, ballot_if, filled, row_width, rows_after, histories_after}
 use Rattle.inbox.proofs.Counted.{expected_counts}
 use Rattle.inbox.proofs.Histories.{histories_long, histories_more}
 
@@ -64,22 +56,9 @@ module _ {coming : Header} {bytes : List ℕ} {before : Columns} {blank : List �
 
   module _ {read : Columns} {histories : List ℕ} {from q : ℕ}
       (walked : Walked coming bytes before blank n width read histories from q) where
-    -- behind the last slot all are
-    pub walked_all : n ≤ q → n ≡ slots_in (length bytes) → width ≡ row_width coming.phase n (length blank)
-        → ReadInto coming bytes before blank read histories
-    walked_all done slots is =
-        let all : q ≡ slots_in (length bytes) = omega arith in
-        record {
-          said = rw all at walked.said;
-          listed = rw (all, is, slots) at walked.listed;
-        }
-
     -- slot q's row is in the array
     row_inside : q < n → width * suc q ≤ length blank
     row_inside less = omega (arith, mul-le-mul_left {m = suc q} {n = n} width less)
-
-    pub row_ends : q < n → from + width ≤ length histories
-    row_ends less = omega (arith, row_inside less)
 
     -- slot q and its row are lent to the reader, and what it found is put into the columns
     abbrev slot : List ℕ
@@ -88,7 +67,7 @@ module _ {coming : Header} {bytes : List ℕ} {before : Columns} {blank : List �
     abbrev places : ℕ
     places = from + width - from
 
-    pub walked_more : {expected : Expected} {row : List ℕ} {after : Columns} → q < n
+    pub walked_more : {expected : Answer ReadBody} {row : List ℕ} {after : Columns} → q < n
         → ExpectedFrom coming slot (take places (drop from histories)) expected row
         → after ≡ put read q (ballot_if (expected_as expected slot))
         → Walked coming bytes before blank n width after

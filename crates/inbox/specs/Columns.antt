@@ -15,12 +15,8 @@ use Rattle.message.specs.Layout.{slot_size}
 use Rattle.message.specs.declared.Header.{Header}
 use Rattle.ballot.specs.Count.{gather}
 use Rattle.ballot.specs.Ballot.{Ballot}
+use Rattle.inbox.specs.declared.Columns.{Columns}
 use Rattle.inbox.specs.Inbox.{slot_at, ballot_of, ballot_in}
-
-pub record Columns : Type 0 where
-  pub present : List Bool
-  pub votes : List ℕ
-  pub stamps : List ℕ
 
 abbrev pub columns : List Bool → List ℕ → List ℕ → Columns
 columns present votes stamps = record { present = present; votes = votes; stamps = stamps }
@@ -29,11 +25,14 @@ columns present votes stamps = record { present = present; votes = votes; stamps
 abbrev pub empty : Columns
 empty = columns (replicate most_nodes false) (replicate most_nodes 0) (replicate most_nodes 0)
 
--- a slot's ballot put into the columns
+-- a vote and its stamp put into the places of a slot; and a slot's ballot, where it has one
+abbrev pub put_vote : Columns → (q vote stamp : ℕ) → Columns
+put_vote before q vote stamp =
+    columns (set before.present q true) (set before.votes q vote) (set before.stamps q stamp)
+
 abbrev pub put : Columns → ℕ → Option Ballot → Columns
 put before q none = before
-put before q (some m) =
-    columns (set before.present q true) (set before.votes q m.vote) (set before.stamps q m.stamp)
+put before q (some m) = put_vote before q m.vote m.stamp
 
 -- what the body that reading answers puts forward, where it answers one
 abbrev pub ballot_if : Option Body → Option Ballot

@@ -1,15 +1,13 @@
 -- The least crews, by search, and what a lookup answers: document 02, C-11.
-use Rattle.std.specs.Prelude.{ℕ, zero, suc, Bool, true, false, cond, ◌&&◌, leb}
+use Rattle.std.specs.Prelude.{ℕ, zero, suc, Bool, true, false, cond, ◌&&◌, leb, Result}
 use Rattle.std.proofs.Math.Option.{Option, none, some}
-use Rattle.wire.specs.Outcome.{Outcome, accepted, refused, require, is_accepted}
+use Rattle.wire.specs.Outcome.{Outcome, accepted, require, is_accepted, outcome_of}
 use Rattle.crew.specs.declared.Crew.{Crew}
 use Rattle.crew.specs.Parts.{crew_of}
 use Rattle.crew.specs.Acceptance.{accept_of}
 use Rattle.least_crews.specs.declared.Least.{Least}
 use Rattle.least_crews.specs.declared.LookupRefusal.{LookupRefusal}
 use Rattle.least_crews.specs.declared.LookupRefusal.TheVariants.{Range}
-use Rattle.least_crews.specs.declared.Finding.{Finding}
-use Rattle.least_crews.specs.declared.Finding.TheVariants.{Entry, Refused}
 
 -- the first number that passes a test, of `count` numbers from `from` on
 unfoldable pub first_from : (ℕ → Bool) → ℕ → ℕ → Option ℕ
@@ -82,6 +80,5 @@ abbrev pub lookup_number : LookupRefusal → ℕ
 lookup_number Range = 15
 
 -- what an answer of `lookup` says in 02's terms
-abbrev pub lookup_answer : Finding → Outcome Least
-lookup_answer (Entry least) = accepted least
-lookup_answer (Refused why) = refused (lookup_number why)
+abbrev pub lookup_answer : Result Least LookupRefusal → Outcome Least
+lookup_answer answer = outcome_of lookup_number answer

@@ -16,14 +16,15 @@ pub const MOST_B: u8 = 10;
 
 pub const MOST_F: u8 = 15;
 
-// How many values f, b and the class have in it.
+// How many values f, b and the class have in it. They are made wide by `as`, for a constant calls no function.
 const F_VALUES: usize = MOST_F as usize + 1;
 
 const B_VALUES: usize = MOST_B as usize + 1;
 
 const CLASSES: usize = Crew::CLASS_THREE as usize;
 
-// An entry is two numbers: n comes first, and D behind it.
+// An entry is two numbers: n comes first, and D behind it. The table has the bare numbers and no array of `Least`: it
+// is what the program of crate least_table prints, and that may not change.
 const ENTRY_SIZE: usize = 2;
 
 const N_AT: usize = 0;
@@ -32,29 +33,25 @@ const D_BEHIND: usize = 1;
 
 const NUMBERS: usize = ENTRY_SIZE * CLASSES * B_VALUES * F_VALUES;
 
-// An entry: the least n that any D lets be accepted, and the least D for that n; both 0 where n would pass 32.
-#[derive(Clone, Copy)]
+// An entry: the least n that any D lets be accepted, and the least D for that n; both 0 where n would pass 32, as 02
+// has it (`least_crew`): no Option, since `lookup` and `rail_least` answer the 0.
+#[derive(Clone, Copy, PartialEq, Eq, Debug)]
 pub struct Least {
     pub n: u8,
     pub d: u8,
 }
 
 // Why a lookup is turned down; `lookup_number` in specs/Search.antt has 02's number.
-#[derive(Clone, Copy)]
+#[derive(Clone, Copy, PartialEq, Eq, Debug)]
 pub enum LookupRefusal {
     Range,
 }
 
-#[derive(Clone, Copy)]
-pub enum Finding {
-    Entry(Least),
-    Refused(LookupRefusal),
-}
-
+// Class, b and f stay three parameters here and below: `lookup` has them so, as C has.
 fn is_in_range(class: u8, b: u8, f: u8) -> bool
     ensures { result ≡ in_range class b f }
 {
-    (Crew::CLASS_ONE <= class) & (class <= Crew::CLASS_THREE) & (b <= MOST_B) & (f <= MOST_F)
+    (Crew::CLASS_ONE..=Crew::CLASS_THREE).contains(&class) && b <= MOST_B && f <= MOST_F
 }
 
 // The table, and what is shown of it, once over all its entries.
@@ -69,10 +66,11 @@ fn place_of(class: u8, b: u8, f: u8) -> usize
     requires { in_range class b f ≡ true }
     ensures { result ≡ place_of class b f }
 {
-    let row = B_VALUES * (class - Crew::CLASS_ONE) as usize + b as usize;
-    ENTRY_SIZE * (F_VALUES * row + f as usize) + N_AT
+    let row = B_VALUES * usize::from(class - Crew::CLASS_ONE) + usize::from(b);
+    ENTRY_SIZE * (F_VALUES * row + usize::from(f)) + N_AT
 }
 
+#[tactic(auto, using(crate::proofs::Found::found))]
 fn entry_of(class: u8, b: u8, f: u8) -> Least
     requires { in_range class b f ≡ true }
     ensures { result ≡ least_crew class b f }
@@ -85,11 +83,12 @@ fn entry_of(class: u8, b: u8, f: u8) -> Least
 }
 
 // Looks the least crew of a class, b and f up. The ranges are tested first.
-pub fn lookup(class: u8, b: u8, f: u8) -> Finding
+#[tactic(auto, unfolding(crate::specs::Search::lookup_of))]
+pub fn lookup(class: u8, b: u8, f: u8) -> Result<Least, LookupRefusal>
     ensures { lookup_answer result ≡ lookup_of class b f }
 {
-    if is_in_range(class, b, f) {
-        return Finding::Entry(entry_of(class, b, f));
+    if !is_in_range(class, b, f) {
+        return Err(LookupRefusal::Range);
     }
-    Finding::Refused(LookupRefusal::Range)
+    Ok(entry_of(class, b, f))
 }

@@ -3,10 +3,9 @@
 #![tactic(auto)]
 
 use crew::{Crew, MOST_NODES};
-use least_crews::{Finding, Least, MOST_B, MOST_F};
-use script::Number;
-use std::io;
+use least_crews::{Least, MOST_B, MOST_F};
 use std::rt::Env;
+use std::{fmt, io};
 
 // The arguments, by their places; the program's own name is at 0.
 const CLASS: usize = 1;
@@ -15,29 +14,37 @@ const B: usize = 2;
 
 const F: usize = 3;
 
-// Outside of every range: what an argument is taken for that is no number, or none of one byte.
-const OUTSIDE: u8 = 255;
-
 // No number of one byte has more digits.
 const MOST_DIGITS: usize = 3;
 
-// No number that is read is larger than OUTSIDE; to test it here spares a proof of that.
-fn byte_of(number: u32) -> u8 {
-    if number < OUTSIDE as u32 {
-        return number as u8;
-    }
-    OUTSIDE
+// What is asked for: the least crew of a class in which b nodes may lie and f be out of reach. The program of crate
+// least_table has its like, as it knows nothing of crate least_crews, which is held to what it finds.
+#[derive(Clone, Copy, PartialEq, Eq, Debug)]
+struct Question {
+    class: u8,
+    b: u8,
+    f: u8,
 }
 
-fn argument(rt: &impl Env, i: usize) -> u8 {
-    let mut text = [0u8; MOST_DIGITS];
-    let Ok(length) = rt.arg(i, &mut text) else {
-        return OUTSIDE;
-    };
-    match script::decimal(&text[..length], OUTSIDE as u32) {
-        Number::Value(number) => byte_of(number),
-        Number::Bad => OUTSIDE,
+impl fmt::Display for Question {
+    fn fmt<W: fmt::Write>(&self, f: &mut fmt::Formatter<W>) -> fmt::Result {
+        write!(f, "class {}, b {}, f {}", self.class, self.b, self.f)
     }
+}
+
+// An argument that is a number of one byte. What is none is outside of every range.
+fn argument(rt: &impl Env, i: usize) -> Option<u8> {
+    let mut text = [0u8; MOST_DIGITS];
+    let length = rt.arg(i, &mut text).ok()?;
+    let number = script::decimal(&text[..length], u32::from(u8::MAX))?;
+    u8::try_from(number).ok()
+}
+
+fn read_question(rt: &impl Env) -> Option<Question> {
+    let class = argument(rt, CLASS)?;
+    let b = argument(rt, B)?;
+    let f = argument(rt, F)?;
+    Some(Question { class, b, f })
 }
 
 // The end of the line: the entry's two numbers, or why there are none.
@@ -56,19 +63,17 @@ fn refuse(rt: &impl Eprint) -> io::Result<()> {
     eprintln!(rt; ", without leading zeros; no crew is accepted with others")
 }
 
-fn answer(rt: &(impl Print + Eprint), class: u8, b: u8, f: u8) -> io::Result<()> {
-    match least_crews::lookup(class, b, f) {
-        Finding::Entry(least) => {
-            print!(rt; "class {class}, b {b}, f {f}: ")?;
-            show_entry(rt, least)
-        }
-        Finding::Refused(_) => refuse(rt),
-    }
+fn answer(rt: &(impl Print + Eprint), asked: Question) -> io::Result<()> {
+    let Ok(least) = least_crews::lookup(asked.class, asked.b, asked.f) else {
+        return refuse(rt);
+    };
+    print!(rt; "{asked}: ")?;
+    show_entry(rt, least)
 }
 
 fn main(rt: HostRuntime) -> io::Result<()> {
-    let class = argument(&rt, CLASS);
-    let b = argument(&rt, B);
-    let f = argument(&rt, F);
-    answer(&rt, class, b, f)
+    match read_question(&rt) {
+        Some(asked) => answer(&rt, asked),
+        None => refuse(&rt),
+    }
 }

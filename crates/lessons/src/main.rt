@@ -23,7 +23,7 @@ fn run_named(rt: &(impl Files + Print + Eprint), name: &str) -> io::Result<()> {
         Err(why) => return eprintln!(rt; "{name}: {why}"),
     };
     let mut script = [0u8; MOST_READ];
-    let size = console::read_front(&mut file, &mut script)?;
+    let size = intake::read_front(&mut file, &mut script)?;
     console::run(rt, &script[..size]);
     Ok(())
 }
@@ -39,10 +39,8 @@ fn long_script() -> [u8; MOST_READ]
     ensures { length result ≡ most_bytes + 1 }
 {
     let mut script = [0u8; MOST_READ];
-    let mut i: usize = 0;
-    while i < MOST_READ {
-        script[i] = byte_of_long(i);
-        i = i + 1;
+    for (i, byte) in script.iter_mut().enumerate() {
+        *byte = byte_of_long(i);
     }
     script
 }

@@ -2,21 +2,21 @@
 use mathlib.Core.Path.{◌≡◌, refl, sym, ap, ◌∙◌}
 use mathlib.Core.Bool.{Bool, true, false, cond, ◌&&◌}
 use mathlib.Core.List.{List, [], ◌∷◌}
-use mathlib.Core.Logic.{◌≢◌}
 use Prim.Native.Nat.{ℕ, zero, suc, ◌+◌, ◌*◌, ◌-◌, ◌≤◌, ◌<◌}
 use native.Mathlib.Nat.{sub-zero, sub_self}
 use native.Mathlib.Omega.{arith}
 use native.Mathlib.Decide.{dec_lt}
 use lib.Dec.{leb-zero}
-use lib.ListN.{length, drop, length-set}
+use lib.ListN.{drop}
 use borrow.Author.Tests.{le-leb, lt-leb, lt-ltb, le-ltb, ltb-true}
+use Rattle.std.specs.Prelude.{Some, None}
 use Rattle.wire.specs.Entry.{Entry}
 use Rattle.wire.proofs.Tests.{and_false, and_true, both_true}
 use Rattle.message.specs.Layout.{entries_place, entry_size}
 use Rattle.message.specs.Bounds.{entries_ok}
 use Rattle.message.specs.Reading.{entries_in, entry_in_slice}
 use Rattle.message.specs.Laying.{row_with, kept_of}
-use Rattle.message.specs.Promises.{keeps_before, broken, LaidEntry, LaidEntries}
+use Rattle.message.specs.Promises.{keeps_before, LaidEntry, LaidEntries}
 use Rattle.message.proofs.EntryLaws.{entries_next}
 
 -- the phase that an entry before these must be before: that of the first, or the message's where there is none
@@ -94,23 +94,20 @@ all_break s count phase (suc i) more breaks =
     (all.0, all.1 ∙ not_laid s count phase (suc i) more breaks)
 
 -- While entries are laid, back from the last of `count` to entry i: those from i on keep their bounds and are in the
--- row, which is as long as before, and `before` is the phase that the one before them must be before.
+-- row, and `before` is the phase that the one before them must be before.
 pub record Laying (s : List ℕ) (count phase : ℕ) (row : List ℕ) (i before : ℕ) (now : List ℕ) : Type 0 where
   pub place : i ≤ count
-  pub long : length now ≡ length row
-  pub places : before ≤ length now
+  pub early : before ≤ phase
   pub next : before ≡ first phase (from s count i)
   pub ok : entries_ok 0 phase (from s count i) ≡ true
   pub lays : now ≡ row_with row (from s count i)
 
 -- at first none is
-pub none_laid : (s : List ℕ) (count phase : ℕ) (row : List ℕ) → phase ≤ length row
-    → Laying s count phase row count phase row
+pub none_laid : (s : List ℕ) (count phase : ℕ) (row : List ℕ) → Laying s count phase row count phase row
 unfolding entries_in entries_ok row_with
-none_laid s count phase row places = record {
+none_laid s count phase row = record {
   place = omega arith;
-  long = refl;
-  places = places;
+  early = omega arith;
   next = rw (sub_self count);
   ok = rw (sub_self count);
   lays = rw (sub_self count);
@@ -118,24 +115,24 @@ none_laid s count phase row places = record {
 
 -- with no entry before them, all are
 pub all_laid : {s : List ℕ} {count phase before : ℕ} {row now : List ℕ} → Laying s count phase row 0 before now
-    → LaidEntries (entries_in count (drop entries_place s)) phase row true now
+    → LaidEntries (entries_in count (drop entries_place s)) phase row (Some before) now
 all_laid {s} {count} {phase} {before} {row} l =
     let ok = rw (sub-zero count) at l.ok in
     let lays = rw (sub-zero count) at l.lays in
     record { answer = sym ok; lays = lays ∙ ap (row_with row) (sym (all_kept phase _ ok)) }
 
 -- what is told of an entry tells whether it keeps its bounds
-keeps_told : (keeps : Bool) (phase : ℕ) {r : ℕ} → r ≡ cond keeps phase broken → r ≢ broken → keeps ≡ true
-keeps_told true phase answer some = refl
-keeps_told false phase answer some = absurd (some answer)
+keeps_told : (keeps : Bool) (phase : ℕ) {told : ℕ} → Some told ≡ cond keeps (Some phase) None
+    → (keeps ≡ true) × (told ≡ phase)
+keeps_told true phase e = (refl, cc)
+keeps_told false phase e = cc
 
-breaks_told : (keeps : Bool) {phase r : ℕ} → phase < broken → r ≡ cond keeps phase broken → broken ≤ r → keeps ≡ false
-breaks_told true byte answer none = absurd (omega arith)
-breaks_told false byte answer none = refl
+breaks_told : (keeps : Bool) (phase : ℕ) → None ≡ cond keeps (Some phase) None → keeps ≡ false
+breaks_told true phase e = cc
+breaks_told false phase e = refl
 
 module _ {s : List ℕ} {count phase : ℕ} {row : List ℕ} {i before : ℕ} {now : List ℕ}
-    (l : Laying s count phase row i before now) (j : ℕ) (one : i ≡ suc j)
-    {r : ℕ} {after : List ℕ} (told : LaidEntry (entry_in_slice s j) before now r after) where
+    (l : Laying s count phase row i before now) (j : ℕ) (one : i ≡ suc j) where
   abbrev e : Entry
   e = entry_in_slice s j
 
@@ -150,27 +147,26 @@ module _ {s : List ℕ} {count phase : ℕ} {row : List ℕ} {i before : ℕ} {n
       ∙ simp (← l.next, l.ok, and_true)
 
   -- an entry that keeps its bounds is one more
-  pub entry_laid : r ≢ broken → Laying s count phase row j r after
+  pub entry_laid : {told : ℕ} {after : List ℕ} → LaidEntry (entry_in_slice s j) before now (Some told) after
+      → Laying s count phase row j told after
   unfolding row_with
-  entry_laid some =
-      let keeps = keeps_told (keeps_before before e) e.phase told.answer some in
-      let answer = simp keeps at told.answer in
-      let lays = simp keeps at told.lays in
-      let same : length after ≡ length now = ap length lays ∙ simp length-set in
+  entry_laid entry =
+      let keeps = keeps_told (keeps_before before e) e.phase entry.answer in
+      let lays = simp keeps.0 at entry.lays in
       record {
         place = omega (arith, l.place);
-        long = same ∙ l.long;
-        places = omega (arith, answer, same, ltb-true e.phase before (both_true _ _ keeps).0, l.places);
-        next = answer ∙ ap (first phase) (sym next_from);
-        ok = step ∙ keeps;
+        early = omega (arith, keeps.1, ltb-true e.phase before (both_true _ _ keeps.0).0, l.early);
+        next = keeps.1 ∙ ap (first phase) (sym next_from);
+        ok = step ∙ keeps.0;
         lays = rw (next_from, ← l.lays) lays;
       }
 
   -- one that breaks a bound settles the answer, and the row stays as it is
-  pub entry_stops : broken ≤ r → LaidEntries (entries_in count (drop entries_place s)) phase row false after
-  entry_stops none =
-      let breaks = breaks_told (keeps_before before e) told.byte told.answer none in
+  pub entry_stops : {after : List ℕ} → LaidEntry (entry_in_slice s j) before now None after
+      → LaidEntries (entries_in count (drop entries_place s)) phase row None after
+  entry_stops entry =
+      let breaks = breaks_told (keeps_before before e) e.phase entry.answer in
       let all = rw (sub-zero count) at (all_break s count phase j (omega (arith, l.place)) (step ∙ breaks)) in
       let kept = all.1 ∙ rw one at (all_kept phase (from s count i) l.ok) in
-      let same = simp breaks at told.lays ∙ l.lays in
+      let same = simp breaks at entry.lays ∙ l.lays in
       record { answer = sym all.0; lays = same ∙ rw one (ap (row_with row) (sym kept)) }

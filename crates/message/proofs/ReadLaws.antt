@@ -1,7 +1,6 @@
 -- What reading tells of the bytes that were read, and the other way round: for all three kinds at once.
 use mathlib.Core.Path.{◌≡◌, refl, sym, ap, ◌∙◌}
-use mathlib.Core.Bool.{Bool, true, false, cond}
-use mathlib.Core.Logic.{◌≢◌}
+use mathlib.Core.Bool.{Bool, true, false, cond, true≢false}
 use mathlib.Core.List.{List, []}
 use Prim.Native.Nat.{ℕ, ◌+◌, ◌*◌, ◌≤◌}
 use native.Mathlib.Omega.{arith}
@@ -18,12 +17,14 @@ use Rattle.message.specs.Bounds.{within}
 use Rattle.message.specs.Encoding.{size_of}
 use Rattle.message.specs.Reading.{
   length_at,
+  kind_at,
   message_with,
   selection_at,
   validation_at,
   decision_at,
   body_at,
   framed,
+  is_kind,
   kind_known,
   tested,
   front_of,
@@ -36,7 +37,10 @@ use Rattle.message.specs.Reading.{
   count_in,
   body_as,
 }
-use Rattle.message.specs.Promises.{OfKind}
+use Rattle.message.specs.Promises.{number_of, OfKind}
+use Rattle.message.specs.declared.Kind.{Kind}
+use Rattle.message.specs.declared.Kind.TheVariants.{Selection as Selecting, Validation as Validating}
+use Rattle.message.specs.declared.Kind.TheVariants.{Decision as Deciding}
 use Rattle.message.specs.declared.Body.{Body as ReadBody}
 use Rattle.message.specs.declared.Body.TheVariants.{Selection, Validation, Decision}
 use Rattle.message.proofs.EntryLaws.{entries_count}
@@ -47,23 +51,43 @@ framed_long s e =
     let h = both_true _ _ e in
     (leb-true _ _ (both_true _ _ h.0).0, leb-true _ _ h.1)
 
--- the kind picks the body; any but 1 and 2 picks a decision's
-module _ {kind : ℕ} {s : List ℕ} (is : OfKind s kind) where
-  pub kind_one : kind ≡ 1 → body_at s ≡ selection_at s
-  unfolding body_at
-  kind_one one = rw (sym is.same ∙ one)
+-- a selection's number picks a selection's body
+pub kind_one : (s : List ℕ) → kind_at s ≡ 1 → body_at s ≡ selection_at s
+unfolding body_at
+kind_one s one = rw one
 
-  pub kind_two : kind ≡ 2 → body_at s ≡ validation_at s
-  unfolding body_at
-  kind_two two = rw (sym is.same ∙ two)
+-- the kind picks the body
+module _ {kind : Kind} {s : List ℕ} (is : OfKind s kind) where
+  pub kind_number : (variant : Kind) → kind ≡ variant → kind_at s ≡ number_of variant
+  kind_number variant e = sym is.same ∙ ap number_of e
 
-  pub kind_other : kind ≢ 1 → kind ≢ 2 → body_at s ≡ decision_at s
+  pub of_selection : kind ≡ Selecting → body_at s ≡ selection_at s
+  of_selection one = kind_one s (kind_number Selecting one)
+
+  pub of_validation : kind ≡ Validating → body_at s ≡ validation_at s
   unfolding body_at
-  kind_other not-one not-two = simp (← is.same, ne_eqb _ _ not-one, ne_eqb _ _ not-two)
+  of_validation two = rw (kind_number Validating two)
+
+  pub of_decision : kind ≡ Deciding → body_at s ≡ decision_at s
+  unfolding body_at
+  of_decision three = rw (kind_number Deciding three)
 
   -- how long a selection is, by the count that stands in it
-  pub size_one : kind ≡ 1 → size_of (body_at s) ≡ entries_place + entry_size * get_or s count_place 0
-  size_one one = simp (kind_one one, entries_count)
+  pub selection_size : kind ≡ Selecting → size_of (body_at s) ≡ entries_place + entry_size * get_or s count_place 0
+  selection_size one = simp (of_selection one, entries_count)
+
+-- a kind's number is known
+number_known : (kind : Kind) → is_kind (number_of kind) ≡ true
+number_known Selecting = refl
+number_known Validating = refl
+number_known Deciding = refl
+
+pub known : {kind : Kind} {s : List ℕ} → OfKind s kind → kind_known s ≡ true
+known {kind} is = rw is.same at (number_known kind)
+
+-- a number of no kind is not a selection's
+pub unknown_lem : (number : ℕ) → is_kind number ≡ false → eqb number 1 ≡ false
+unknown_lem number other = ne_eqb number 1 (λ one. true≢false (rw one at other))
 
 -- every kind has a plan after the header
 pub plan_in_lem : (body : Body) → plan_place + plan_size ≤ size_of body

@@ -1,19 +1,18 @@
--- Bytes that are all 0: what joining them bit by bit tells, stretch by stretch, and that they are as many zeros.
+-- Bytes that are all 0: what joining them bit by bit tells, and that they are as many zeros.
 use mathlib.Core.Path.{◌≡◌, refl, sym, ap, ap₂, ◌∙◌}
 use mathlib.Core.Bool.{Bool, true, false, ◌&&◌, and_assoc}
 use mathlib.Core.List.{List, [], ◌∷◌, ◌++◌}
-use Prim.Native.Nat.{ℕ, zero, suc, ◌+◌, ◌-◌, ◌<◌, ◌≤◌}
+use Prim.Native.Nat.{ℕ, zero, suc, ◌+◌, ◌-◌, ◌≤◌}
 use native.Mathlib.Nat.{le_of_eq}
-use native.Mathlib.Numerals.{add-one}
 use native.Mathlib.Omega.{arith}
 use lib.Bits.{bit_or, or_add_and, and_le_r}
 use lib.Dec.{eqb}
-use lib.ListN.{length, get_or, take, drop, replicate, take-append-drop, length-drop}
-use lib.Seq.{drop-cons, take_all, take-add}
+use lib.ListN.{length, take, drop, replicate, take-append-drop, length-drop}
+use lib.Seq.{take_all, take-add}
 use borrow.Author.Tests.{eqb-true, ne_eqb}
+use Rattle.std.specs.List.{fold}
 use Rattle.wire.proofs.Tests.{both_true, and_true, by_equality}
 use Rattle.message.specs.Reading.{all_zero}
-use Rattle.message.specs.Promises.{bytes_between}
 
 -- two numbers joined bit by bit are 0 where both are
 pub or_zero_lem : (a b : ℕ) → eqb (bit_or a b) 0 ≡ eqb a 0 && eqb b 0
@@ -24,22 +23,14 @@ or_zero_lem a b =
     let joined = ne_eqb (bit_or a b) 0 (λ e. some (omega (arith, or_add_and a b, and_le_r a b))) in
     joined ∙ sym (ap (λ x. x && eqb b 0) (ne_eqb a 0 some)))
 
--- what the bytes before place i come to, joined bit by bit, and those from there up to a place
-module _ (bytes : List ℕ) (to seen i : ℕ) where
-  -- the byte at place i is joined
-  pub zero_here : i < to → to ≤ length bytes
-      → eqb (bit_or seen (get_or bytes i 0)) 0 && all_zero (bytes_between (i + 1) to bytes)
-      ≡ eqb seen 0 && all_zero (bytes_between i to bytes)
-  unfolding all_zero
-  zero_here here inside =
-      let count : to - i ≡ suc (to - (i + 1)) = omega arith in
-      rw (count, drop-cons bytes i 0 (omega arith), add-one i, or_zero_lem)
-      (and_assoc (eqb seen 0) (eqb (get_or bytes i 0) 0) (all_zero (bytes_between (suc i) to bytes)))
-
-  -- no byte is left
-  pub zeros_end : to ≤ i → eqb seen 0 && all_zero (bytes_between i to bytes) ≡ eqb seen 0
-  unfolding all_zero
-  zeros_end none = let count : to - i ≡ 0 = omega arith in rw count (and_true (eqb seen 0))
+-- bytes joined bit by bit are 0 where all of them are
+pub zeros_joined : (bytes : List ℕ) (seen : ℕ) → eqb (fold bit_or seen bytes) 0 ≡ eqb seen 0 && all_zero bytes
+unfolding all_zero
+zeros_joined [] seen = sym (and_true (eqb seen 0))
+zeros_joined (byte ∷ bytes) seen =
+    zeros_joined bytes (bit_or seen byte)
+    ∙ ap (λ b. b && all_zero bytes) (or_zero_lem seen byte)
+    ∙ and_assoc (eqb seen 0) (eqb byte 0) (all_zero bytes)
 
 pub zeros_clear : (k : ℕ) → all_zero (replicate k 0) ≡ true
 unfolding all_zero
@@ -68,29 +59,23 @@ tested_twice true true c = refl
 tested_twice true false c = refl
 tested_twice false b c = refl
 
--- the bytes from a place to the end
-pub between_rest : (bytes : List ℕ) (from : ℕ) → bytes_between from (length bytes) bytes ≡ drop from bytes
-between_rest bytes from = take_all (length bytes - from) (drop from bytes) (le_of_eq (length-drop from bytes))
-
-pub zeros_whole : (bytes : List ℕ) → all_zero (bytes_between 0 (length bytes) bytes) ≡ all_zero bytes
-zeros_whole bytes = ap all_zero (between_rest bytes 0)
-
 -- the bytes up to a place and those from an earlier place on are all bytes
 pub zeros_cover : (bytes : List ℕ) (early late : ℕ) → early ≤ late
-    → all_zero (bytes_between 0 late bytes) && all_zero (bytes_between early (length bytes) bytes) ≡ all_zero bytes
+    → all_zero (take late bytes) && all_zero (take (length bytes - early) (drop early bytes)) ≡ all_zero bytes
 zeros_cover bytes early late before =
     let front = take early bytes in
     let common = take (late - early) (drop early bytes) in
     let back = drop (late - early) (drop early bytes) in
-    let count : late - 0 ≡ early + (late - early) = omega arith in
-    let up_to : all_zero (bytes_between 0 late bytes) ≡ all_zero front && all_zero common =
+    let count : late ≡ early + (late - early) = omega arith in
+    let up_to : all_zero (take late bytes) ≡ all_zero front && all_zero common =
     ap (λ k. all_zero (take k bytes)) count
     ∙ ap all_zero (take-add early (late - early) bytes)
     ∙ zeros_both front common in
     let onward : all_zero (drop early bytes) ≡ all_zero common && all_zero back =
     ap all_zero (sym (take-append-drop (late - early) (drop early bytes))) ∙ zeros_both common back in
-    ap₂ ◌&&◌ up_to (ap all_zero (between_rest bytes early) ∙ onward)
+    let rest = take_all (length bytes - early) (drop early bytes) (le_of_eq (length-drop early bytes)) in
+    ap₂ ◌&&◌ up_to (ap all_zero rest ∙ onward)
     ∙ sym (tested_twice (all_zero front) (all_zero common) (all_zero back))
-    ∙ ap (λ rest. all_zero front && rest) (sym onward)
+    ∙ ap (λ tail. all_zero front && tail) (sym onward)
     ∙ sym (zeros_both front (drop early bytes))
     ∙ ap all_zero (take-append-drop early bytes)

@@ -1,7 +1,7 @@
 -- The bounds that a message's fields keep: document 01, 'Messages'.
 -- 01: "Bounds: phase 1 to 63; plans not 0; stamp below the phase in kind 1, at most the phase in kind 3; entries
 -- whose phases rise strictly and are below the message's phase."
-use Rattle.std.specs.Prelude.{ℕ, ◌+◌, ◌<◌, Bool, true, cond, ◌&&◌, List, [], ◌∷◌, length, leb, ltb}
+use Rattle.std.specs.Prelude.{ℕ, ◌+◌, ◌<◌, Bool, true, ◌&&◌, List, [], ◌∷◌, length, leb, ltb}
 use Rattle.wire.specs.Entry.{Entry}
 use Rattle.wire.specs.Plan.{plan_ok, phase_ok}
 use Rattle.wire.specs.Sizes.{plan_limit, run_limit}
@@ -13,11 +13,6 @@ unfoldable pub entries_ok : ℕ → ℕ → List Entry → Bool
 entries_ok least phase [] = true
 entries_ok least phase (e ∷ es) =
     leb least e.phase && ltb e.phase phase && plan_ok e.plan && entries_ok (e.phase + 1) phase es
-
--- The least phase that the entry after this one may have; 0 where this one's is before `least`, or it has no plan.
--- A promise of a private function: no public contract cites it.
-abbrev pub least_after : ℕ → Entry → ℕ
-least_after least e = cond (leb least e.phase && plan_ok e.plan) (e.phase + 1) 0
 
 -- "stamp below the phase in kind 1, at most the phase in kind 3"; "k at most 63"
 abbrev pub body_ok : ℕ → Body → Bool

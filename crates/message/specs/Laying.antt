@@ -1,6 +1,7 @@
 -- A message that is expected: what reading a slice answers where the kind, run and phase of its header are known
 -- beforehand, and the entries of a selection laid into a row, which has a place for each phase.
 use Rattle.std.specs.Prelude.{ℕ, Bool, cond, ◌&&◌, List, [], ◌∷◌, ◌≡◌, length, get_or, set, drop, leb, eqb}
+use Rattle.std.specs.Prelude.{Option as Answer, Some, None}
 use Rattle.std.proofs.Math.Option.{Option, none, some}
 use Rattle.wire.specs.Outcome.{Outcome, accepted, refused}
 use Rattle.wire.specs.Entry.{Entry}
@@ -12,8 +13,7 @@ use Rattle.message.specs.Bounds.{entries_ok}
 use Rattle.message.specs.Encoding.{kind_of, size_of}
 use Rattle.message.specs.Reading.{length_at, kind_at, body_at, framed, entries_in, body_as, read_of}
 use Rattle.message.specs.declared.Header.{Header}
-use Rattle.message.specs.declared.Expected.{Expected}
-use Rattle.message.specs.declared.Expected.TheVariants.{Body as Found, Other}
+use Rattle.message.specs.declared.Body.{Body as ReadBody}
 
 -- the message has this header's run, kind and phase
 abbrev pub bears : Header → Message → Bool
@@ -26,9 +26,9 @@ expected_in header (accepted m) = cond (bears header m) (some m.body) none
 expected_in header (refused number) = none
 
 -- what an answer of `read_expected` says of the slice
-abbrev pub expected_as : Expected → List ℕ → Option Body
-expected_as (Found body) s = some (body_as body s)
-expected_as Other s = none
+abbrev pub expected_as : Answer ReadBody → List ℕ → Option Body
+expected_as (Some body) s = some (body_as body s)
+expected_as None s = none
 
 -- a row with these entries in it, each at its phase
 unfoldable pub row_with : List ℕ → List Entry → List ℕ
@@ -66,6 +66,6 @@ row_after header s row =
     row
 
 -- What reading an expected message gives: what it says, and the row after it.
-pub record ExpectedFrom (header : Header) (s row : List ℕ) (r : Expected) (after : List ℕ) : Type 0 where
+pub record ExpectedFrom (header : Header) (s row : List ℕ) (r : Answer ReadBody) (after : List ℕ) : Type 0 where
   pub answer : expected_as r s ≡ expected_in header (read_of s)
   pub lays : after ≡ row_after header s row

@@ -1,6 +1,6 @@
 -- What reading a slice answers: document 01, 'Messages', and refusals 10 to 13; document 02, C-12, and refusal 16.
 use Rattle.std.specs.Prelude.{ℕ, zero, suc, ◌+◌, ◌*◌, ◌/◌, Bool, true, cond, ◌&&◌, leb, ltb, eqb}
-use Rattle.std.specs.Prelude.{List, [], ◌∷◌, length, get_or, take, drop}
+use Rattle.std.specs.Prelude.{List, [], ◌∷◌, length, get_or, take, drop, Result, Ok, Err}
 use Rattle.wire.specs.Outcome.{Outcome, accepted, refused, require}
 use Rattle.wire.specs.Entry.{Entry}
 use Rattle.wire.specs.Bytes.{number_at}
@@ -15,8 +15,7 @@ use Rattle.message.specs.declared.ReadRefusal.{ReadRefusal}
 use Rattle.message.specs.declared.ReadRefusal.TheVariants.{Cut, Kind, Length, Bound, Residue}
 use Rattle.message.specs.declared.Body.{Body as ReadBody}
 use Rattle.message.specs.declared.Body.TheVariants.{Selection, Validation, Decision}
-use Rattle.message.specs.declared.Reading.{Reading}
-use Rattle.message.specs.declared.Reading.TheVariants.{Message as Read, Refused}
+use Rattle.message.specs.declared.Message.{Message as ReadMessage}
 
 -- the header's fields, where the layout has them
 abbrev pub length_at : List ℕ → ℕ
@@ -146,6 +145,6 @@ body_as (Validation plan) s = validation plan
 body_as (Decision vote stamp) s = decision vote stamp
 
 -- what an answer of `read` says of the slice
-abbrev pub read_answer : Reading → List ℕ → Outcome Message
-read_answer (Read m) s = accepted (record { run = m.run; phase = m.phase; body = body_as m.body s })
-read_answer (Refused why) s = refused (read_number why)
+abbrev pub read_answer : Result ReadMessage ReadRefusal → List ℕ → Outcome Message
+read_answer (Ok m) s = accepted (record { run = m.run; phase = m.phase; body = body_as m.body s })
+read_answer (Err why) s = refused (read_number why)

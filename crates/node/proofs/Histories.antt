@@ -1,43 +1,28 @@
--- The empty entries of a history: a turn of the loop over them, and the test as a fact and back.
-use mathlib.Core.Path.{◌≡◌, refl, sym, ap, ◌∙◌}
-use mathlib.Core.Bool.{Bool, true, false, ◌&&◌, and_assoc}
+-- The empty entries of a history: the test of all of them at once, and the test as a fact and back.
+use mathlib.Core.Path.{◌≡◌, refl, ap, ◌∙◌}
+use mathlib.Core.Bool.{true, ◌&&◌}
 use mathlib.Core.List.{List}
 use Prim.Native.Nat.{ℕ, zero, suc, ◌+◌, ◌-◌, ◌≤◌, ◌<◌}
 use native.Mathlib.Omega.{arith}
 use native.Mathlib.Decide.{ℕ_discrete}
-use lib.ListN.{get_or}
+use native.Mathlib.Numerals.{add-one}
+use lib.ListN.{length, get_or, drop, drop_of_length-le}
+use lib.Seq.{drop-cons}
 use lib.Dec.{eqb}
 use borrow.Author.Tests.{eq-eqb, eqb-true}
 use Rattle.wire.proofs.Tests.{both_true}
-use Rattle.wire.specs.Sizes.{history_size}
+use Rattle.message.specs.Reading.{all_zero}
 use Rattle.node.specs.Soundness.{empty_from}
 
--- one entry, and those after it
-empty_turn : (history : List ℕ) (phase : ℕ) → phase < history_size
-    → empty_from history phase (history_size - phase)
-    ≡ (eqb (get_or history phase 0) 0 && empty_from history (phase + 1) (history_size - (phase + 1)))
-unfolding empty_from
-empty_turn history phase h =
-    let left : history_size - phase ≡ suc (history_size - (phase + 1)) = omega arith in
-    ap (empty_from history phase) left
-
--- what was found so far, with one entry more
-pub empty_more : (so_far : Bool) (history : List ℕ) (phase : ℕ) → phase < history_size
-    → ((so_far && eqb (get_or history phase 0) 0) && empty_from history (phase + 1) (history_size - (phase + 1)))
-    ≡ (so_far && empty_from history phase (history_size - phase))
-empty_more so_far history phase h =
-    and_assoc so_far (eqb (get_or history phase 0) 0) (empty_from history (phase + 1) (history_size - (phase + 1)))
-    ∙ ap (λ b. so_far && b) (sym (empty_turn history phase h))
-
--- no entries are left
-pub empty_end : (so_far : Bool) (history : List ℕ) (phase : ℕ) → history_size ≤ phase
-    → so_far ≡ (so_far && empty_from history phase (history_size - phase))
-unfolding empty_from
-empty_end so_far history phase h = let left : history_size - phase ≡ 0 = omega arith in rw left (go so_far)
-  where
-    go : (b : Bool) → b ≡ (b && true)
-    go true = refl
-    go false = refl
+-- the test of all entries from a phase on
+pub empty_rest : (history : List ℕ) (from count : ℕ) → count ≡ length history - from
+    → all_zero (drop from history) ≡ empty_from history from count
+unfolding empty_from all_zero
+empty_rest history from zero h = let past : length history ≤ from = omega arith in rw (drop_of_length-le history past)
+empty_rest history from (suc count) h =
+    let here : from < length history = omega arith in
+    let rest = rw add-one at (empty_rest history (from + 1) count (omega arith)) in
+    rw (drop-cons history from 0 here, add-one from) (ap (λ b. eqb (get_or history from 0) 0 && b) rest)
 
 -- entries that are 0 pass the test
 pub empty_is : (history : List ℕ) (from count : ℕ)

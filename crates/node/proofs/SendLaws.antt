@@ -10,17 +10,19 @@ use lib.ListN.{length, take, drop}
 use lib.Seq.{take_at}
 use lib.Dec.{leb, ltb}
 use borrow.Author.Tests.{ltb-true, lt-ltb, le-ltb, le-leb}
+use Rattle.std.specs.Prelude.{Result, Ok, Err, MatchResult, IsErrAnd}
+use Rattle.std.proofs.lemmas.Result.{err_from_is_err_and}
 use Rattle.wire.specs.Outcome.{Outcome, accepted, refused, require}
 use Rattle.wire.proofs.Outcomes.{passed, refused_not_accepted, same_number}
 use Rattle.wire.specs.Sizes.{spent_phase}
 use Rattle.message.specs.Fields.{Message}
-use Rattle.message.specs.Encoding.{encode}
 use Rattle.writer.specs.Writing as writer
 use Rattle.writer.specs.declared.WriteRefusal.{WriteRefusal}
 use Rattle.writer.specs.declared.WriteRefusal.TheVariants.{OutOfBounds, Short}
-use Rattle.writer.specs.declared.Writing.TheVariants.{Refused}
 use Rattle.message.proofs.EncodeLaws.{encode_length}
 use Rattle.node.specs.declared.Node.{Node}
+use Rattle.node.specs.declared.SendRefusal.{SendRefusal}
+use Rattle.node.specs.declared.SendRefusal.TheVariants.{Short as Unsent}
 use Rattle.node.specs.Soundness.{sound}
 use Rattle.node.specs.Sending.{
   listed_phases,
@@ -29,6 +31,7 @@ use Rattle.node.specs.Sending.{
   coming_bytes,
   write_coming_of,
   coming_buffer_of,
+  send_answer,
   Writes,
 }
 use Rattle.node.specs.Promises.{Due}
@@ -110,8 +113,13 @@ never_out_of_bounds d buffer = go (sound d) (ltb d.phase spent_phase) (leb (leng
     go true false c e = omega (arith, same_number e)
     go false b c e = omega (arith, same_number e)
 
--- so a writer that refuses has found the buffer too short
-pub only_short : (why : WriteRefusal) → writer.write_answer (Refused why) ≢ refused 13
-    → refused 9 ≡ writer.write_answer (Refused why)
-only_short OutOfBounds h = absurd (h refl)
-only_short Short h = refl
+-- so a writer that refuses has found the buffer too short, and is told on as that
+pub sent_as_written : (wrote : Result ℕ WriteRefusal) (sent : Result ℕ SendRefusal)
+    → writer.write_answer wrote ≢ refused 13
+    → MatchResult wrote (λ size. sent ≡ Ok size) (λ why. IsErrAnd sent (λ refusal. refusal ≡ Unsent))
+    → send_answer sent ≡ writer.write_answer wrote
+sent_as_written (Ok size) sent inside told = ap send_answer told
+sent_as_written (Err OutOfBounds) sent inside told = absurd (inside refl)
+sent_as_written (Err Short) sent inside told =
+    let refusal = err_from_is_err_and sent told in
+    rw (refusal.1, refusal.2)

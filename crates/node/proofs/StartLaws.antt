@@ -4,7 +4,7 @@ use mathlib.Core.Bool.{true, false}
 use Prim.Native.Nat.{ℕ, ◌≤◌, ◌<◌}
 use native.Mathlib.Omega.{arith}
 use native.Mathlib.Decide.{ℕ_discrete}
-use lib.ListN.{length, get_or, set, replicate, length-set, length-replicate}
+use lib.ListN.{get_or, set, replicate, length-set, length-replicate}
 use lib.Seq.{get_or-set_same, get_or-set_other}
 use lib.Dec.{leb, ltb}
 use borrow.Author.Tests.{ltb-true, leb-true, lt-ltb, le-ltb, le-leb}
@@ -17,10 +17,7 @@ use Rattle.crew.specs.Acceptance.{accept_of}
 use Rattle.node.specs.declared.Node.{Node}
 use Rattle.node.specs.Record.{begun, blank}
 use Rattle.node.specs.Soundness.{sound}
-use Rattle.node.specs.Starting.{start_of, start_number, StartedFrom}
-use Rattle.node.specs.Promises.{Refuses}
-use Rattle.node.specs.declared.StartRefusal.{StartRefusal}
-use Rattle.node.specs.declared.Started.{Started}
+use Rattle.node.specs.Starting.{start_of}
 use Rattle.node.proofs.Facts.{Typed, facts_sound}
 
 module _ (crew : Crew) (own run plan : ℕ) where
@@ -41,12 +38,6 @@ module _ (crew : Crew) (own run plan : ℕ) where
   pub start_without_crew : (number : ℕ) → accept_of crew ≡ refused number → start_of crew own run plan ≡ refused number
   unfolding start_of
   start_without_crew number e = simp e
-
--- a refused start answers its number and shows the blank record
-pub refusal_shown : {why : StartRefusal} {started : Started} (crew : Crew) (own run plan : ℕ) → Refuses why started
-    → start_of crew own run plan ≡ refused (start_number why)
-    → StartedFrom crew own run plan started
-refusal_shown crew own run plan shown e = record { answer = simp (e, shown.answer); node = simp (e, shown.node) }
 
 -- an operation that goes before another was accepted where the whole is
 after_accepted : {A : Type 0} (before : Outcome (Unit {0})) (next : Outcome A) {value : A}

@@ -38,6 +38,6 @@ zeroed history = record {
   history = history;
 }
 
--- 01 leaves free what stands beside a refused start's number: here all of it is 0, which is not sound.
+-- the record of no node: all of it is 0, which is not sound
 unfoldable pub blank : Node
 blank = zeroed (replicate history_size 0)

@@ -1,8 +1,8 @@
 -- What a node writes in its coming round, what writing it answers, and what it leaves in the lent buffer: document 01,
 -- and 02, C-13.
-use Rattle.std.specs.Prelude.{ℕ, ◌≡◌, Bool, cond, ◌&&◌, List, [], length, leb, ltb, eqb}
+use Rattle.std.specs.Prelude.{ℕ, Bool, cond, ◌&&◌, List, [], length, leb, ltb, eqb, Result}
 use Rattle.std.proofs.Math.Option.{Option, none, some}
-use Rattle.wire.specs.Outcome.{Outcome, accepted, refused, require}
+use Rattle.wire.specs.Outcome.{Outcome, accepted, require, outcome_of}
 use Rattle.wire.specs.Bytes.{buffer_after}
 use Rattle.wire.specs.Sizes.{spent_phase}
 use Rattle.crew.specs.Group.{validates}
@@ -13,9 +13,6 @@ use Rattle.node.specs.Soundness.{sound}
 use Rattle.node.specs.declared.Node.{Node}
 use Rattle.node.specs.declared.SendRefusal.{SendRefusal}
 use Rattle.node.specs.declared.SendRefusal.TheVariants.{Unsound, Spent, Short}
-use Rattle.node.specs.declared.Sending.{Sending}
-use Rattle.node.specs.declared.Sending.TheVariants.{Bytes, Refused}
-use Rattle.node.specs.declared.Sent.{Sent}
 
 -- how many phases' entries stand in a selection: only class 3 lists its history
 abbrev pub listed_phases : Node → ℕ
@@ -65,15 +62,9 @@ send_number Spent = 8
 send_number Short = 9
 
 -- what an answer of `write` says in 01's terms
-abbrev pub send_answer : Sending → Outcome ℕ
-send_answer (Bytes size) = accepted size
-send_answer (Refused why) = refused (send_number why)
+abbrev pub send_answer : Result ℕ SendRefusal → Outcome ℕ
+send_answer answer = outcome_of send_number answer
 
 -- Writing the record's coming message comes to this outcome, and leaves this in the buffer.
 abbrev pub Writes : Node → List ℕ → Outcome ℕ → List ℕ → Type 0
 Writes d buffer outcome after = Written (write_coming_of d buffer) (coming_buffer_of d buffer) outcome after
-
--- What `write` gives: that, and the record as it was handed in.
-pub record SentFrom (d : Node) (buffer : List ℕ) (sent : Sent) (after : List ℕ) : Type 0 where
-  pub written : Writes d buffer (send_answer sent.answer) after
-  pub node : sent.node ≡ d

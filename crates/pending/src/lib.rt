@@ -4,26 +4,38 @@
 #![tactic(auto)]
 
 ghost use Rattle.std.specs.Prelude.{◌≡◌};
-ghost use Rattle.pending.specs.Pairs.{nothing, with_cut, with_say, waiting_from};
+ghost use Rattle.pending.specs.Pairs.{idle, nothing, with_cut, with_say, waiting_from};
 
 use crew::MOST_NODES;
 use wire::Plan;
 
-#[derive(Clone, Copy)]
-pub struct Pending {
-    // Whether what the sender sends is lost.
-    pub cut: [bool; MOST_NODES],
-    // What the sender is to say, 0 for nothing.
-    pub plan: [Plan; MOST_NODES],
-    pub stamp: [u8; MOST_NODES],
-}
-
-// What waits from one sender; plan 0 where there is no say.
-#[derive(Clone, Copy)]
+// What waits from one sender.
+#[derive(Clone, Copy, PartialEq, Eq, Debug)]
 pub struct Waiting {
-    pub cut: bool,
+    // What the sender is to say, 0 for nothing: an Option of a plan and a stamp would double what a drill keeps.
     pub plan: Plan,
     pub stamp: u8,
+    // Whether what the sender sends is lost.
+    pub cut: bool,
+}
+
+// What waits for one receiver, by senders.
+#[derive(Clone, Copy, PartialEq, Eq, Debug)]
+pub struct Pending {
+    pub from: [Waiting; MOST_NODES],
+}
+
+impl Waiting {
+    // Nothing waits.
+    fn nothing() -> Waiting
+        ensures { result ≡ idle }
+    {
+        Waiting {
+            cut: false,
+            plan: 0,
+            stamp: 0,
+        }
+    }
 }
 
 impl Pending {
@@ -32,19 +44,18 @@ impl Pending {
         ensures { result ≡ nothing }
     {
         Pending {
-            cut: [false; MOST_NODES],
-            plan: [0; MOST_NODES],
-            stamp: [0u8; MOST_NODES],
+            from: [Waiting::nothing(); MOST_NODES],
         }
     }
 
-    // What the sender sends is lost.
+    // What the sender sends is lost. Here and in the next a test and an index stand for `get_mut`: a proof knows no
+    // element after it, but the array's length alone.
     pub fn with_cut(self, sender: usize) -> Pending
         ensures { result ≡ with_cut self sender }
     {
         let mut pending = self;
         if sender < MOST_NODES {
-            pending.cut[sender] = true;
+            pending.from[sender].cut = true;
         }
         pending
     }
@@ -55,30 +66,17 @@ impl Pending {
     {
         let mut pending = self;
         if sender < MOST_NODES {
-            pending.plan[sender] = plan;
-            pending.stamp[sender] = stamp;
+            let waiting = &mut pending.from[sender];
+            waiting.plan = plan;
+            waiting.stamp = stamp;
         }
         pending
     }
 
     // What waits from the sender.
-    pub fn from(self, sender: usize) -> Waiting
-        ensures { result ≡ waiting_from self sender }
+    pub fn waiting(&self, sender: usize) -> Waiting
+        ensures { result ≡ waiting_from self.now sender }
     {
-        if sender < MOST_NODES {
-            let cut = self.cut;
-            let plan = self.plan;
-            let stamp = self.stamp;
-            return Waiting {
-                cut: cut[sender],
-                plan: plan[sender],
-                stamp: stamp[sender],
-            };
-        }
-        Waiting {
-            cut: false,
-            plan: 0,
-            stamp: 0,
-        }
+        self.from.get(sender).copied().unwrap_or(Waiting::nothing())
     }
 }

@@ -1,14 +1,18 @@
 -- One text written after another is both, written as one.
 use mathlib.Core.Path.{◌≡◌, refl, ap, sym, ◌∙◌}
-use mathlib.Core.Bool.{Bool, false}
+use mathlib.Core.Bool.{Bool, true, false, cond}
 use mathlib.Core.List.{List, [], ◌∷◌, ◌++◌}
-use Prim.Native.Nat.{ℕ, suc, ◌+◌, ◌-◌, ◌<◌, ◌≤◌}
+use Prim.Native.Nat.{ℕ, suc, ◌+◌, ◌-◌, ◌<◌, ◌≤◌, min}
 use native.Mathlib.Nat.{add-zero}
+use native.Mathlib.Numerals.{add-one}
 use native.Mathlib.Omega.{arith}
-use lib.ListN.{length, length-append, set, get_or}
-use lib.Seq.{sets}
+use lib.ListN.{length, length-append, set, get_or, drop, drop_of_length-le}
+use lib.Seq.{sets, drop-cons}
+use lib.Dec.{leb}
+use borrow.Author.Tests.{leb-true, leb-false}
+use Rattle.crew.specs.Parts.{most_nodes}
 use Rattle.wire.proofs.Stores.{sets_append}
-use Rattle.print.specs.Texts.{Wrote, WroteWithin, Laid, line_most, field_of, fields_from}
+use Rattle.print.specs.Texts.{Wrote, WroteWithin, Laid, line_most, field_of, fields_from, nodes_shown}
 
 wrote_then : {l xs l' ys l'' : List ℕ} {at at' at'' : ℕ}
     → Wrote l at xs l' at' → Wrote l' at' ys l'' at'' → Wrote l at (xs ++ ys) l'' at''
@@ -87,3 +91,19 @@ module _ (rs : List ℕ) (hs : List Bool) (i n : ℕ) where
       let f = field_of (get_or hs i false) (get_or rs i 0) in
       let g = fields_from rs hs (i + 1) (n - (i + 1)) in
       wrote_rest f g a (rw k at inv)
+
+-- a text at the front, byte by byte: what a turn of the loop leaves
+pub put_more : (l l' text : List ℕ) (at : ℕ) (r : List ℕ) → at < length text → l' ≡ set l at (get_or text at 0)
+    → sets l at (drop at text) ≡ r → sets l' (at + 1) (drop (at + 1) text) ≡ r
+put_more l l' text at r inside put inv = rw (put, add-one at) (rw (drop-cons text at 0 inside) at inv)
+
+pub put_all : (l text : List ℕ) (at : ℕ) (r : List ℕ) → length text ≤ at → sets l at (drop at text) ≡ r → l ≡ r
+put_all l text at r ended inv = rw (drop_of_length-le text ended) at inv
+
+-- a line has room for so many nodes' results
+pub shown_is : (n : ℕ) → min n most_nodes ≡ nodes_shown n
+shown_is n = go (leb n most_nodes) refl
+  where
+    go : (t : Bool) → leb n most_nodes ≡ t → min n most_nodes ≡ cond t n most_nodes
+    go true e = omega (arith, leb-true _ _ e)
+    go false e = omega (arith, leb-false _ _ e)

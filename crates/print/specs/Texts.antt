@@ -46,12 +46,6 @@ fields_from results honest i (suc n) =
 abbrev pub nodes_shown : ℕ → ℕ
 nodes_shown n = cond (leb n most_nodes) n most_nodes
 
--- r is that number, and no more than the largest crew has.
--- A promise of a private function: no public contract cites it.
-pub record Shown (n r : ℕ) : Type 0 where
-  pub count : r ≡ nodes_shown n
-  pub within : r ≤ most_nodes
-
 -- 01: "Each go prints phase, round just done, and each node's result"
 unfoldable pub result_line : ℕ → ℕ → ℕ → List ℕ → List Bool → List ℕ
 result_line phase round n results honest =
@@ -63,9 +57,6 @@ line_most = decimal_most + 1 + decimal_most + field_most * most_nodes + 1
 
 abbrev pub word_of : ℕ → ℕ → ℕ → ℕ → List ℕ
 word_of w x y z = w ∷ x ∷ y ∷ z ∷ []
-
-abbrev pub word_size : ℕ
-word_size = 4
 
 -- the line for a bad line of that number
 unfoldable pub bad_line : ℕ → List ℕ

@@ -1,9 +1,12 @@
 // The lines that a drill prints, each laid at the front of a lent buffer; each public function answers its line's size.
 // What would lie beyond the buffer's end is left out, so a caller lends MOST_LINE bytes: no line is longer.
 // specs/Texts.antt has the texts, and how long they can be.
+// A buffer and the place to go on at travel together here. They are no struct that holds the `&mut`, as each contract
+// would then say besides that the struct lends the same buffer still. Numbers are printed digit by digit and not by the
+// library's `write!`: its writers refuse a buffer that is too short, where here all that fits stands (`Laid`).
 #![tactic(auto)]
 
-ghost use Rattle.std.specs.Prelude.{◌≡◌, ◌+◌, ◌*◌, ◌≤◌, set};
+ghost use Rattle.std.specs.Prelude.{◌≡◌, ◌+◌, ◌*◌, ◌≤◌, length, set};
 ghost use Rattle.crew.specs.Parts.{most_nodes};
 ghost use Rattle.print.specs.Texts.{
   WroteWithin,
@@ -19,10 +22,7 @@ ghost use Rattle.print.specs.Texts.{
   bad_line,
   end_line,
   long_line,
-  word_of,
-  word_size,
   nodes_shown,
-  Shown,
 };
 
 use crew::MOST_NODES;
@@ -31,7 +31,7 @@ use wire::Plan;
 
 const DASH: u8 = b'-';
 
-const ZERO: u32 = b'0' as u32;
+const ZERO: u8 = b'0';
 
 // No number that is printed has more digits.
 const MOST_DIGITS: usize = 5;
@@ -49,15 +49,14 @@ fn put(buf: &mut [u8], at: usize, byte: u8)
     }
 }
 
-// Four bytes at the front.
-fn put_word(buf: &mut [u8], w: u8, x: u8, y: u8, z: u8) -> usize
-    ensures { WroteWithin word_size buf.old 0 (word_of w x y z) buf.new result }
+// A text at the front.
+fn put_text(buf: &mut [u8], text: &[u8]) -> usize
+    ensures { WroteWithin (length text.now) buf.old 0 text.now buf.new result }
 {
-    put(buf, 0, w);
-    put(buf, 1, x);
-    put(buf, 2, y);
-    put(buf, 3, z);
-    4
+    for (at, &byte) in text.iter().enumerate() {
+        put(buf, at, byte);
+    }
+    text.len()
 }
 
 // The digit of the worth p, where the number is that large.
@@ -66,7 +65,7 @@ fn put_place(buf: &mut [u8], at: usize, v: u32, p: u32) -> usize
     ensures { WroteWithin 1 buf.old at (place_of v p) buf.new result }
 {
     if p <= v {
-        put(buf, at, (ZERO + v / p % 10) as u8);
+        put(buf, at, ZERO + (v / p % 10) as u8);
         at + 1
     } else {
         at
@@ -82,19 +81,19 @@ fn put_number(buf: &mut [u8], at: usize, v: u32) -> usize
     let b = put_place(buf, a, v, 1000);
     let c = put_place(buf, b, v, 100);
     let d = put_place(buf, c, v, 10);
-    put(buf, d, (ZERO + v % 10) as u8);
+    put(buf, d, ZERO + (v % 10) as u8);
     d + 1
 }
 
 // A space, and a node's result, or a dash.
-fn put_field(buf: &mut [u8], at: usize, honest: bool, res: Plan) -> usize
+fn put_field(buf: &mut [u8], at: usize, honest: bool, plan: Plan) -> usize
     requires { at + field_most ≤ line_most }
-    ensures { WroteWithin field_most buf.old at (field_of honest res) buf.new result }
+    ensures { WroteWithin field_most buf.old at (field_of honest plan) buf.new result }
 {
     put(buf, at, SPACE);
     let b = at + 1;
     if honest {
-        put_number(buf, b, res as u32)
+        put_number(buf, b, u32::from(plan))
     } else {
         put(buf, b, DASH);
         b + 1
@@ -106,30 +105,23 @@ fn put_fields(
     buf: &mut [u8],
     start: usize,
     n: usize,
-    results: [Plan; MOST_NODES],
-    honest: [bool; MOST_NODES],
+    results: &[Plan; MOST_NODES],
+    honest: &[bool; MOST_NODES],
 ) -> usize
     requires { (start + field_most * most_nodes ≤ line_most) × (n ≤ most_nodes) }
-    ensures { WroteWithin (field_most * most_nodes) buf.old start (fields_from results honest 0 n)
-        buf.new result }
+    ensures { WroteWithin (field_most * most_nodes) buf.old start
+        (fields_from results.now honest.now 0 n) buf.new result }
 {
     let mut at = start;
-    let mut i: usize = 0;
-    while i < n {
+    for i in 0..n {
         at = put_field(buf, at, honest[i], results[i]);
-        i = i + 1;
     }
     at
 }
 
-// A line has room for so many results: no crew has more nodes.
-fn nodes_shown(n: usize) -> usize
-    ensures { Shown n result }
-{
-    if n <= MOST_NODES { n } else { MOST_NODES }
-}
-
-// The line after a go: the phase and the round that it did, and the results of n nodes.
+// The line after a go: the phase and the round that it did, and the results of n nodes. It has room for MOST_NODES, and
+// no crew has more. The results stand apart from who is honest, as they do in crate aisle: the one changes, the other
+// does not. Phase and round are two numbers, as the drill's moment has them beside much that is not printed.
 pub fn result_line(
     buf: &mut [u8],
     phase: u8,
@@ -141,11 +133,11 @@ pub fn result_line(
     ensures { Laid buf.old (result_line phase round (nodes_shown n) results honest)
         buf.new result }
 {
-    let shown = nodes_shown(n);
-    let a = put_number(buf, 0, phase as u32);
+    let shown = n.min(MOST_NODES);
+    let a = put_number(buf, 0, u32::from(phase));
     put(buf, a, SPACE);
-    let b = put_number(buf, a + 1, round as u32);
-    let c = put_fields(buf, b, shown, results, honest);
+    let b = put_number(buf, a + 1, u32::from(round));
+    let c = put_fields(buf, b, shown, &results, &honest);
     put(buf, c, NEWLINE);
     c + 1
 }
@@ -154,7 +146,7 @@ pub fn result_line(
 pub fn bad_line(buf: &mut [u8], line: u32) -> usize
     ensures { Laid buf.old (bad_line line) buf.new result }
 {
-    let a = put_word(buf, b'b', b'a', b'd', SPACE);
+    let a = put_text(buf, b"bad ");
     let b = put_number(buf, a, line);
     put(buf, b, NEWLINE);
     b + 1
@@ -164,14 +156,12 @@ pub fn bad_line(buf: &mut [u8], line: u32) -> usize
 pub fn end_line(buf: &mut [u8]) -> usize
     ensures { Laid buf.old end_line buf.new result }
 {
-    put_word(buf, b'e', b'n', b'd', NEWLINE)
+    put_text(buf, b"end\n")
 }
 
 // `long`
 pub fn long_line(buf: &mut [u8]) -> usize
     ensures { Laid buf.old long_line buf.new result }
 {
-    let a = put_word(buf, b'l', b'o', b'n', b'g');
-    put(buf, a, NEWLINE);
-    a + 1
+    put_text(buf, b"long\n")
 }

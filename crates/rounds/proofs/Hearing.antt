@@ -14,12 +14,17 @@ use Rattle.wire.proofs.Marks.{marks_same}
 use Rattle.crew.specs.Thresholds.{Class, one, two, three, class_of}
 use Rattle.ballot.specs.Ballot.{Ballot}
 use Rattle.inbox.specs.Inbox.{ballot_in}
-use Rattle.inbox.specs.Columns.{Columns, columns, empty, ReadInto, Spoken, entries_of, listed_in, polled}
+use Rattle.inbox.specs.declared.Columns.{Columns}
+use Rattle.inbox.specs.Columns.{empty, ReadInto, Spoken, entries_of, listed_in, polled}
 use Rattle.inbox.proofs.Inboxes.{Mean, columns_mean}
 use Rattle.tally.specs.Rules.{slots_of}
 use Rattle.rounds.specs.declared.Round.{Round}
 use Rattle.rounds.specs.Steps.{heard_by, marks_with, LooksBack, Listed, OwnInbox, Walkable}
 use Rattle.rounds.proofs.Sizes.{number}
+
+-- the columns with the slots kept that count
+abbrev pub counting : List Bool → Columns → Columns
+counting kept read = record { present = kept; votes = read.votes; stamps = read.stamps }
 
 module _ {round : Round} {bytes blank : List ℕ} (ready : Walkable round bytes blank) (read : Columns)
     (histories : List ℕ) (is : ReadInto round.header bytes empty blank read histories) (kept : List Bool)
@@ -43,7 +48,7 @@ module _ {round : Round} {bytes blank : List ℕ} (ready : Walkable round bytes 
   -- an answer of a rule that looks at histories in the selections of class 3 alone
   pub on_heard : {A : Type 0} (rule : List Ballot → A) (x : A)
       → ((h : ℕ → List Entry) → Listed round histories h
-      → x ≡ rule (polled (columns kept read.votes read.stamps) h (slots_of round.crew)))
+      → x ≡ rule (polled (counting kept read) h (slots_of round.crew)))
       → x ≡ rule (heard_by round bytes)
   on_heard rule x with-histories = by_class (class_of round.crew) refl
     where

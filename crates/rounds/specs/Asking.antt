@@ -1,17 +1,17 @@
 -- What asking for the coming selection answers: document 01.
-use Rattle.std.specs.Prelude.{ℕ, ◌*◌, ◌≡◌, ◌&&◌, List, length, ltb, eqb}
+use Rattle.std.specs.Prelude.{ℕ, ◌*◌, ◌&&◌, List, length, ltb, eqb, Result, Ok, Err}
 use Rattle.wire.specs.Sizes.{spent_phase}
 use Rattle.wire.specs.Outcome.{Outcome, accepted, refused, require}
 use Rattle.crew.specs.Thresholds.{class_of}
 use Rattle.message.specs.Layout.{slot_size}
-use Rattle.ballot.specs.Selection.{Choice, plan, any, nothing, selection}
+use Rattle.ballot.specs.Selection.{Choice, selection}
 use Rattle.node.specs.declared.Node.{Node}
 use Rattle.node.specs.Soundness.{sound}
 use Rattle.inbox.specs.Inbox.{ballots}
+use Rattle.tally.specs.declared.Choice.{Choice as DeclaredChoice}
+use Rattle.tally.specs.Rules.{choice_as}
+use Rattle.rounds.specs.declared.TakeRefusal.{TakeRefusal}
 use Rattle.rounds.specs.Taking.{take_number}
-use Rattle.rounds.specs.declared.Asking.{Asking}
-use Rattle.rounds.specs.declared.Asking.TheVariants.{Plan, Any, Nothing, Refused}
-use Rattle.rounds.specs.declared.Asked.{Asked}
 
 -- Refused as taking a round is, and 01: "Asking outside round 1 is also 7."
 unfoldable pub ask_of : Node → List ℕ → Outcome Choice
@@ -22,13 +22,6 @@ ask_of d bytes =
     (accepted (selection (class_of d.crew) d.crew (ballots d bytes)))))
 
 -- what an answer of `ask` says in 01's terms
-abbrev pub ask_answer : Asking → Outcome Choice
-ask_answer (Plan v) = accepted (plan v)
-ask_answer Any = accepted any
-ask_answer Nothing = accepted nothing
-ask_answer (Refused why) = refused (take_number why)
-
--- What asking gives: its answer, and the record as it was handed in.
-pub record AskedFrom (d : Node) (bytes : List ℕ) (r : Asked) : Type 0 where
-  pub answer : ask_answer r.answer ≡ ask_of d bytes
-  pub node : r.node ≡ d
+abbrev pub ask_answer : Result DeclaredChoice TakeRefusal → Outcome Choice
+ask_answer (Ok choice) = accepted (choice_as choice)
+ask_answer (Err why) = refused (take_number why)

@@ -1,8 +1,10 @@
 -- Taking a round in two steps: what it comes to, and the record after it.
 -- Promises of private functions: no public contract cites this file.
-use Rattle.std.specs.Prelude.{ℕ, ◌*◌, ◌/◌, ◌≤◌, ◌<◌, ◌≡◌, Bool, cond, List, length, replicate, eqb}
+use Rattle.std.specs.Prelude.{ℕ, ◌*◌, ◌≤◌, ◌<◌, ◌≡◌, Bool, cond, List, length, replicate, ltb, eqb}
+use Rattle.std.specs.Prelude.{Result}
 use Rattle.wire.specs.Entry.{Entry}
 use Rattle.wire.specs.Sizes.{spent_phase, history_size}
+use Rattle.wire.specs.Outcome.{Outcome, accepted, require, outcome_of as outcome_by}
 use Rattle.wire.specs.Marks.{marks_of}
 use Rattle.crew.specs.declared.Crew.{Crew}
 use Rattle.crew.specs.Parts.{most_nodes}
@@ -13,15 +15,12 @@ use Rattle.ballot.specs.Selection.{Choice, plan, any, nothing, selection, taken}
 use Rattle.ballot.specs.Validation.{validated}
 use Rattle.ballot.specs.Decision.{decision}
 use Rattle.node.specs.declared.Node.{Node}
+use Rattle.node.specs.Soundness.{sound}
 use Rattle.inbox.specs.Inbox.{ballots_for, counts_in}
 use Rattle.inbox.specs.Columns.{listed_in}
 use Rattle.rounds.specs.declared.Round.{Round}
 use Rattle.rounds.specs.declared.TakeRefusal.{TakeRefusal}
-use Rattle.rounds.specs.declared.Taken.{Taken}
-use Rattle.rounds.specs.declared.Taking as taking
-use Rattle.rounds.specs.declared.Asked.{Asked}
-use Rattle.rounds.specs.declared.Asking as asking
-use Rattle.rounds.specs.Taking.{after_selection, after_validation, after_decision}
+use Rattle.rounds.specs.Taking.{take_number, after_selection, after_validation, after_decision}
 
 -- a node's coming round: round k takes kind k
 abbrev pub coming_round : Node → Bool → Round
@@ -72,13 +71,6 @@ LooksBack round = (class_of round.crew ≡ three) × (round.header.kind ≡ 1)
 abbrev pub Listed : Round → List ℕ → (ℕ → List Entry) → Type 0
 Listed round histories h = LooksBack round → h ≡ listed_in histories round.header.phase
 
--- a place for each slot and phase; and few, for a small crew or an early phase
-abbrev pub all_places : ℕ
-all_places = most_nodes * history_size
-
-abbrev pub few_places : ℕ
-few_places = all_places / 8
-
 -- the inbox is the crew's, and every node has a place in the columns
 pub record OwnInbox (crew : Crew) (bytes : List ℕ) : Type 0 where
   pub places : crew.n ≤ most_nodes
@@ -91,20 +83,13 @@ pub record Walkable (round : Round) (bytes blank : List ℕ) : Type 0 where
   pub clear : blank ≡ replicate (length blank) 0
   pub room : LooksBack round → round.header.phase * round.crew.n ≤ length blank
 
--- there are no histories to look at; or few places are enough for them; or they have one for each slot and phase
-pub record Without (round : Round) (bytes : List ℕ) : Type 0 where
+-- So many places, filled with this, are empty and enough for the histories that are looked at: there may be none. No
+-- round takes more than one for each slot and phase.
+pub record Roomy (places : ℕ) (round : Round) (bytes : List ℕ) (fill : ℕ) : Type 0 where
   pub own : OwnInbox round.crew bytes
-  pub unlisted : LooksBack round → ⊥
-
-pub record WithFew (round : Round) (bytes : List ℕ) (fill : ℕ) : Type 0 where
-  pub own : OwnInbox round.crew bytes
-  pub empty : fill ≡ 0
-  pub few : round.header.phase * round.crew.n ≤ few_places
-
-pub record WithAll (round : Round) (bytes : List ℕ) (fill : ℕ) : Type 0 where
-  pub own : OwnInbox round.crew bytes
-  pub empty : fill ≡ 0
-  pub early : round.header.phase < spent_phase
+  pub most : places ≤ most_nodes * history_size
+  pub empty : replicate places fill ≡ replicate places 0
+  pub room : LooksBack round → round.header.phase * round.crew.n ≤ places
 
 -- what is known of a node's round and its inbox
 pub record Heard (round : Round) (bytes : List ℕ) (fill : ℕ) : Type 0 where
@@ -121,9 +106,12 @@ after_plan d v =
     (cond (eqb d.round 2) (after_validation d v)
     (after_decision d v))
 
--- a refusal of a round, and of a selection that is asked for: the record as it was handed in stands beside it
-abbrev pub refused_take : Node → TakeRefusal → Taken
-refused_take d why = record { answer = taking.TheVariants.Refused why; node = d }
+-- A node's coming round with an inbox: what refuses a round, whatever is then made of it.
+abbrev pub ready_of : Node → List ℕ → Bool → Outcome Round
+ready_of d bytes asked =
+    require (sound d) 7
+    (require (ltb d.phase spent_phase) 8
+    (require (eqb (length bytes) (slot_size * d.crew.n)) 14 (accepted (coming_round d asked))))
 
-abbrev pub refused_ask : Node → TakeRefusal → Asked
-refused_ask d why = record { answer = asking.TheVariants.Refused why; node = d }
+abbrev pub ready_answer : Result Round TakeRefusal → Outcome Round
+ready_answer answer = outcome_by take_number answer

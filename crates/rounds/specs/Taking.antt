@@ -1,8 +1,8 @@
 -- What taking a round answers, and the record that it gives: document 01, 'The three rounds'.
-use Rattle.std.specs.Prelude.{ℕ, ◌*◌, ◌≡◌, cond, List, length, set, ltb, eqb}
+use Rattle.std.specs.Prelude.{ℕ, ◌*◌, ◌≡◌, cond, List, length, set, ltb, eqb, Result}
 use Rattle.wire.specs.Sizes.{spent_phase}
 use Rattle.wire.specs.Plan.{if_plan}
-use Rattle.wire.specs.Outcome.{Outcome, accepted, refused, require, verdict, value_or}
+use Rattle.wire.specs.Outcome.{Outcome, accepted, require, verdict, value_or, outcome_of}
 use Rattle.crew.specs.Thresholds.{class_of}
 use Rattle.message.specs.Layout.{slot_size}
 use Rattle.ballot.specs.Ballot.{Ballot}
@@ -15,9 +15,6 @@ use Rattle.node.specs.Place.{round_after, phase_after}
 use Rattle.inbox.specs.Inbox.{ballots}
 use Rattle.rounds.specs.declared.TakeRefusal.{TakeRefusal}
 use Rattle.rounds.specs.declared.TakeRefusal.TheVariants.{Unsound, Spent, Inbox}
-use Rattle.rounds.specs.declared.Taking.{Taking}
-use Rattle.rounds.specs.declared.Taking.TheVariants.{Accepted, Refused}
-use Rattle.rounds.specs.declared.Taken.{Taken}
 
 -- 01: "Select is the plan, or 0 for 'none'; a plan becomes the vote and the phase's history entry."
 abbrev pub after_selection : Node → ℕ → Node
@@ -89,12 +86,12 @@ take_number Unsound = 7
 take_number Spent = 8
 take_number Inbox = 14
 
--- what an answer of `take` says in 01's terms; the record stands beside it
-abbrev pub take_answer : Taking → Outcome (Unit {0})
-take_answer Accepted = accepted tt
-take_answer (Refused why) = refused (take_number why)
+-- what an answer of `take` says in 01's terms; the record stands in its own place
+abbrev pub take_answer : Result (Unit {0}) TakeRefusal → Outcome (Unit {0})
+take_answer answer = outcome_of take_number answer
 
--- What taking a round gives: its answer, and the next record or, where it is refused, the one that was handed in.
-pub record TakenFrom (d : Node) (bytes : List ℕ) (r : Taken) : Type 0 where
-  pub answer : take_answer r.answer ≡ verdict (take_of d bytes)
-  pub node : r.node ≡ value_or d (take_of d bytes)
+-- What taking a round gives: its answer, and in the record's place the next record or, where it is refused, the one
+-- that was handed in.
+pub record TakenFrom (d : Node) (bytes : List ℕ) (given : Result (Unit {0}) TakeRefusal) (after : Node) : Type 0 where
+  pub answer : take_answer given ≡ verdict (take_of d bytes)
+  pub node : after ≡ value_or d (take_of d bytes)

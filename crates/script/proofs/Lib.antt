@@ -1,3 +1,4 @@
 pub mod Walk
 pub mod Words
 pub mod Cases
+pub mod Fields

@@ -4,8 +4,8 @@
 
 ghost use Rattle.std.specs.Prelude.{◌≡◌, ◌+◌, drop};
 ghost use Rattle.script.specs.Lines.{until};
-ghost use Rattle.script.specs.Fields.{Digit, number_of, no_numbers, numbers_on, starts};
-ghost use Rattle.script.specs.Commands.{crew_line_of, plans_of, cut_of, say_of, line_of};
+ghost use Rattle.script.specs.Fields.{digit_of, byte_of, number_of, numbers_on};
+ghost use Rattle.script.specs.Commands.{crew_on, crew_line_of, plans_of, cut_on, say_on, line_of};
 
 use crew::{Crew, MOST_NODES};
 use wire::{PLAN_SIZE, Plan};
@@ -16,51 +16,29 @@ pub const NEWLINE: u8 = b'\n';
 pub const SPACE: u8 = b' ';
 
 const ZERO: u8 = b'0';
-
-const NINE: u8 = b'9';
-// What `digit` answers for a byte that is no digit.
-const NO_DIGIT: u64 = 10;
 // The largest plan, all bits of its bytes set. No number of a script is larger: every other bound is lower.
 const LARGEST: u32 = (1 << (8 * PLAN_SIZE)) - 1;
 // Line 1 has the crew's: class n b f D c.
 const CREW_FIELDS: usize = 6;
+// A cut has its sender and its receiver.
+const CUT_FIELDS: usize = 2;
+// A say has its plan and its stamp besides.
+const SAY_FIELDS: usize = 4;
 // No line has more numbers: line 2 has one for each node.
 const MOST_NUMBERS: usize = MOST_NODES;
 
 // A number of a line. It has a plan's type: none is larger than the largest plan.
 pub type Field = Plan;
 
-// A decimal field, read up to a bound that the reader names.
-#[derive(Clone, Copy)]
-pub enum Number {
-    Value(u32),
-    Bad,
-}
-
-// The numbers of a line, in the order in which they stand there; none are good where one of them is bad.
-#[derive(Clone, Copy)]
+// The numbers of a line, in the order in which they stand there. A count beside a buffer, since there is no heap.
+#[derive(Clone, Copy, PartialEq, Eq, Debug)]
 pub struct Numbers {
-    pub good: bool,
     pub count: usize,
     pub values: [Field; MOST_NUMBERS],
 }
 
-// Line 1: six numbers of one byte. Whether they are a crew that is accepted is not asked here.
-#[derive(Clone, Copy)]
-pub enum CrewLine {
-    Crew(Crew),
-    NoCrew,
-}
-
-// Line 2: the initial plan of each node, 0 for one that is not honest.
-#[derive(Clone, Copy)]
-pub struct Plans {
-    pub good: bool,
-    pub plans: [Plan; MOST_NODES],
-}
-
 // A cut or a say: it waits for the next go. A node's number and a stamp are one byte each: no larger one is allowed.
-#[derive(Clone, Copy)]
+#[derive(Clone, Copy, PartialEq, Eq, Debug)]
 pub enum Note {
     Cut {
         sender: u8,
@@ -75,229 +53,152 @@ pub enum Note {
 }
 
 // What a line from the third on asks for.
-#[derive(Clone, Copy)]
+#[derive(Clone, Copy, PartialEq, Eq, Debug)]
 pub enum Command {
     Note(Note),
     Go,
 }
 
-// Such a line: a command, or bad for how it is written.
-#[derive(Clone, Copy)]
-pub enum Line {
-    Good(Command),
-    Bad,
-}
-
 // The first place from a start on that holds the byte, or where the slice ends; the start itself where it lies beyond.
+// A place and no Option: there always is one. As `iter().skip(from).position(..)` its value was not proved.
 pub fn find(s: &[u8], byte: u8, from: usize) -> usize
     ensures { result ≡ from + until byte (drop from s.now) }
 {
-    let mut i = from;
-    while i < s.len() {
+    for i in from..s.len() {
         if s[i] == byte {
             return i;
         }
-        i = i + 1;
     }
-    i
+    from.max(s.len())
 }
 
-// A digit's value.
-fn digit(c: u8) -> u64
-    ensures { Digit c result }
+// A digit's value. Not `parse`: a field has a bound that the reader names, and no leading zeros.
+fn digit(c: u8) -> Option<u64>
+    ensures { result ≡ digit_of c }
 {
-    if c < ZERO {
-        return NO_DIGIT;
+    match c {
+        b'0'..=b'9' => Some(u64::from(c - ZERO)),
+        _ => None,
     }
-    if NINE < c {
-        return NO_DIGIT;
-    }
-    (c - ZERO) as u64
 }
 
 // A field's number, of at most `most`. It stops at the digit that takes it past that, so a field of any length is read
 // safely.
-pub fn decimal(s: &[u8], most: u32) -> Number
+pub fn decimal(s: &[u8], most: u32) -> Option<u32>
     ensures { result ≡ number_of most s.now }
 {
-    if s.len() == 0 {
-        return Number::Bad;
-    }
-    if (2 <= s.len()) & (s[0] == ZERO) {
-        return Number::Bad;
+    if s.is_empty() || (2 <= s.len() && s[0] == ZERO) {
+        return None;
     }
     // Ten times the largest `most` needs more than 32 bits.
-    let limit = most as u64;
     let mut value: u64 = 0;
-    let mut i: usize = 0;
-    while i < s.len() {
-        let d = digit(s[i]);
-        let w = 10 * value + d;
-        if (d < NO_DIGIT) & (w <= limit) {
-            value = w;
-            i = i + 1;
-        } else {
-            return Number::Bad;
+    for &byte in s {
+        value = 10 * value + digit(byte)?;
+        if u64::from(most) < value {
+            return None;
         }
     }
-    Number::Value(value as u32)
-}
-
-fn no_numbers() -> Numbers
-    ensures { result ≡ no_numbers }
-{
-    Numbers {
-        good: false,
-        count: 0,
-        values: [0; MOST_NUMBERS],
-    }
+    Some(value as u32)
 }
 
 // The fields of a slice as numbers.
-fn numbers_on(s: &[u8]) -> Numbers
+fn numbers_on(s: &[u8]) -> Option<Numbers>
     ensures { result ≡ numbers_on s.now }
 {
     let mut values = [0; MOST_NUMBERS];
-    let mut count: usize = 0;
-    let mut at: usize = 0;
-    loop {
-        let end = find(s, SPACE, at);
-        match decimal(&s[at..end], LARGEST) {
-            Number::Value(value) => {
-                if MOST_NUMBERS <= count {
-                    return no_numbers();
-                }
-                values[count] = value as Field;
-                count = count + 1;
-                if s.len() <= end {
-                    return Numbers {
-                        good: true,
-                        count: count,
-                        values: values,
-                    };
-                }
-                at = end + 1;
-            }
-            Number::Bad => {
-                return no_numbers();
-            }
+    let mut count = 0;
+    for field in s.split(|byte| *byte == SPACE) {
+        let value = decimal(field, LARGEST)?;
+        if MOST_NUMBERS <= count {
+            return None;
         }
+        values[count] = value as Field;
+        count += 1;
     }
+    Some(Numbers { count, values })
 }
 
-// The slice begins with the word.
-fn begins(s: &[u8], word: &[u8]) -> bool
-    ensures { result ≡ starts word.now s.now }
+// A number of one byte.
+fn byte(v: Field) -> Option<u8>
+    ensures { result ≡ byte_of v }
 {
-    if s.len() < word.len() {
-        return false;
-    }
-    let mut i: usize = 0;
-    while i < word.len() {
-        if s[i] == word[i] {
-            i = i + 1;
-        } else {
-            return false;
-        }
-    }
-    true
+    u8::try_from(v).ok()
 }
 
-fn to_crew(w: Numbers) -> CrewLine
-    ensures { result ≡ crew_line_of w }
+// This and the next two take a line's numbers by their places; no `From`, as the numbers may be too many or too large.
+fn to_crew(w: Numbers) -> Option<Crew>
+    ensures { result ≡ crew_on w }
 {
+    if w.count != CREW_FIELDS {
+        return None;
+    }
     let v = w.values;
-    let good = w.good
-        & (w.count == CREW_FIELDS)
-        & (v[0] <= 255)
-        & (v[1] <= 255)
-        & (v[2] <= 255)
-        & (v[3] <= 255)
-        & (v[4] <= 255)
-        & (v[5] <= 255);
-    if good {
-        let crew = Crew {
-            class: v[0] as u8,
-            n: v[1] as u8,
-            b: v[2] as u8,
-            f: v[3] as u8,
-            d: v[4] as u8,
-            c: v[5] as u8,
-        };
-        return CrewLine::Crew(crew);
-    }
-    CrewLine::NoCrew
+    Some(Crew {
+        class: byte(v[0])?,
+        n: byte(v[1])?,
+        b: byte(v[2])?,
+        f: byte(v[3])?,
+        d: byte(v[4])?,
+        c: byte(v[5])?,
+    })
 }
 
-// Line 1.
-pub fn crew_line(s: &[u8]) -> CrewLine
+// Line 1: six numbers of one byte. Whether they are a crew that is accepted is not asked here.
+pub fn crew_line(s: &[u8]) -> Option<Crew>
     ensures { result ≡ crew_line_of (numbers_on s.now) }
 {
-    to_crew(numbers_on(s))
+    to_crew(numbers_on(s)?)
 }
 
-// Line 2, for n nodes.
-pub fn plans_line(s: &[u8], n: usize) -> Plans
+// Line 2, for n nodes: the initial plan of each, 0 for one that is not honest.
+pub fn plans_line(s: &[u8], n: usize) -> Option<[Plan; MOST_NODES]>
     ensures { result ≡ plans_of (numbers_on s.now) n }
 {
-    let w = numbers_on(s);
-    if w.good & (w.count == n) {
-        let values = w.values;
-        return Plans {
-            good: true,
-            plans: values,
-        };
-    }
-    Plans {
-        good: false,
-        plans: [0; MOST_NODES],
-    }
+    let w = numbers_on(s)?;
+    if w.count == n { Some(w.values) } else { None }
 }
 
-fn to_cut(w: Numbers) -> Line
-    ensures { result ≡ cut_of w }
+fn to_cut(w: Numbers) -> Option<Command>
+    ensures { result ≡ cut_on w }
 {
-    let v = w.values;
-    let good = w.good & (w.count == 2) & (v[0] <= 255) & (v[1] <= 255);
-    if good {
-        let cut = Note::Cut {
-            sender: v[0] as u8,
-            receiver: v[1] as u8,
-        };
-        return Line::Good(Command::Note(cut));
+    if w.count != CUT_FIELDS {
+        return None;
     }
-    Line::Bad
+    let v = w.values;
+    Some(Command::Note(Note::Cut {
+        sender: byte(v[0])?,
+        receiver: byte(v[1])?,
+    }))
 }
 
-fn to_say(w: Numbers) -> Line
-    ensures { result ≡ say_of w }
+fn to_say(w: Numbers) -> Option<Command>
+    ensures { result ≡ say_on w }
 {
-    let v = w.values;
-    let good = w.good & (w.count == 4) & (v[0] <= 255) & (v[1] <= 255) & (v[3] <= 255);
-    if good {
-        let say = Note::Say {
-            sender: v[0] as u8,
-            receiver: v[1] as u8,
-            plan: v[2],
-            stamp: v[3] as u8,
-        };
-        return Line::Good(Command::Note(say));
+    if w.count != SAY_FIELDS {
+        return None;
     }
-    Line::Bad
+    let v = w.values;
+    Some(Command::Note(Note::Say {
+        sender: byte(v[0])?,
+        receiver: byte(v[1])?,
+        plan: v[2],
+        stamp: byte(v[3])?,
+    }))
 }
 
-// A line from the third on. Whether its numbers are within the bounds of the coming round is not asked here.
-pub fn command_line(s: &[u8]) -> Line
+// A line from the third on, or none where it is badly written. Whether its numbers are within the bounds of the coming
+// round is not asked here.
+pub fn command_line(s: &[u8]) -> Option<Command>
     ensures { result ≡ line_of s.now }
 {
-    if begins(s, b"cut ") {
-        return to_cut(numbers_on(&s[4..]));
+    if let Some(fields) = s.strip_prefix(b"cut ") {
+        return to_cut(numbers_on(fields)?);
     }
-    if begins(s, b"say ") {
-        return to_say(numbers_on(&s[4..]));
+    if let Some(fields) = s.strip_prefix(b"say ") {
+        return to_say(numbers_on(fields)?);
     }
-    if begins(s, b"go") & (s.len() == 2) {
-        return Line::Good(Command::Go);
+    if s == b"go".as_slice() {
+        return Some(Command::Go);
     }
-    Line::Bad
+    None
 }

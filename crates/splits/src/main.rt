@@ -3,10 +3,9 @@
 // line goes to standard error, and none to standard output.
 #![tactic(auto)]
 
-ghost use Rattle.std.specs.Prelude.{◌<◌, ◌≤◌, length};
+ghost use Rattle.std.specs.Prelude.{◌≤◌, length};
 
-use current::{MOST_BUDGET, MOST_DEMAND, MOST_SHUTTLES, SplitRefusal, Splitting};
-use script::Number;
+use current::{MOST_BUDGET, MOST_DEMAND, MOST_SHUTTLES, SplitRefusal};
 use std::env::FillError;
 use std::io;
 use std::rt::Env;
@@ -19,7 +18,8 @@ const FIRST_DEMAND: usize = 2;
 // Room for one demand more than a split may have: so many are refused, and more need not be read.
 const ROOM: usize = MOST_SHUTTLES + 1;
 
-// Out of both ranges: what an argument is taken for that is no number, or one above the largest budget.
+// Out of both ranges: what an argument is taken for that is no number, or one above the largest budget. So the split
+// refuses it where it refuses a number out of range, behind a wrong count.
 const OUTSIDE: u32 = MOST_BUDGET + 1;
 
 // The largest budget has so many digits.
@@ -28,54 +28,16 @@ const MOST_DIGITS: usize = 7;
 // So many equal numbers in a row are no longer shown one by one.
 const LONG_RUN: usize = 8;
 
-// 02's numbers of the refusals.
-const COUNT: u64 = 18;
-
-const AMOUNT: u64 = 19;
-
-// A number, or so many of it.
-fn show_run(rt: &impl Print, number: u32, count: usize) -> io::Result<()> {
-    if 1 < count {
-        print!(rt; " {number} ({count} times)")
-    } else {
-        print!(rt; " {number}")
-    }
-}
-
-// Where the run of equal numbers ends that begins at a place.
-fn run_end(numbers: &[u32], start: usize) -> usize
-    requires { start < length numbers.now }
-    ensures { (start < result) × (result ≤ length numbers.now) }
-{
-    let number = numbers[start];
-    let mut end = start + 1;
-    while end < numbers.len() {
-        if numbers[end] != number {
-            return end;
-        }
-        end = end + 1;
-    }
-    end
-}
-
-// Where the numbers end that are shown as one, from a place on: a long run, or the number there alone.
-fn shown_end(numbers: &[u32], start: usize) -> usize
-    requires { start < length numbers.now }
-    ensures { (start < result) × (result ≤ length numbers.now) }
-{
-    let end = run_end(numbers, start);
-    if end - start < LONG_RUN {
-        return start + 1;
-    }
-    end
-}
-
+// Each number, and how often it stands in a long run.
 fn show_numbers(rt: &impl Print, numbers: &[u32]) -> io::Result<()> {
-    let mut i: usize = 0;
-    while i < numbers.len() {
-        let end = shown_end(numbers, i);
-        show_run(rt, numbers[i], end - i)?;
-        i = end;
+    for run in numbers.chunk_by(|a, b| a == b) {
+        if LONG_RUN <= run.len() {
+            print!(rt; " {} ({} times)", run[0], run.len())?;
+        } else {
+            for number in run {
+                print!(rt; " {number}")?;
+            }
+        }
     }
     Ok(())
 }
@@ -83,11 +45,14 @@ fn show_numbers(rt: &impl Print, numbers: &[u32]) -> io::Result<()> {
 // A list of numbers, after some text.
 fn show_list(rt: &impl Print, text: &str, numbers: &[u32]) -> io::Result<()> {
     print!(rt; "{text}")?;
-    if numbers.len() == 0 {
+    if numbers.is_empty() {
         print!(rt; " none")?;
     }
     show_numbers(rt, numbers)
 }
+
+// A budget, the demands and the shares stay parameters: a struct of them would have to be made in each line below that
+// works a split out, and those lines would be no plainer.
 
 // What is split among whom.
 fn show_demands(rt: &impl Print, budget: u32, demands: &[u32]) -> io::Result<()> {
@@ -116,18 +81,19 @@ fn show_refused(
     println!(rt;)
 }
 
+// 02's number of a refusal: crate boundary has it too, on which this program does not build.
 fn number_of(why: SplitRefusal) -> u64 {
     match why {
-        SplitRefusal::Count => COUNT,
-        SplitRefusal::Amount => AMOUNT,
+        SplitRefusal::Count => 18,
+        SplitRefusal::Amount => 19,
     }
 }
 
 // A worked split. All shares are 7 before, which a refusal leaves.
 fn work_out(rt: &impl Print, budget: u32, demands: &[u32], shares: &mut [u32]) -> io::Result<()> {
     match current::split(demands, budget, shares) {
-        Splitting::Accepted => show_split(rt, budget, demands, shares),
-        Splitting::Refused(why) => show_refused(rt, budget, demands, number_of(why), shares),
+        Ok(()) => show_split(rt, budget, demands, shares),
+        Err(why) => show_refused(rt, budget, demands, number_of(why), shares),
     }
 }
 
@@ -219,37 +185,39 @@ fn answer_split(
     shares: &mut [u32],
 ) -> io::Result<()> {
     match current::split(demands, budget, shares) {
-        Splitting::Accepted => show_split(rt, budget, demands, shares),
-        Splitting::Refused(why) => refuse(rt, why),
+        Ok(()) => show_split(rt, budget, demands, shares),
+        Err(why) => refuse(rt, why),
     }
 }
 
 // The amount that an argument names, where there is such an argument.
 fn amount(rt: &impl Env, i: usize) -> Option<u32> {
     let mut text = [0u8; MOST_DIGITS];
-    let length = match rt.arg(i, &mut text) {
-        Ok(length) => length,
-        Err(FillError::TooLong) => return Some(OUTSIDE),
-        Err(FillError::NotPresent) => return None,
-    };
-    match script::decimal(&text[..length], MOST_BUDGET) {
-        Number::Value(amount) => Some(amount),
-        Number::Bad => Some(OUTSIDE),
+    match rt.arg(i, &mut text) {
+        Ok(length) => Some(script::decimal(&text[..length], MOST_BUDGET).unwrap_or(OUTSIDE)),
+        Err(FillError::TooLong) => Some(OUTSIDE),
+        Err(FillError::NotPresent) => None,
     }
 }
 
-// The split of a budget among the demands that the arguments name. Those for which there is no room are not read.
+// Reads the demands that the arguments name, and says how many: those for which there is no room are not read.
+fn read_demands(rt: &impl Env, demands: &mut [u32]) -> usize
+    ensures { result ≤ length demands.new }
+{
+    for (i, demand) in demands.iter_mut().enumerate() {
+        match amount(rt, FIRST_DEMAND + i) {
+            Some(named) => *demand = named,
+            None => return i,
+        }
+    }
+    demands.len()
+}
+
+// The split of a budget among the demands that the arguments name.
 fn answer(rt: &(impl Print + Eprint + Env), budget: u32) -> io::Result<()> {
     let mut demands = [0; ROOM];
-    let mut n: usize = 0;
-    while n < ROOM {
-        let Some(demand) = amount(rt, FIRST_DEMAND + n) else {
-            break;
-        };
-        demands[n] = demand;
-        n = n + 1;
-    }
     let mut shares = [0; ROOM];
+    let n = read_demands(rt, &mut demands);
     answer_split(rt, budget, &demands[..n], &mut shares[..n])
 }
 

@@ -13,8 +13,9 @@ use Rattle.crew.specs.Thresholds.{Class, one, two, three, E}
 use Rattle.ballot.specs.Count.{count_if}
 use Rattle.ballot.specs.Ballot.{Ballot, votes}
 use Rattle.ballot.specs.Selection.{Choice, possible, backed, backing, enough, answer, selection}
-use Rattle.ballot.proofs.Counting.{tally_has, tally_same}
-use Rattle.inbox.specs.Columns.{Columns, polled}
+use Rattle.ballot.proofs.Counting.{tally_has}
+use Rattle.inbox.specs.declared.Columns.{Columns}
+use Rattle.inbox.specs.Columns.{polled}
 use Rattle.tally.specs.declared.counts.Plans.{Plans}
 use Rattle.tally.specs.Marks.{
   Marks,
@@ -93,9 +94,7 @@ module _ (crew : Crew) (read : Columns) (h : ℕ → List Entry) (n : ℕ) where
   enough_two counted bounded =
       ap₂ (λ e count. ltb (e + crew.b) count) bounded.bound (counted.count ∙ sym (counting read h n))
 
-  pub enough_three : (marks : List Bool) {count e : ℕ} → Counted (marked marks) n count → Bounded crew e
-      → Marks marks n (stamped_with read.present read.stamps 0)
+  pub enough_three : {count e : ℕ} → Counted (stamped_with read.present read.stamps 0) n count → Bounded crew e
       → ltb e count ≡ enough three crew (polled read h n)
   unfolding enough
-  enough_three marks counted bounded are =
-      ap₂ ltb bounded.bound (counted.count ∙ tally_same (marked marks) _ n are ∙ sym (unstamped read h n))
+  enough_three counted bounded = ap₂ ltb bounded.bound (counted.count ∙ sym (unstamped read h n))

@@ -5,7 +5,6 @@ use mathlib.Core.Bool.{Bool, true, false, cond, ◌&&◌}
 use mathlib.Core.List.{List}
 use mathlib.Core.Option.{none}
 use Prim.Native.Nat.{ℕ, ◌+◌, max}
-use native.Mathlib.Omega.{arith}
 use lib.ListN.{get_or}
 use Rattle.wire.proofs.Tests.{both_true}
 use Rattle.ballot.specs.Count.{tally}
@@ -31,9 +30,8 @@ use Rattle.tally.proofs.Telling.{told_new, lowered_settles, joined_settles, max_
 -- a slot that says what an earlier one said is possible as that one is
 pub alike_needed : {present : List Bool} {votes stamps : List ℕ} (histories : List ℕ) (needed : Needed) {q p : ℕ}
     → Alike present votes stamps q p
-    → (marked present q && has_needed present votes stamps histories needed p)
-    ≡ has_needed present votes stamps histories needed q
-alike_needed histories needed alike = rw (alike.there, alike.vote, alike.stamp)
+    → has_needed present votes stamps histories needed p ≡ has_needed present votes stamps histories needed q
+alike_needed histories needed alike = rw (alike.here, alike.there, alike.vote, alike.stamp)
 
 -- The plans that slots vote for and that so many marked slots have, found one slot after the other.
 module _ (present marks : List Bool) (votes : List ℕ) (n needed : ℕ) where
@@ -71,12 +69,12 @@ module _ (present marks : List Bool) (votes : List ℕ) (n needed : ℕ) where
       least = held.least ∙ rw other at (told_new lowered lowered_settles none test vote present votes there alike q);
     }
 
--- the highest count of votes, with one slot more
-pub most_more : (present : List Bool) (votes : List ℕ) (n q most count : ℕ)
+-- the highest count of votes, with one slot more: that of its vote, where the slot is the first with it
+pub most_more : (present : List Bool) (votes : List ℕ) (n q most : ℕ)
     → most ≡ highest (marked present) (voters_of present votes n) q
-    → count ≡ cond (is_new present votes q) (voters_of present votes n q) 0
-    → max most count ≡ highest (marked present) (voters_of present votes n) (q + 1)
-most_more present votes n q most count is counted =
+    → cond (is_new present votes q) (max most (voters_of present votes n q)) most
+    ≡ highest (marked present) (voters_of present votes n) (q + 1)
+most_more present votes n q most is =
     go (is_new present votes q) refl
     ∙ told_new max max_settles 0 (marked present) voters present votes (λ k e. e)
     (λ a b first second same. (first ∙ sym second, ap (λ v. tally (voting present votes v) n) same)) q
@@ -86,8 +84,8 @@ most_more present votes n q most count is counted =
 
     -- a slot that is new is there
     go : (new : Bool) → is_new present votes q ≡ new
-        → max most count
+        → cond (is_new present votes q) (max most (voters q)) most
         ≡ cond (is_new present votes q && marked present q) (max (highest (marked present) voters q) (voters q))
         (highest (marked present) voters q)
-    go true e = rw (e, (both_true (marked present q) _ e).0, counted, e, is)
-    go false e = rw (e, counted, e) (omega (arith, is))
+    go true e = rw (e, (both_true (marked present q) _ e).0, is)
+    go false e = rw (e, is)

@@ -16,7 +16,8 @@ use Rattle.wire.specs.Entry.{entry_of, entries_from}
 use Rattle.ballot.specs.Count.{bit, count_if}
 use Rattle.ballot.specs.Ballot.{is_entry, lists}
 use Rattle.ballot.proofs.Counting.{count_append}
-use Rattle.inbox.specs.Columns.{Columns, row_at, listed_in, ballot_from}
+use Rattle.inbox.specs.declared.Columns.{Columns}
+use Rattle.inbox.specs.Columns.{row_at, listed_in, ballot_from}
 
 module _ (row : List ℕ) (v t : ℕ) where
   -- the plan stands at the phase's place

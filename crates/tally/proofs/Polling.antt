@@ -15,7 +15,8 @@ use Rattle.ballot.specs.Ballot.{Ballot, votes}
 use Rattle.ballot.specs.Least.{lower, least}
 use Rattle.ballot.specs.Selection.{besides, backing}
 use Rattle.ballot.proofs.Counting.{tally_same, count_gather, length_count}
-use Rattle.inbox.specs.Columns.{Columns, ballot_from, slot_of, polled}
+use Rattle.inbox.specs.declared.Columns.{Columns}
+use Rattle.inbox.specs.Columns.{ballot_from, slot_of, polled}
 use Rattle.tally.specs.Marks.{Marks, marked, voting, supporting, told, least_marked, backing_marked}
 use Rattle.tally.proofs.Backings.{beside_it, besides_marked, backing_told}
 

@@ -20,7 +20,9 @@ use Rattle.ballot.specs.Least.{least_of, or_zero}
 use Rattle.ballot.specs.Selection.{possible, backed, backing, leading}
 use Rattle.ballot.specs.Validation.{valid}
 use Rattle.ballot.specs.Decision.{fresh, decides}
-use Rattle.inbox.specs.Columns.{Columns, listed_in, ballot_from, polled}
+use Rattle.inbox.specs.declared.Columns.{Columns}
+use Rattle.inbox.specs.Columns.{listed_in, ballot_from, polled}
+use Rattle.tally.specs.declared.slots.Slots.{Slots}
 use Rattle.tally.specs.declared.counts.Plans.{Plans}
 use Rattle.tally.specs.Marks.{
   Marks,
@@ -190,27 +192,34 @@ module _ (read : Columns) (h : ℕ → List Entry) (n : ℕ) where
           more_than e _
           ∙ ap₂ ltb bounded.bound (sym (supports_polled read h n (vote_at read h q) (get_or read.stamps q 0)))
 
-      pub possible_marks : (histories : List ℕ) (phases : ℕ) (marks : List Bool)
-          → Marks marks n (has_needed read.present read.votes read.stamps histories
-          (record { slots = n; phases = phases; supporters = e + 1; listers = 0 }))
-          → Marks marks n (on_slot read h (possible crew ballots))
-      possible_marks histories phases marks are q less =
-          are q less
-          ∙ ap₂ (λ a b. marked read.present q && (a && b)) (supported q)
-          (leb-zero (listers_of read.present read.votes read.stamps histories phases n q))
-          ∙ ap (λ b. marked read.present q && b) (and_true _)
-          ∙ sym (on_slot_lem read h (possible crew ballots) q)
-
       pub two_needs : (marks : List Bool) → Marks marks n (on_slot read h (possible crew ballots))
           → (v : ℕ) → leb (crew.b + 1) (tally (voting marks read.votes v) n)
           ≡ ltb crew.b (count_if (λ k. possible crew ballots k && votes v k) ballots)
       two_needs marks are v =
           more_than crew.b _ ∙ ap (ltb crew.b) (sym (marked_polled read h n v (possible crew ballots) marks are))
 
+-- In class 2 marks single out the possible slots: none of them needs a lister.
+pub possible_marks : (read : Columns) (h : ℕ → List Entry) (slots : Slots) (crew : Crew) {e : ℕ} → Bounded crew e
+    → (histories : List ℕ) (phases : ℕ) (marks : List Bool)
+    → Marks marks slots.count (has_needed read.present read.votes read.stamps histories
+    (record { slots = slots; phases = phases; supporters = e + 1; listers = 0 }))
+    → Marks marks slots.count (on_slot read h (possible crew (polled read h slots.count)))
+possible_marks read h slots crew bounded histories phases marks are q less =
+    let n = slots.count in
+    are q less
+    ∙ ap₂ (λ a b. marked read.present q && (a && b)) (supported read h n crew bounded q)
+    (leb-zero (listers_of read.present read.votes read.stamps histories phases n q))
+    ∙ ap (λ b. marked read.present q && b) (and_true _)
+    ∙ sym (on_slot_lem read h (possible crew (polled read h n)) q)
+
 -- In class 3 the histories are those of the flat array, and marks single out the slots that back their vote.
-module _ (read : Columns) (histories : List ℕ) (n phases : ℕ) (crew : Crew) {e : ℕ} (bounded : Bounded crew e) where
+module _ (read : Columns) (histories : List ℕ) (slots : Slots) (phases : ℕ) (crew : Crew) {e : ℕ}
+    (bounded : Bounded crew e) where
   abbrev h : ℕ → List Entry
   h = listed_in histories phases
+
+  abbrev n : ℕ
+  n = slots.count
 
   listed : (q : ℕ)
       → leb (crew.b + 1) (listers_of read.present read.votes read.stamps histories phases n q)
@@ -222,12 +231,13 @@ module _ (read : Columns) (histories : List ℕ) (n phases : ℕ) (crew : Crew) 
       (λ k less. ap (λ b. marked read.present k && b)
       (place_lists read histories phases (vote_at read h q) (get_or read.stamps q 0) k))))
 
-  pub three_marks : (marks : List Bool)
+  pub three_marks : {b : ℕ} → b ≡ crew.b → (marks : List Bool)
       → Marks marks n (has_needed read.present read.votes read.stamps histories
-      (record { slots = n; phases = phases; supporters = e + 1; listers = crew.b + 1 }))
+      (record { slots = slots; phases = phases; supporters = e + 1; listers = b + 1 }))
       → Marks marks n (on_slot read h (backed three crew (polled read h n)))
   unfolding backed
-  three_marks marks are q less =
+  three_marks is marks are q less =
       are q less
-      ∙ ap₂ (λ a b. marked read.present q && (a && b)) (supported read h n crew bounded q) (listed q)
+      ∙ ap₂ (λ a b. marked read.present q && (a && b)) (supported read h n crew bounded q)
+      (ap (λ b. leb (b + 1) (listers_of read.present read.votes read.stamps histories phases n q)) is ∙ listed q)
       ∙ sym (on_slot_lem read h (backed three crew (polled read h n)) q)

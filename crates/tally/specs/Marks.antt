@@ -49,8 +49,8 @@ listers_of present votes stamps histories phases n q =
 abbrev pub has_needed : List Bool → List ℕ → List ℕ → List ℕ → Needed → ℕ → Bool
 has_needed present votes stamps histories needed q =
     marked present q
-    && (leb needed.supporters (supporters_of present votes stamps needed.slots q)
-    && leb needed.listers (listers_of present votes stamps histories needed.phases needed.slots q))
+    && (leb needed.supporters (supporters_of present votes stamps needed.slots.count q)
+    && leb needed.listers (listers_of present votes stamps histories needed.phases needed.slots.count q))
 
 -- a slot that is present has this stamp
 abbrev pub stamped_with : List Bool → List ℕ → ℕ → ℕ → Bool

@@ -1,15 +1,17 @@
 -- Stores of bytes one after the other: what the writers of messages, texts and images go by.
 use mathlib.Core.Path.{◌≡◌, refl, ap, sym, ◌∙◌}
-use mathlib.Core.Bool.{Bool, true, false}
 use mathlib.Core.Logic.{◌≢◌}
 use mathlib.Core.List.{List, [], ◌∷◌, ◌++◌, append-nil}
 use Prim.Native.Nat.{ℕ, suc, ◌+◌, ◌-◌, ◌<◌, ◌≤◌}
 use native.Mathlib.Nat.{add-zero, add-suc, suc-add, zero-add}
 use native.Mathlib.Omega.{arith}
-use lib.ListN.{length, set, drop, drop_of_length-le}
+use lib.ListN.{length, set, take, drop, drop_of_length-le}
 use lib.Seq.{sets, sets-eq, set-set, set_comm}
-use lib.Dec.{leb}
-use borrow.Author.Tests.{leb-true, leb-false, le-leb, lt-leb}
+use borrow.Author.Tests.{le-leb}
+use borrow.Rule.Slice.PartMut.{put_mid}
+use Rattle.std.proofs.Common.{append_assoc}
+use Rattle.std.proofs.lemmas.Slice.{put_mid-paste}
+use Rattle.std.proofs.lemmas.List.Edits.{paste_all}
 use Rattle.wire.specs.Bytes.{laid}
 
 -- the places of the third and the fourth byte of a run
@@ -56,16 +58,18 @@ sets_whole bs l same =
     let over : length l ≤ length bs = omega arith in
     sets_front bs l room ∙ ap (λ (rest : List ℕ). bs ++ rest) (drop_of_length-le l over) ∙ append-nil bs
 
--- so many bytes have room from a place on where the place is no later than the last that leaves room for them
-pub room_after : (size place count : ℕ) → count ≤ size → leb place (size - count) ≡ leb (place + count) size
-room_after size place count h = go (leb (place + count) size) refl
-  where
-    go : (b : Bool) → leb (place + count) size ≡ b → leb place (size - count) ≡ b
-    go true e = le-leb place (size - count) (omega (arith, leb-true (place + count) size e))
-    go false e = lt-leb place (size - count) (omega (arith, leb-false (place + count) size e))
-
 -- what is laid where it has room is stored
 pub laid_room : {after : List ℕ} (buffer bytes : List ℕ) (place : ℕ) → after ≡ laid buffer place bytes
     → place + length bytes ≤ length buffer → after ≡ sets buffer place bytes
 unfolding laid
 laid_room buffer bytes place e room = e ∙ rw (le-leb (place + length bytes) (length buffer) room)
+
+-- what is written into the part of a buffer that begins at a place is laid there
+pub laid_part : (buffer bytes part : List ℕ) (place : ℕ) → place + length bytes ≤ length buffer → part ≡ bytes
+    → put_mid place (place + length bytes - place) buffer part ≡ laid buffer place bytes
+unfolding laid
+laid_part buffer bytes part place room same =
+    put_mid-paste place (place + length bytes - place) buffer part bytes (length bytes) same (omega arith) refl
+    ∙ paste_all buffer place bytes (length bytes) refl
+    ∙ sym (append_assoc (take place buffer) bytes (drop (place + length bytes) buffer))
+    ∙ rw (le-leb (place + length bytes) (length buffer) room) (sym (sets-eq bytes buffer place room))

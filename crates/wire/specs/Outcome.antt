@@ -1,10 +1,15 @@
 -- What an operation of the papers, 01 and 02, answers: a value, or the number of its refusal.
 -- Every definition of an operation, from accepting a crew to taking a round, answers in this form.
-use Rattle.std.specs.Prelude.{Bool, true, false, ℕ}
+use Rattle.std.specs.Prelude.{Bool, true, false, ℕ, Result, Ok, Err}
 
 pub data Outcome (A : Type 0) : Type 0 where
   accepted : A → Outcome A
   refused : ℕ → Outcome A
+
+-- what an operation's result says in the papers' terms, by the number of each refusal
+abbrev pub outcome_of : {A E : Type 0} → (E → ℕ) → Result A E → Outcome A
+outcome_of number (Ok value) = accepted value
+outcome_of number (Err why) = refused (number why)
 
 -- The operation goes on where the test passes, and is refused with this number where it fails.
 -- 01: "The first that applies is given, and only where its condition holds."

@@ -2,7 +2,7 @@
 // bytes here and nowhere else. specs/Sizes.antt has the sizes as the definitions have them, specs/Bytes.antt the bytes.
 #![tactic(auto)]
 
-ghost use Rattle.std.specs.Prelude.{◌≡◌, [], ◌∷◌, ◌+◌, ◌*◌, ◌<◌, leb};
+ghost use Rattle.std.specs.Prelude.{◌≡◌, ℕ, [], ◌∷◌, ◌+◌, ◌*◌, ◌<◌, leb};
 ghost use Rattle.wire.specs.Plan.{plan_ok, phase_ok};
 ghost use Rattle.wire.specs.Sizes.{plan_size};
 ghost use Rattle.wire.specs.Bytes.{number_at, bytes_of, laid};
@@ -19,14 +19,15 @@ pub const RUN_SIZE: usize = 4;
 // The last phase of a run: no message has a later one.
 pub const LAST_PHASE: u8 = 63;
 
-// A history has an entry for each phase from 0, the time before the first, to the last.
+// A history has an entry for each phase from 0, the time before the first, to the last. It is made wide by `as`, for a
+// constant calls no function.
 pub const PHASES: usize = LAST_PHASE as usize + 1;
 
 // Whether a phase has rounds: 0 is the time before the first.
 pub fn is_phase(phase: u8) -> bool
     ensures { result ≡ phase_ok phase }
 {
-    (1 <= phase) & (phase <= LAST_PHASE)
+    (1..=LAST_PHASE).contains(&phase)
 }
 
 // Whether a number is a plan: 0 means none.
@@ -36,24 +37,20 @@ pub fn is_plan(plan: Plan) -> bool
     1 <= plan
 }
 
-// The number of two bytes, the least first.
+// The number of two bytes, the least first. Reading is a function for each size, and no method of `Number` below: it
+// would take `[u8; N]`, and the method of an impl with a const parameter cannot take its trait's clauses yet, so each
+// would write them out again.
 pub fn u16_of(low: u8, high: u8) -> u16
     ensures { result ≡ number_at 2 (low ∷ high ∷ []) 0 }
 {
-    low as u16 + 256 * (high as u16)
-}
-
-fn wide(x: u16) -> u32
-    ensures { (result ≡ x) × (result < 256 * 256) }
-{
-    x as u32
+    u16::from_le_bytes([low, high])
 }
 
 // The number of four bytes, the least first.
 pub fn u32_of(first: u8, second: u8, third: u8, fourth: u8) -> u32
     ensures { result ≡ number_at 4 (first ∷ second ∷ third ∷ fourth ∷ []) 0 }
 {
-    wide(u16_of(first, second)) + 256 * 256 * wide(u16_of(third, fourth))
+    u32::from_le_bytes([first, second, third, fourth])
 }
 
 // The plan that stands in these bytes: as many as a plan takes.
@@ -67,37 +64,46 @@ pub fn plan_of(low: u8, high: u8) -> Plan
 fn has_room(length: usize, place: usize, size: usize) -> bool
     ensures { result ≡ leb (place + size) length }
 {
-    if size <= length {
-        return place <= length - size;
-    }
-    false
+    size <= length && place <= length - size
 }
 
-// Lays a number from a place on, the least byte first; leaves a buffer that has no room for it as it is.
-pub fn put_u16(buf: &mut [u8], place: usize, number: u16)
-    ensures { buf.new ≡ laid buf.old place (bytes_of 2 number) }
+// Lays bytes from a place on; leaves a buffer that has no room for them as it is.
+#[tactic(auto, using(crate::proofs::Stores::laid_part), unfolding(crate::specs::Bytes::laid))]
+fn put_bytes(buf: &mut [u8], place: usize, bytes: &[u8])
+    ensures { buf.new ≡ laid buf.old place bytes.now }
 {
-    if has_room(buf.len(), place, 2) {
-        buf[place] = (number % 256) as u8;
-        buf[place + 1] = (number / 256 % 256) as u8;
+    if has_room(buf.len(), place, bytes.len()) {
+        buf[place..place + bytes.len()].copy_from_slice(bytes);
     }
 }
 
-// The same for a number of four bytes.
-pub fn put_u32(buf: &mut [u8], place: usize, value: u32)
-    ensures { buf.new ≡ laid buf.old place (bytes_of 4 value) }
-{
-    if has_room(buf.len(), place, 4) {
-        buf[place] = (value % 256) as u8;
-        buf[place + 1] = (value / 256 % 256) as u8;
-        buf[place + 2] = (value / 256 / 256 % 256) as u8;
-        buf[place + 3] = (value / 256 / 256 / 256 % 256) as u8;
+// A number of a message or an image, of as many bytes as its type has. A plan is one of these types, and so is a run.
+pub trait Number: Copy {
+    ghost size: { ℕ };
+
+    ghost value: { Self → ℕ };
+
+    // Lays the number from a place on, the least byte first; leaves a buffer that has no room for it as it is.
+    fn put(self, buf: &mut [u8], place: usize)
+        ensures { buf.new ≡ laid buf.old place (bytes_of size (value self)) };
+}
+
+impl Number for u16 {
+    ghost size = { 2 };
+
+    ghost value = { λ number. number };
+
+    fn put(self, buf: &mut [u8], place: usize) {
+        put_bytes(buf, place, &u16::to_le_bytes(self));
     }
 }
 
-// The same for a plan.
-pub fn put_plan(buf: &mut [u8], place: usize, plan: Plan)
-    ensures { buf.new ≡ laid buf.old place (bytes_of plan_size plan) }
-{
-    put_u16(buf, place, plan)
+impl Number for u32 {
+    ghost size = { 4 };
+
+    ghost value = { λ number. number };
+
+    fn put(self, buf: &mut [u8], place: usize) {
+        put_bytes(buf, place, &u32::to_le_bytes(self));
+    }
 }

@@ -5,9 +5,13 @@ use mathlib.Core.List.{List, [], ◌∷◌, ◌++◌}
 use Prim.Native.Nat.{ℕ, zero, suc, ◌+◌, ◌-◌, ◌<◌, ◌≤◌}
 use native.Mathlib.Nat.{sub-zero}
 use native.Mathlib.Omega.{arith}
+use native.Mathlib.Numerals.{add-one}
 use lib.Dec.{leb}
-use lib.ListN.{length, get_or, length-append}
-use lib.Seq.{sets}
+use lib.ListN.{length, get_or, length-append, take, drop}
+use Rattle.std.specs.Prelude.{count_by, filter}
+use Rattle.std.proofs.lemmas.List.Sums.{length-filter}
+use Rattle.wire.specs.Plan.{plan_ok}
+use lib.Seq.{sets, drop-cons}
 use borrow.Author.Tests.{le-leb, lt-ltb}
 use Rattle.wire.proofs.Stores.{sets_append}
 use Rattle.wire.specs.Entry.{Entry, entry_of, entries_from}
@@ -41,6 +45,27 @@ listed_count history from (suc count) =
       listed_count history (from + 1) count,
     )
 
+-- there is an entry for each of the phases that has a plan
+listed_plans : (history : List ℕ) (from count : ℕ) → from + count ≤ length history
+    → length (entries_from history from count) ≡ length (filter plan_ok (take count (drop from history)))
+unfolding entries_from
+listed_plans history from zero h = refl
+listed_plans history from (suc count) h =
+    let here : from < length history = omega arith in
+    rw (drop-cons history from 0 here, ← add-one from)
+    (go (plan_ok (get_or history from 0)) (record { phase = from; plan = get_or history from 0 }) _ _ _
+    (listed_plans history (from + 1) count (omega arith)))
+  where
+    go : (full : Bool) (e : Entry) (others : List Entry) (plan : ℕ) (plans : List ℕ) → length others ≡ length plans
+        → length (cond full (e ∷ []) [] ++ others) ≡ length (cond full (plan ∷ plans) plans)
+    go true e others plan plans same = ap suc same
+    go false e others plan plans same = same
+
+pub listed_counted : (history : List ℕ) (phases : ℕ) → phases ≤ length history
+    → length (entries_from history 0 phases) ≡ count_by plan_ok (take phases history)
+listed_counted history phases h =
+    listed_plans history 0 phases (omega arith) ∙ length-filter plan_ok (take phases history)
+
 -- an entry in front of others that keep their bounds
 entry_ok : (from plan least phase : ℕ) (full : Bool) (others : List Entry) → leb 1 plan ≡ full → least ≤ from
     → from < phase
@@ -67,10 +92,6 @@ module _ (history : List ℕ) (j phases : ℕ) (more : j < phases) where
       ≡ entry_of j (get_or history j 0) ++ entries_from history (j + 1) (phases - (j + 1))
   unfolding entries_from
   listed_turn = let left : phases - j ≡ suc (phases - (j + 1)) = omega arith in ap (entries_from history j) left
-
-  pub count_turn : length (entries_from history j (phases - j))
-      ≡ length (entry_of j (get_or history j 0)) + length (entries_from history (j + 1) (phases - (j + 1)))
-  count_turn = ap length listed_turn ∙ length-append (entry_of j (get_or history j 0)) _
 
   pub bytes_turn : entry_bytes (entries_from history j (phases - j))
       ≡ entry_bytes (entry_of j (get_or history j 0)) ++ entry_bytes (entries_from history (j + 1) (phases - (j + 1)))

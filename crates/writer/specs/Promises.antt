@@ -1,4 +1,4 @@
--- How many entries there are, where they have room, and what putting them leaves.
+-- Where entries have room, and what putting them leaves.
 -- Promises of private functions: no public contract cites this file.
 use Rattle.std.specs.Prelude.{ℕ, ◌+◌, ◌≤◌, ◌≡◌, List, length}
 use Rattle.std.proofs.lemmas.List.Edits.{sets}
@@ -6,11 +6,6 @@ use Rattle.wire.specs.Sizes.{last_phase}
 use Rattle.wire.specs.Entry.{Entry, entries_from}
 use Rattle.message.specs.Layout.{entries_place}
 use Rattle.message.specs.Encoding.{entry_bytes}
-
--- there are so many entries, and no more than `most`
-pub record CountsEntries (entries : List Entry) (most count : ℕ) : Type 0 where
-  pub same : count ≡ length entries
-  pub few : count ≤ most
 
 -- a history has the phases, and their entries have room in the buffer behind a selection's other fields
 pub record HaveRoom (history : List ℕ) (phases : ℕ) (buffer : List ℕ) : Type 0 where

@@ -1,7 +1,7 @@
 -- What writing the fields of a message answers, and what it leaves in the lent buffer.
 -- Fields that break a bound are refused first, with 13, then a buffer that is shorter than the message, with 9.
-use Rattle.std.specs.Prelude.{ℕ, ◌≡◌, List, length, leb}
-use Rattle.wire.specs.Outcome.{Outcome, accepted, refused, require}
+use Rattle.std.specs.Prelude.{ℕ, ◌≡◌, List, length, leb, Result}
+use Rattle.wire.specs.Outcome.{Outcome, accepted, require, outcome_of}
 use Rattle.wire.specs.Bytes.{buffer_after}
 use Rattle.wire.specs.Entry.{entries_from}
 use Rattle.message.specs.Fields.{Message, selection, validation, decision}
@@ -9,8 +9,6 @@ use Rattle.message.specs.Bounds.{within}
 use Rattle.message.specs.Encoding.{encode, size_of}
 use Rattle.writer.specs.declared.WriteRefusal.{WriteRefusal}
 use Rattle.writer.specs.declared.WriteRefusal.TheVariants.{Short, OutOfBounds}
-use Rattle.writer.specs.declared.Writing.{Writing}
-use Rattle.writer.specs.declared.Writing.TheVariants.{Bytes, Refused}
 
 -- the message's length, or the number of the refusal
 unfoldable pub write_message_of : Message → List ℕ → Outcome ℕ
@@ -51,9 +49,8 @@ write_number OutOfBounds = 13
 write_number Short = 9
 
 -- what an answer of a writer says in 01's terms
-abbrev pub write_answer : Writing → Outcome ℕ
-write_answer (Bytes size) = accepted size
-write_answer (Refused why) = refused (write_number why)
+abbrev pub write_answer : Result ℕ WriteRefusal → Outcome ℕ
+write_answer answer = outcome_of write_number answer
 
 -- What writing to the front of a lent buffer gives: its outcome, and what it leaves in the whole buffer.
 pub record Written (expected : Outcome ℕ) (whole : List ℕ) (outcome : Outcome ℕ) (after : List ℕ) : Type 0 where

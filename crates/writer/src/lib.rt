@@ -3,11 +3,12 @@
 // message's.
 #![tactic(auto)]
 
-ghost use Rattle.std.specs.Prelude.{◌≡◌, ◌+◌, ◌≤◌, length, ◌++◌};
+ghost use Rattle.std.specs.Prelude.{◌≡◌, ◌+◌, ◌≤◌, length, ◌++◌, take, count_by};
 ghost use Rattle.std.proofs.lemmas.List.Edits.{sets};
-ghost use Rattle.wire.specs.Sizes.{plan_size, last_phase};
+ghost use Rattle.wire.specs.Plan.{plan_ok};
+ghost use Rattle.wire.specs.Sizes.{plan_size};
 ghost use Rattle.wire.specs.Bytes.{bytes_of};
-ghost use Rattle.message.specs.Encoding.{header, entry_bytes};
+ghost use Rattle.message.specs.Encoding.{header as header_bytes, entry_bytes};
 ghost use Rattle.message.specs.Layout.{header_size, plan_place, entries_place};
 ghost use Rattle.writer.specs.Writing.{
   validation_of,
@@ -19,17 +20,18 @@ ghost use Rattle.writer.specs.Writing.{
   write_answer,
   Written,
 };
-ghost use Rattle.writer.specs.Promises.{CountsEntries, HaveRoom, Put};
+ghost use Rattle.writer.specs.Promises.{HaveRoom, Put};
 ghost use Rattle.wire.specs.Entry.{entry_of, entries_from};
 
 use message::{
-    COUNT_AT, DECISION, DECISION_LENGTH, ENTRIES_AT, ENTRY_SIZE, KIND_AT, LENGTH_AT, PHASE_AT,
-    PLAN_AT, RUN_AT, SELECTION, SELECTION_LENGTH, STAMP_AT, VALIDATION, VALIDATION_LENGTH,
+    COUNT_AT, DECISION, DECISION_LENGTH, ENTRIES_AT, ENTRY_SIZE, Header, KIND_AT, LENGTH_AT,
+    PHASE_AT, PLAN_AT, RUN_AT, SELECTION, SELECTION_LENGTH, STAMP_AT, VALIDATION,
+    VALIDATION_LENGTH,
 };
-use wire::{PHASES, Plan};
+use wire::{Number, PHASES, Plan};
 
 // Why writing refuses; `write_number` in specs/Writing.antt has 01's numbers.
-#[derive(Clone, Copy)]
+#[derive(Clone, Copy, PartialEq, Eq, Debug)]
 pub enum WriteRefusal {
     // The fields break a bound of the message.
     OutOfBounds,
@@ -37,86 +39,90 @@ pub enum WriteRefusal {
     Short,
 }
 
-// What writing a message answers: its length, or a refusal.
-#[derive(Clone, Copy)]
-pub enum Writing {
-    Bytes(usize),
-    Refused(WriteRefusal),
-}
-
-fn put_header(buf: &mut [u8], size: u16, kind: u16, run: u32, phase: u8)
+fn put_header(buf: &mut [u8], size: u16, header: Header)
     requires { header_size ≤ length buf.old }
-    ensures { buf.new ≡ sets buf.old 0 (header size kind run phase) }
+    ensures { buf.new ≡ sets buf.old 0 (header_bytes size header.kind header.run header.phase) }
 {
-    wire::put_u16(buf, LENGTH_AT, size);
-    wire::put_u16(buf, KIND_AT, kind);
-    wire::put_u32(buf, RUN_AT, run);
-    buf[PHASE_AT] = phase;
+    size.put(buf, LENGTH_AT);
+    header.kind.put(buf, KIND_AT);
+    header.run.put(buf, RUN_AT);
+    buf[PHASE_AT] = header.phase;
 }
 
 // Writes the header, and after it the plan that every message has: the vote of a selection or decision, the plan of a
 // validation.
-fn put_front(buf: &mut [u8], size: u16, kind: u16, run: u32, phase: u8, plan: Plan)
+fn put_front(buf: &mut [u8], size: u16, header: Header, plan: Plan)
     requires { plan_place + plan_size ≤ length buf.old }
     ensures { buf.new
-        ≡ sets buf.old 0 (header size kind run phase ++ bytes_of plan_size plan) }
+        ≡ sets buf.old 0
+        (header_bytes size header.kind header.run header.phase ++ bytes_of plan_size plan) }
 {
-    put_header(buf, size, kind, run, phase);
-    wire::put_plan(buf, PLAN_AT, plan);
+    put_header(buf, size, header);
+    plan.put(buf, PLAN_AT);
 }
 
-// Writes a validation. Fields that break a bound are refused, then a buffer that is too short.
-pub fn write_validation(buf: &mut [u8], run: u32, phase: u8, plan: Plan) -> Writing
+// Writes a validation and answers its length. Fields that break a bound are refused, then a buffer that is too short.
+pub fn write_validation(
+    buf: &mut [u8],
+    run: u32,
+    phase: u8,
+    plan: Plan,
+) -> Result<usize, WriteRefusal>
     ensures { Written (write_message_of (validation_of run phase plan) buf.old)
         (message_buffer_of (validation_of run phase plan) buf.old) (write_answer result) buf.new }
 {
-    let allowed = wire::is_phase(phase) & wire::is_plan(plan);
-    if allowed {
-        if buf.len() < VALIDATION_LENGTH as usize {
-            return Writing::Refused(WriteRefusal::Short);
-        }
-        put_front(buf, VALIDATION_LENGTH, VALIDATION, run, phase, plan);
-        return Writing::Bytes(VALIDATION_LENGTH as usize);
+    if !(wire::is_phase(phase) && wire::is_plan(plan)) {
+        return Err(WriteRefusal::OutOfBounds);
     }
-    Writing::Refused(WriteRefusal::OutOfBounds)
+    if buf.len() < usize::from(VALIDATION_LENGTH) {
+        return Err(WriteRefusal::Short);
+    }
+    let header = Header {
+        kind: VALIDATION,
+        run,
+        phase,
+    };
+    put_front(buf, VALIDATION_LENGTH, header, plan);
+    Ok(usize::from(VALIDATION_LENGTH))
 }
 
-// Writes a decision. Fields that break a bound are refused, then a buffer that is too short.
-pub fn write_decision(buf: &mut [u8], run: u32, phase: u8, vote: Plan, stamp: u8) -> Writing
+// Writes a decision and answers its length. Fields that break a bound are refused, then a buffer that is too short. It
+// is like the writer of a validation in shape alone: kind, length, fields and bounds are others.
+pub fn write_decision(
+    buf: &mut [u8],
+    run: u32,
+    phase: u8,
+    vote: Plan,
+    stamp: u8,
+) -> Result<usize, WriteRefusal>
     ensures { Written (write_message_of (decision_of run phase vote stamp) buf.old)
         (message_buffer_of (decision_of run phase vote stamp) buf.old) (write_answer result) buf.new }
 {
-    let allowed = wire::is_phase(phase) & (wire::is_plan(vote) & (stamp <= phase));
-    if allowed {
-        if buf.len() < DECISION_LENGTH as usize {
-            return Writing::Refused(WriteRefusal::Short);
-        }
-        put_front(buf, DECISION_LENGTH, DECISION, run, phase, vote);
-        buf[STAMP_AT] = stamp;
-        return Writing::Bytes(DECISION_LENGTH as usize);
+    if !(wire::is_phase(phase) && wire::is_plan(vote) && stamp <= phase) {
+        return Err(WriteRefusal::OutOfBounds);
     }
-    Writing::Refused(WriteRefusal::OutOfBounds)
-}
-
-// 1 for a phase that has a plan, else 0.
-fn one_if_plan(phase: u8, plan: Plan) -> usize
-    ensures { CountsEntries (entry_of phase plan) 1 result }
-{
-    if wire::is_plan(plan) { 1 } else { 0 }
+    if buf.len() < usize::from(DECISION_LENGTH) {
+        return Err(WriteRefusal::Short);
+    }
+    let header = Header {
+        kind: DECISION,
+        run,
+        phase,
+    };
+    put_front(buf, DECISION_LENGTH, header, vote);
+    buf[STAMP_AT] = stamp;
+    Ok(usize::from(DECISION_LENGTH))
 }
 
 // How many of the first phases have a plan.
-fn count_entries(history: [Plan; PHASES], phases: u8) -> usize
-    requires { phases ≤ last_phase }
-    ensures { CountsEntries (entries_from history 0 phases) phases result }
+fn count_entries(history: &[Plan; PHASES], phases: u8) -> usize
+    ensures { result ≡ count_by plan_ok (take phases history.now) }
 {
-    let mut count: usize = 0;
-    let mut phase: u8 = 0;
-    while phase < phases {
-        count = count + one_if_plan(phase, history[phase as usize]);
-        phase = phase + 1;
-    }
-    count
+    history
+        .iter()
+        .take(usize::from(phases))
+        .filter(|&&plan| wire::is_plan(plan))
+        .count()
 }
 
 // Writes the entry of a phase that has a plan, and answers the place after it.
@@ -124,57 +130,59 @@ fn put_entry(buf: &mut [u8], place: usize, phase: u8, plan: Plan) -> usize
     requires { place + length (entry_bytes (entry_of phase plan)) ≤ length buf.old }
     ensures { Put buf.old place (entry_of phase plan) buf.new result }
 {
-    if wire::is_plan(plan) {
-        buf[place] = phase;
-        wire::put_plan(buf, place + 1, plan);
-        place + ENTRY_SIZE
-    } else {
-        place
+    if !wire::is_plan(plan) {
+        return place;
     }
+    buf[place] = phase;
+    plan.put(buf, place + 1);
+    place + ENTRY_SIZE
 }
 
 // Writes the entries of the first phases.
-fn put_entries(buf: &mut [u8], history: [Plan; PHASES], phases: u8)
-    requires { HaveRoom history phases buf.old }
+fn put_entries(buf: &mut [u8], history: &[Plan; PHASES], phases: u8)
+    requires { HaveRoom history.now phases buf.old }
     ensures { buf.new
-        ≡ sets buf.old entries_place (entry_bytes (entries_from history 0 phases)) }
+        ≡ sets buf.old entries_place (entry_bytes (entries_from history.now 0 phases)) }
 {
-    let mut place: usize = ENTRIES_AT;
-    let mut phase: u8 = 0;
-    while phase < phases {
-        place = put_entry(buf, place, phase, history[phase as usize]);
-        phase = phase + 1;
+    let mut place = ENTRIES_AT;
+    for phase in 0..phases {
+        place = put_entry(buf, place, phase, history[usize::from(phase)]);
     }
 }
 
-// Writes a selection with the non-empty entries among the first `phases` of a history, where 0 is an empty entry.
-// Fields that break a bound are refused, and more phases than the message's own; then a buffer that is too short.
+// Writes a selection with the non-empty entries among the first `phases` of a history, where 0 is an empty entry, and
+// answers its length. Fields that break a bound are refused, and more phases than the message's own; then a buffer
+// that is too short.
 pub fn write_selection(
     buf: &mut [u8],
     run: u32,
     phase: u8,
     vote: Plan,
     stamp: u8,
-    history: [Plan; PHASES],
+    history: &[Plan; PHASES],
     phases: u8,
-) -> Writing
-    ensures { Written (write_selection_of run phase vote stamp history phases buf.old)
-        (selection_buffer_of run phase vote stamp history phases buf.old) (write_answer result)
+) -> Result<usize, WriteRefusal>
+    ensures { Written (write_selection_of run phase vote stamp history.now phases buf.old)
+        (selection_buffer_of run phase vote stamp history.now phases buf.old) (write_answer result)
         buf.new }
 {
-    let allowed = (phases <= phase)
-        & (wire::is_phase(phase) & (wire::is_plan(vote) & (stamp < phase)));
-    if allowed {
-        let count = count_entries(history, phases);
-        let size = SELECTION_LENGTH as usize + ENTRY_SIZE * count;
-        if buf.len() < size {
-            return Writing::Refused(WriteRefusal::Short);
-        }
-        put_front(buf, size as u16, SELECTION, run, phase, vote);
-        buf[STAMP_AT] = stamp;
-        buf[COUNT_AT] = count as u8;
-        put_entries(buf, history, phases);
-        return Writing::Bytes(size);
+    let allowed = phases <= phase && wire::is_phase(phase) && wire::is_plan(vote) && stamp < phase;
+    if !allowed {
+        return Err(WriteRefusal::OutOfBounds);
     }
-    Writing::Refused(WriteRefusal::OutOfBounds)
+    let count = count_entries(history, phases);
+    let size = usize::from(SELECTION_LENGTH) + ENTRY_SIZE * count;
+    if buf.len() < size {
+        return Err(WriteRefusal::Short);
+    }
+    let header = Header {
+        kind: SELECTION,
+        run,
+        phase,
+    };
+    put_front(buf, size as u16, header, vote);
+    buf[STAMP_AT] = stamp;
+    buf[COUNT_AT] = count as u8;
+    put_entries(buf, history, phases);
+    Ok(size)
 }

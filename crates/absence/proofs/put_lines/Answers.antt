@@ -1,14 +1,11 @@
 -- The answers to the goals of `put_lines`.
-use Rattle.absence.proofs.Laying.{laying_none, laying_more, laying_window, laying_lines}
+use Rattle.absence.proofs.Laying.{laying_more, laying_window, laying_lines}
 use Rattle.absence.proofs.put_lines.Goals as goal
-
-pub loop-i-init : goal.loop-i-init
-loop-i-init c = laying_none _ _ _ _
 
 pub loop-i-preserved : goal.loop-i-preserved
 loop-i-preserved c =
-    laying_more _ _ _ _ c.loop-i-test.true c.loop-i.invariant c.record_at.ensures
-    c.add_in-addition.ensures.window c.put_line-at.ensures
+    laying_more _ _ _ _ c.loop-i-test.true c.loop-i.invariant c.record_at.ensures c.add.ensures.window
+    c.put_line-at.ensures
 
 pub returns : goal.returns
 returns c =

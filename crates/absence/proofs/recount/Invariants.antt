@@ -1,13 +1,7 @@
 -- `recount` meets its contract. The invariant: the counts of the first q nodes are brought up to date.
 use mathlib.Core.Path.{◌≡◌}
-use Prim.Native.Nat.{◌≤◌, ◌-◌}
-use Rattle.crew.specs.Parts.{most_nodes}
 use Rattle.absence.specs.Ring.{recounted_to}
 use Rattle.absence.proofs.recount.Given as goal
 
 abbrev pub invariant-loop-q : goal.invariant-loop-q
-invariant-loop-q l =
-    (l.q ≤ most_nodes) × (l.missing ≡ recounted_to l.q l.initial.missing l.comes l.goes)
-
-abbrev pub decreases-loop-q : goal.decreases-loop-q
-decreases-loop-q l = most_nodes - l.q
+invariant-loop-q l = l.missing ≡ recounted_to l.q l.initial.missing l.comes l.goes

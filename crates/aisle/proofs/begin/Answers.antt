@@ -4,5 +4,4 @@ use Rattle.aisle.proofs.begin.Goals as goal
 
 pub returns : goal.returns
 unfolding begun_of
-returns c =
-    rw (c.honest_of-honest.ensures, c.start_nodes-nodes.ensures, c.empty-none.ensures)
+returns c = rw (c.honest_of.ensures, c.start_nodes.ensures, c.empty.ensures)

@@ -1,15 +1,13 @@
 -- `go` meets its contract.
+use native.Mathlib.Omega.{arith}
 use Rattle.aisle.specs.Round.{gone}
-use Rattle.aisle.proofs.Going.{is_ready}
+use Rattle.std.proofs.lemmas.Bool.Decides.{nat_tests}
 use Rattle.aisle.proofs.go.Goals as goal
 
-pub whole_round-requires : goal.whole_round-requires
-whole_round-requires c = is_ready c.args.setup c.args.moment c.if-ready.true
-
-pub returns-then-ready : goal.returns-then-ready
+pub returns-then-moment-lt-SPENT : goal.returns-then-moment-lt-SPENT
 unfolding gone
-returns-then-ready c = rw c.if-ready.true c.whole_round.ensures
+returns-then-moment-lt-SPENT c = grind (arith, nat_tests)
 
 pub returns : goal.returns
 unfolding gone
-returns c = rw c.if-ready.false
+returns c = grind (arith, nat_tests)

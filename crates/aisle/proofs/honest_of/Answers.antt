@@ -1,14 +1,19 @@
--- A turn of `honest_of` says of one node more whether it has a plan.
-use Rattle.wire.proofs.Arrays.{filling_none, filling_more}
+-- `honest_of` meets its contract.
+use mathlib.Core.Bool.{false}
+use lib.ListN.{get_or}
+use lib.Dec.{leb}
+use native.Mathlib.Omega.{arith}
+use borrow.Author.Rules.{rules}
+use Rattle.crew.specs.Parts.{most_nodes}
+use Rattle.wire.proofs.Arrays.{Filling}
 use Rattle.wire.proofs.Tables.{filled_table}
-use mathlib.Core.Path.{refl}
 use Rattle.aisle.proofs.honest_of.Goals as goal
 
-pub loop-i-init : goal.loop-i-init
-loop-i-init c = filling_none _ refl
-
-pub loop-i-preserved : goal.loop-i-preserved
-loop-i-preserved c = filling_more _ c.loop-i-test.true c.loop-i.invariant refl
-
 pub returns : goal.returns
-returns c = filled_table c.loop-i.invariant c.loop-i-test.false
+returns c =
+    let says : Filling false (λ i. leb 1 (get_or c.args.plans.now i 0)) most_nodes c.map.result most_nodes = record {
+      inside = omega arith;
+      long = c.map.ensures.items.long;
+      so_far = λ k less. search (rules, (c.map.ensures.items.at k 0 false less).2);
+    } in
+    filled_table says (omega arith)

@@ -10,9 +10,6 @@ use Rattle.aisle.proofs.messages.Goals as goal
 pub loop-sender-init : goal.loop-sender-init
 loop-sender-init c = laid_none _ _ (length-replicate {A = ℕ} inbox_size 0)
 
-pub slice_bounds-sent-end : goal.slice_bounds-sent-end
-slice_bounds-sent-end c = search (rules, laid_size _ _ _ _ c.loop-sender.invariant)
-
 pub loop-sender-preserved : goal.loop-sender-preserved
 loop-sender-preserved c =
     let inv = c.loop-sender.invariant in

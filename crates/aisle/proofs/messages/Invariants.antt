@@ -1,7 +1,5 @@
 -- `messages` meets its contract. The invariant: the first senders' slots hold what they send.
-use Prim.Native.Nat.{◌-◌}
 use lib.ListN.{replicate}
-use Rattle.crew.specs.Parts.{most_nodes}
 use Rattle.aisle.specs.Round.{inbox_size, sent_by}
 use Rattle.aisle.proofs.Slots.{Laid}
 use Rattle.aisle.proofs.messages.Given as goal
@@ -9,6 +7,3 @@ use Rattle.aisle.proofs.messages.Given as goal
 abbrev pub invariant-loop-sender : goal.invariant-loop-sender
 invariant-loop-sender l =
     Laid (sent_by l.nodes l.honest) (replicate inbox_size 0) l.sent l.sender
-
-abbrev pub decreases-loop-sender : goal.decreases-loop-sender
-decreases-loop-sender l = most_nodes - l.sender

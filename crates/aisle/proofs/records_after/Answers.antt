@@ -7,7 +7,7 @@ use Rattle.wire.proofs.Tables.{filled_table}
 use Rattle.aisle.proofs.Tables.{length_mapped}
 use Rattle.aisle.proofs.Records.{inbox_is, honest_takes, others_stay}
 use borrow.Author.Rules.{rules}
-use Rattle.aisle.proofs.records_after.Goals.{then-honest-receiver, else-honest-receiver}
+use Rattle.aisle.proofs.records_after.Goals.{then-setup-receiver, else-setup-receiver}
 use Rattle.aisle.proofs.records_after.Goals as goal
 
 pub loop-receiver-init : goal.loop-receiver-init
@@ -15,19 +15,19 @@ loop-receiver-init c =
     record { taken = filling_none _ (search (rules, length_mapped)); others = λ k later. refl }
 
 pub slice_bounds-take-end : goal.slice_bounds-take-end
-slice_bounds-take-end c = sym (length-take-le _ _ (omega (arith, c.fill_inbox.ensures.size)))
+slice_bounds-take-end c = sym (length-take-le _ _ (omega (arith, c.deliver_all.ensures.size)))
 
 pub loop-receiver-preserved : goal.loop-receiver-preserved
 loop-receiver-preserved c =
     let inv = c.loop-receiver.invariant in
     let less = c.loop-receiver-test.true in
-    elim c.if-honest-receiver.branch [
-      | then-honest-receiver w ↦
+    elim c.if-setup-receiver.branch [
+      | then-setup-receiver w ↦
           let all = c.messages-sent.ensures in
-          let is = inbox_is c.args.setup c.args.moment _ _ _ c.requires all w.fill_inbox.ensures in
-          let after = w.take-taken.ensures.node in
-          rw w.nodes-is (honest_takes _ _ _ _ less inv _ _ w.if-honest-receiver.true is after)
-      | else-honest-receiver w ↦ rw w.nodes-is (others_stay _ _ _ _ less inv w.if-honest-receiver.false)
+          let is = inbox_is c.args.setup.now c.args.moment.now _ _ _ c.requires all w.deliver_all.ensures in
+          let after = rw c.from-size.ensures at w.take.ensures.node in
+          rw w.node-items-is (honest_takes _ _ _ _ less inv _ _ w.if-setup-receiver.true is after)
+      | else-setup-receiver w ↦ rw w.node-items-is (others_stay _ _ _ _ less inv w.if-setup-receiver.false)
     ]
 
 pub returns : goal.returns

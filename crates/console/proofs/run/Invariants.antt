@@ -14,8 +14,8 @@ pub record Handed (input : List ℕ) (cursor : Cursor) (text : List ℕ) (size :
   pub room : length text ≡ line_most
   pub shows : Shows input cursor size
 
-abbrev pub invariant-loop-step : goal.invariant-loop-step
-invariant-loop-step g l = Handed l.input l.step.next l.text l.size
+abbrev pub invariant-loop-cursor : goal.invariant-loop-cursor
+invariant-loop-cursor g l = Handed l.input l.cursor l.text l.size
 
-abbrev pub decreases-loop-step : goal.decreases-loop-step
-decreases-loop-step g l = way l.input l.step.next
+abbrev pub decreases-loop-cursor : goal.decreases-loop-cursor
+decreases-loop-cursor g l = way l.input l.cursor

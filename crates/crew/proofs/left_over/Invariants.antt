@@ -6,7 +6,7 @@ use Rattle.crew.proofs.left_over.Given as goal
 
 abbrev pub invariant-loop-left : goal.invariant-loop-left
 invariant-loop-left l =
-    (l.rest % l.n ≡ l.number % l.n) × (l.rest < l.left * l.n) × (l.left ≤ l.times)
+    (l.rest % l.n ≡ l.number % l.n) × (l.rest < l.left * l.n) × (l.left ≤ 256)
 
 abbrev pub decreases-loop-left : goal.decreases-loop-left
 decreases-loop-left l = l.left

@@ -4,12 +4,12 @@ use native.Mathlib.Omega.{arith}
 use Rattle.current.proofs.Fair.{each_its_demand}
 use Rattle.current.proofs.fill.Goals as goal
 
-pub returns-then-all-wide : goal.returns-then-all-wide
-returns-then-all-wide c =
+pub returns-then-all-from : goal.returns-then-all-from
+returns-then-all-from c =
     c.copy.ensures
     ∙ sym (each_its_demand _ _ (omega (
       arith,
-      c.if-all-wide.true,
-      c.wide.ensures.same,
+      c.if-all-from.true,
+      c.from.ensures,
       c.total-all.ensures,
     )))

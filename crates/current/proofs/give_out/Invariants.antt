@@ -2,7 +2,7 @@
 -- the others are as they were.
 use mathlib.Core.Path.{◌≡◌}
 use mathlib.Core.List.{List}
-use Prim.Native.Nat.{ℕ, ◌-◌, ◌≤◌}
+use Prim.Native.Nat.{ℕ, ◌≤◌}
 use lib.ListN.{length, get_or}
 use Rattle.wire.proofs.Arrays.{Filling}
 use Rattle.current.specs.Promises.{with_extra}
@@ -14,6 +14,3 @@ pub record Given (priorities : List ℕ) (left : ℕ) (shares₀ shares : List �
 
 abbrev pub invariant-loop-i : goal.invariant-loop-i
 invariant-loop-i l = Given l.priorities l.left l.initial.shares l.shares l.i
-
-abbrev pub decreases-loop-i : goal.decreases-loop-i
-decreases-loop-i l = l.n - l.i

@@ -4,16 +4,15 @@ use Rattle.wire.specs.Outcome.{verdict}
 use Rattle.current.proofs.Judged.{judged_accepted, judged_amount, judged_count}
 use Rattle.current.proofs.judge.Goals as goal
 
-pub returns-then-is_in_range : goal.returns-then-is_in_range
-returns-then-is_in_range c =
-    sym (ap verdict (judged_accepted _ _ _ (sym c.is_count.ensures ∙ c.if-is_count.true)
-    (sym c.is_in_range.ensures ∙ c.if-is_in_range.true)))
+pub returns-then-not-is_count : goal.returns-then-not-is_count
+returns-then-not-is_count c = sym (ap verdict (judged_count _ _ _ (sym c.is_count.ensures ∙ c.if-not-is_count.true)))
 
-pub returns-then-is_count : goal.returns-then-is_count
-returns-then-is_count c =
-    sym (ap verdict (judged_amount _ _ _ (sym c.is_count.ensures ∙ c.if-is_count.true)
-    (sym c.is_in_range.ensures ∙ c.if-is_in_range.false)))
+pub returns-then-not-is_in_range : goal.returns-then-not-is_in_range
+returns-then-not-is_in_range c =
+    sym (ap verdict (judged_amount _ _ _ (sym c.is_count.ensures ∙ c.if-not-is_count.false)
+    (sym c.is_in_range.ensures ∙ c.if-not-is_in_range.true)))
 
 pub returns : goal.returns
 returns c =
-    sym (ap verdict (judged_count _ _ _ (sym c.is_count.ensures ∙ c.if-is_count.false)))
+    sym (ap verdict (judged_accepted _ _ _ (sym c.is_count.ensures ∙ c.if-not-is_count.false)
+    (sym c.is_in_range.ensures ∙ c.if-not-is_in_range.false)))

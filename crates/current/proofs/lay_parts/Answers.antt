@@ -3,29 +3,16 @@ use mathlib.Core.Path.{ap, ◌∙◌}
 use Prim.Native.Nat.{ℕ}
 use native.Mathlib.Omega.{arith}
 use borrow.Author.Rules.{rules}
-use Rattle.wire.proofs.Arrays.{filling_none, filling_more, filling_until}
+use Rattle.wire.proofs.Arrays.{filling_more, filling_until}
 use Rattle.wire.proofs.Tables.{filled_table}
 use Rattle.current.specs.Promises.{priority_of}
-use Rattle.current.proofs.Steps.{whole_is, rest_is, total_low, whole_low, rest_low}
+use Rattle.current.proofs.Steps.{whole_is, rest_is, total_low, rest_low}
 use Rattle.current.proofs.lay_parts.Goals as goal
-
-pub loop-i-init : goal.loop-i-init
-loop-i-init c =
-    record {
-      wholes = filling_none _ c.requires.room.as_many;
-      order = filling_none _ c.requires.room.places;
-    }
 
 pub part_of-part-requires : goal.part_of-part-requires
 part_of-part-requires c =
     let scarce = c.requires.scarce in
     (c.product.ensures.low, omega (arith, scarce.over), total_low scarce)
-
-pub overflow_cast-shares : goal.overflow_cast-shares
-overflow_cast-shares c =
-    let scarce = c.requires.scarce in
-    let whole_here = whole_is _ _ _ _ _ c.product.ensures.product scarce.is_total c.part_of-part.ensures in
-    record { fits = omega (arith, whole_here, whole_low scarce c.loop-i.i) }
 
 pub priority-requires : goal.priority-requires
 priority-requires c =
@@ -35,9 +22,6 @@ priority-requires c =
       omega (arith, scarce.small.few),
     )
 
-pub bounds-priorities-i : goal.bounds-priorities-i
-bounds-priorities-i c = omega (arith, c.requires.scarce.small.few)
-
 pub loop-i-preserved : goal.loop-i-preserved
 loop-i-preserved c =
     let scarce = c.requires.scarce in
@@ -46,7 +30,7 @@ loop-i-preserved c =
     let laid = c.loop-i.invariant in
     record {
       wholes = filling_more _ (search rules) laid.wholes whole_here;
-      order = filling_more _ (omega (arith, scarce.small.few)) laid.order
+      order = filling_more _ (search rules) laid.order
           (c.priority.ensures ∙ ap (λ (r : ℕ). priority_of r c.loop-i.i) rest_here);
     }
 

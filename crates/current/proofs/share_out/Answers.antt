@@ -7,19 +7,12 @@ use Rattle.current.proofs.share_out.Goals as goal
 
 pub overflow_sub-left : goal.overflow_sub-left
 overflow_sub-left c =
-    let scarce = c.requires.scarce in
-    omega (
-      arith,
-      wholes_low scarce c.lay_parts.ensures,
-      c.total.ensures,
-      c.wide.ensures.same,
-    )
+    omega (arith, wholes_low c.requires.scarce c.lay_parts.ensures, c.total.ensures, c.from.ensures)
 
-pub give_out-requires : goal.give_out-requires
-give_out-requires c = small_shares c.requires.scarce c.lay_parts.ensures
+pub give_out-requires-clause-small : goal.give_out-requires-clause-small
+give_out-requires-clause-small c = small_shares c.requires.scarce c.lay_parts.ensures
 
 pub returns : goal.returns
 returns c =
-    let scarce = c.requires.scarce in
-    c.give_out.ensures ∙ shared_out scarce c.lay_parts.ensures _
-    (ap₂ (λ (a b : ℕ). a - b) c.wide.ensures.same c.total.ensures)
+    c.give_out.ensures ∙ shared_out c.requires.scarce c.lay_parts.ensures _
+    (ap₂ (λ (a b : ℕ). a - b) c.from.ensures c.total.ensures)

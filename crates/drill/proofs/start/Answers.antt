@@ -4,4 +4,4 @@ use Rattle.drill.proofs.start.Goals as goal
 
 pub returns : goal.returns
 unfolding outset
-returns c = rw (← c.blank_crew-crew.ensures, ← c.begin-state.ensures)
+returns c = rw (← c.blank_crew.ensures, ← c.begin.ensures)

@@ -1,19 +1,16 @@
 -- `store` meets its contract.
-use mathlib.Core.Path.{sym}
-use borrow.Author.Tests.{eq-eqb, ne_eqb}
+use Rattle.std.proofs.Common.{sym}
+use borrow.Author.Tests.{eq-eqb}
 use Rattle.image.proofs.Stores.{image_laid}
 use Rattle.image.proofs.store.Goals as goal
 
-pub returns-then-image-eq-LENGTH : goal.returns-then-image-eq-LENGTH
-returns-then-image-eq-LENGTH c =
-    let history = c.put_history.ensures in
-    let fits = eq-eqb _ _ c.if-image-eq-LENGTH.true in
-    record {
-      fits = sym fits;
-      left = rw (fits, history.laid, c.put_scalars.ensures)
-          (image_laid c.args.node c.args.image.now c.if-image-eq-LENGTH.true history.long);
-    }
-
 pub returns : goal.returns
 returns c =
-    let unfit = ne_eqb _ _ c.if-image-eq-LENGTH.false in record { fits = rw unfit; left = rw unfit }
+    let whole = c.in-Some.ensures.cases in
+    let history = c.put_history.ensures in
+    let fit = eq-eqb _ _ whole.long in
+    record {
+      fits = sym fit;
+      left = rw (fit, history.laid, c.put_scalars.ensures, whole.same)
+          (image_laid c.args.node.now c.args.image.now whole.long history.long);
+    }

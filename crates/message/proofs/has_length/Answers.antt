@@ -1,31 +1,28 @@
--- `has_length` meets its contract.
+-- `has_length` meets its contract: the kind picks the length.
+use mathlib.Core.Path.{sym, ◌∙◌}
 use mathlib.Core.Logic.{◌≢◌}
 use Prim.Native.Nat.{◌+◌, ◌*◌}
 use native.Mathlib.Omega.{arith}
 use lib.ListN.{get_or}
-use borrow.Author.Tests.{ne_eqb}
+use borrow.Author.Tests.{ne_eqb, lt-leb}
 use Rattle.message.specs.Layout.{count_place, entries_place, entry_size}
-use Rattle.message.proofs.ReadLaws.{kind_two, kind_other, size_one}
+use Rattle.message.proofs.ReadLaws.{selection_size, of_validation, of_decision}
 use Rattle.message.proofs.has_length.Goals as goal
 
-pub returns-then-size-lt-SELECTION_LENGTH : goal.returns-then-size-lt-SELECTION_LENGTH
-returns-then-size-lt-SELECTION_LENGTH c =
+pub returns-then-size-ge-SELECTION_LENGTH : goal.returns-then-size-ge-SELECTION_LENGTH
+returns-then-size-ge-SELECTION_LENGTH c =
+    simp (selection_size c.requires.of_kind c.in-Selection.is, ← c.u16_at-size.ensures, c.from.ensures)
+
+pub returns-else-size-ge-SELECTION_LENGTH : goal.returns-else-size-ge-SELECTION_LENGTH
+returns-else-size-ge-SELECTION_LENGTH c =
     let s = c.args.s.now in
-    let short : c.u16_at-size.result ≢ entries_place + entry_size * get_or s count_place 0 =
-    λ e. omega (arith, e, c.if-size-lt-SELECTION_LENGTH.true) in
-    simp (size_one c.requires.of_kind c.if-kind-eq-SELECTION.true, ← c.u16_at-size.ensures, ne_eqb _ _ short)
+    let size = c.u16_at-size.result in
+    let short : size ≢ entries_place + entry_size * get_or s count_place 0 = λ e. omega (arith, e) in
+    simp (selection_size c.requires.of_kind c.in-Selection.is, ← c.u16_at-size.ensures)
+    (lt-leb _ _ c.if-size-ge-SELECTION_LENGTH.false ∙ sym (ne_eqb _ _ short))
 
-pub returns-then-kind-eq-SELECTION : goal.returns-then-kind-eq-SELECTION
-returns-then-kind-eq-SELECTION c =
-    let kind = c.requires.of_kind in
-    simp (size_one kind c.if-kind-eq-SELECTION.true, ← c.u16_at-size.ensures, c.wide.ensures.same)
+pub returns-in-Validation : goal.returns-in-Validation
+returns-in-Validation c = simp (of_validation c.requires.of_kind c.in-Validation.is, ← c.u16_at-size.ensures)
 
-pub returns-then-kind-eq-VALIDATION : goal.returns-then-kind-eq-VALIDATION
-returns-then-kind-eq-VALIDATION c =
-    let kind = c.requires.of_kind in
-    simp (kind_two kind c.if-kind-eq-VALIDATION.true, ← c.u16_at-size.ensures)
-
-pub returns : goal.returns
-returns c =
-    let kind = c.requires.of_kind in
-    simp (kind_other kind c.if-kind-eq-SELECTION.false c.if-kind-eq-VALIDATION.false, ← c.u16_at-size.ensures)
+pub returns-in-Decision : goal.returns-in-Decision
+returns-in-Decision c = simp (of_decision c.requires.of_kind c.in-Decision.is, ← c.u16_at-size.ensures)

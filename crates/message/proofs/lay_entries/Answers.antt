@@ -1,63 +1,48 @@
--- `lay_entries` meets its contract: a turn of the loop lays two more entries, and of an odd number the first is left.
+-- `lay_entries` meets its contract: of an odd number of entries the last is laid first, and a turn of the loop lays two
+-- more.
 use mathlib.Core.Path.{◌≡◌}
-use Prim.Native.Nat.{◌-◌, ◌≤◌}
+use Prim.Native.Nat.{◌*◌, ◌-◌, ◌/◌}
 use native.Mathlib.Omega.{arith}
-use native.Mathlib.Decide.{dec_lt}
-use borrow.Author.Tests.{lt-ltb, le-ltb}
-use Rattle.message.specs.Promises.{broken}
 use Rattle.message.proofs.LayLaws.{none_laid, all_laid, entry_laid, entry_stops}
+use Rattle.message.proofs.lay_entries.Goals.{then-count-eq1+in_ok-before, else-count-eq1}
 use Rattle.message.proofs.lay_entries.Goals as goal
 
-pub loop-i-init : goal.loop-i-init
-loop-i-init c = none_laid c.args.s.now c.args.count c.args.phase _ c.requires.places
+pub returns-in_err-before : goal.returns-in_err-before
+returns-in_err-before c =
+    let none = none_laid c.args.s.now c.args.count c.args.phase c.args.row.now in
+    rw c.from_residual.ensures (entry_stops none (c.args.count - 1) (omega arith) c.in_err-before.ensures)
 
-pub lay_entry-later-requires : goal.lay_entry-later-requires
-lay_entry-later-requires c =
-    record { room = omega (arith, c.requires.room); places = c.loop-i.invariant.places }
+pub loop-pair-init : goal.loop-pair-init
+loop-pair-init c =
+    let count = c.args.count in
+    let none = none_laid c.args.s.now count c.args.phase c.args.row.now in
+    elim c.if-count-eq1.branch [
+      | then-count-eq1+in_ok-before w ↦
+          let one : 2 * (count / 2) ≡ count - 1 = omega arith in
+          rw (one, w.before-is, w.row-is) (entry_laid none (count - 1) (omega arith) w.in_ok-before.ensures)
+      | else-count-eq1 w ↦
+          let all : 2 * (count / 2) ≡ count = omega arith in
+          rw (all, w.before-is, w.row-is) none
+    ]
 
-pub returns-then-later-eq-BROKEN : goal.returns-then-later-eq-BROKEN
-returns-then-later-eq-BROKEN c =
-    entry_stops c.loop-i.invariant _ (omega arith) c.lay_entry-later.ensures (omega (arith, c.if-later-eq-BROKEN.true))
+pub returns-in_err-later : goal.returns-in_err-later
+returns-in_err-later c =
+    let stops = entry_stops c.loop-pair.invariant _ (omega arith) c.in_err-later.ensures in
+    rw c.from_residual-in_err-later.ensures stops
 
 -- between the two of a turn: the later entry is laid
-pub lay_entry-earlier-requires : goal.lay_entry-earlier-requires
-lay_entry-earlier-requires c =
-    let between =
-    entry_laid c.loop-i.invariant (c.loop-i.i - 1) (omega arith) c.lay_entry-later.ensures
-    c.if-later-eq-BROKEN.false in
-    record { room = omega (arith, c.requires.room); places = between.places }
+pub returns-in_err-before-2 : goal.returns-in_err-before-2
+returns-in_err-before-2 c =
+    let between = entry_laid c.loop-pair.invariant _ (omega arith) c.in_ok-later.ensures in
+    let stops = entry_stops between _ (omega arith) c.in_err-before-2.ensures in
+    rw c.from_residual-in_err-before-2.ensures stops
 
-pub returns-then-earlier-eq-BROKEN : goal.returns-then-earlier-eq-BROKEN
-returns-then-earlier-eq-BROKEN c =
-    let between =
-    entry_laid c.loop-i.invariant (c.loop-i.i - 1) (omega arith) c.lay_entry-later.ensures
-    c.if-later-eq-BROKEN.false in
-    entry_stops between _ (omega arith) c.lay_entry-earlier.ensures
-    (omega (arith, c.if-earlier-eq-BROKEN.true))
-
-pub loop-i-preserved : goal.loop-i-preserved
-loop-i-preserved c =
-    let between =
-    entry_laid c.loop-i.invariant (c.loop-i.i - 1) (omega arith) c.lay_entry-later.ensures
-    c.if-later-eq-BROKEN.false in
-    entry_laid between _ (omega arith) c.lay_entry-earlier.ensures c.if-earlier-eq-BROKEN.false
-
-pub lay_entry-requires : goal.lay_entry-requires
-lay_entry-requires c =
-    record { room = omega (arith, c.requires.room); places = c.loop-i.invariant.places }
-
-pub returns-then-i-gt0 : goal.returns-then-i-gt0
-returns-then-i-gt0 c =
-    let one : c.loop-i.i ≡ 1 = omega arith in
-    let told = c.lay_entry.ensures in
-    elim (dec_lt c.lay_entry.result broken) [
-      | yes kept ↦ rw (lt-ltb _ _ kept) (all_laid (entry_laid c.loop-i.invariant 0 one told (λ e. omega (arith, e))))
-      | no large ↦
-          let breaks : broken ≤ c.lay_entry.result = omega (arith, large) in
-          rw (le-ltb _ _ breaks) (entry_stops c.loop-i.invariant 0 one told breaks)
-    ]
+pub loop-pair-preserved : goal.loop-pair-preserved
+loop-pair-preserved c =
+    let between = entry_laid c.loop-pair.invariant _ (omega arith) c.in_ok-later.ensures in
+    entry_laid between _ (omega arith) c.in_ok-before-2.ensures
 
 pub returns : goal.returns
 returns c =
-    let none : c.loop-i.i ≡ 0 = omega (arith, c.if-i-gt0.false) in
-    all_laid (rw none at c.loop-i.invariant)
+    let none : 2 * c.loop-pair.pair ≡ 0 = omega arith in
+    all_laid (rw none at c.loop-pair.invariant)

@@ -1,39 +1,33 @@
 -- `read_expected` meets its contract.
-use mathlib.Core.Path.{sym, ap, ◌∙◌}
-use Rattle.message.specs.Laying.{expected_as}
-use Rattle.message.proofs.ExpectedLaws.{expected_framed, expected_clear, nothing_expected}
+use mathlib.Core.Path.{sym, ◌∙◌}
+use Rattle.message.specs.Laying.{row_after}
+use Rattle.message.proofs.ExpectedLaws.{unexpected, expected, nothing_expected, row_expected}
 use Rattle.message.proofs.read_expected.Goals as goal
 
--- where the message at the front is expected
-pub is_clear-requires : goal.is_clear-requires
-is_clear-requires c =
-    let s = c.args.s.now in
-    let front = ap (λ r. expected_as r s) (sym c.in-Body.is) ∙ c.read_expected_front-front.ensures.answer in
-    expected_framed c.args.header s _ front
+pub returns-then-not-has_header : goal.returns-then-not-has_header
+unfolding row_after
+returns-then-not-has_header c =
+    let other = sym c.has_header.ensures ∙ c.if-not-has_header.true in
+    record { answer = unexpected c.args.header c.args.s.now other; lays = simp other }
 
-pub returns-then-is_clear : goal.returns-then-is_clear
-returns-then-is_clear c =
-    let s = c.args.s.now in
-    let front = ap (λ r. expected_as r s) (sym c.in-Body.is) ∙ c.read_expected_front-front.ensures.answer in
-    let clear = sym c.is_clear.ensures ∙ c.if-is_clear.true in
-    record {
-      answer = simp (expected_clear, clear) front;
-      lays = c.read_expected_front-front.ensures.lays;
-    }
+pub returns-in_err-message : goal.returns-in_err-message
+returns-in_err-message c =
+    let headed = sym c.has_header.ensures ∙ c.if-not-has_header.false in
+    let read = c.read_laying.ensures in
+    let refused = sym c.ok.ensures.value ∙ c.in_err-message.was in
+    rw c.from_residual.ensures
+    (record {
+      answer = nothing_expected c.args.header c.args.s.now headed c.read_laying.result refused read.answer;
+      lays = read.lays ∙ row_expected c.args.header c.args.s.now c.args.row.now headed;
+    })
 
-pub returns-else-is_clear : goal.returns-else-is_clear
-returns-else-is_clear c =
-    let residue = sym c.is_clear.ensures ∙ c.if-is_clear.false in
+pub returns : goal.returns
+returns c =
+    let headed = sym c.has_header.ensures ∙ c.if-not-has_header.false in
+    let read = c.read_laying.ensures in
+    let message = c.in_ok-message.message in
+    let accepted = sym c.ok.ensures.value ∙ c.in_ok-message.was in
     record {
-      answer = simp (expected_clear, residue);
-      lays = c.read_expected_front-front.ensures.lays;
-    }
-
-pub returns-in-Other : goal.returns-in-Other
-returns-in-Other c =
-    let s = c.args.s.now in
-    let other = ap (λ r. expected_as r s) (sym c.in-Other.is) ∙ c.read_expected_front-front.ensures.answer in
-    record {
-      answer = nothing_expected c.args.header s other;
-      lays = c.read_expected_front-front.ensures.lays;
+      answer = expected c.args.header c.args.s.now headed c.read_laying.result message accepted read.answer;
+      lays = read.lays ∙ row_expected c.args.header c.args.s.now c.args.row.now headed;
     }

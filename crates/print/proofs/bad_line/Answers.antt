@@ -8,5 +8,5 @@ pub returns : goal.returns
 unfolding bad_line
 returns c =
     laid (omega arith)
-    (within_then c.put_word-a.ensures
+    (within_then c.put_text-a.ensures
     (within_then c.put_number-b.ensures (within_one _ _ _ _ c.put.ensures)))

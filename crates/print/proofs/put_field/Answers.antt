@@ -7,7 +7,7 @@ use Rattle.print.proofs.put_field.Goals as goal
 pub returns-then-honest : goal.returns-then-honest
 unfolding field_of
 returns-then-honest c =
-    rw c.if-honest.true
+    rw (c.if-honest.true, ← c.from.ensures)
     (within_then (within_one _ _ _ _ c.put.ensures) c.put_number.ensures)
 
 pub returns-else-honest : goal.returns-else-honest

@@ -9,7 +9,6 @@ use Rattle.print.proofs.put_fields.Goals as goal
 pub loop-i-init : goal.loop-i-init
 loop-i-init c =
     record {
-      within = search rules;
       near = search rules;
       same_size = refl;
       left = simp sub-zero (record { next = refl; left = refl });
@@ -19,7 +18,6 @@ pub loop-i-preserved : goal.loop-i-preserved
 loop-i-preserved c =
     let laying = c.loop-i.invariant in
     record {
-      within = search rules;
       near = omega (arith, c.put_field-at.ensures.within, laying.near);
       same_size = c.put_field-at.auto.buf ∙ laying.same_size;
       left = fields_more _ _ _ _ c.loop-i-test.true c.put_field-at.ensures.wrote laying.left;

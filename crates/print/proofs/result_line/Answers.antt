@@ -1,13 +1,13 @@
 -- `result_line` meets its contract.
 use Rattle.print.specs.Texts.{result_line}
-use Rattle.print.proofs.Writing.{within_then, within_one, laid}
+use Rattle.print.proofs.Writing.{within_then, within_one, laid, shown_is}
 use native.Mathlib.Omega.{arith}
 use Rattle.print.proofs.result_line.Goals as goal
 
 pub returns : goal.returns
 unfolding result_line
 returns c =
-    rw (← c.nodes_shown-shown.ensures.count)
+    rw (← shown_is c.args.n, ← c.min-shown.ensures, ← c.from.ensures, ← c.from-2.ensures)
     (laid (omega arith)
     (within_then c.put_number-a.ensures
     (within_then (within_one _ _ _ _ c.put.ensures)

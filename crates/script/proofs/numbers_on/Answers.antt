@@ -1,51 +1,50 @@
 -- The answers to the goals of `numbers_on`.
-use mathlib.Core.Path.{◌≡◌, ◌∙◌, sym}
-use mathlib.Core.List.{List}
-use lib.ListN.{length-set, take, drop}
+use mathlib.Core.Path.{refl, sym, ◌∙◌}
 use native.Mathlib.Omega.{arith}
-use Rattle.script.proofs.Walk.{number_at_most}
-use Rattle.script.proofs.Words.{piece_within, Turn, turn_bad, turn_full, turn_more, turn_last}
-use Prim.Native.Nat.{ℕ, ◌+◌, ◌-◌}
-use Rattle.script.specs.declared.Number.{Number}
-use Rattle.script.specs.Lines.{space, until}
-use Rattle.script.specs.Fields.{largest, number_of, numbers_on}
-use Rattle.script.proofs.numbers_on.Invariants.{Laid}
+use lib.Dec.{eqb}
 use borrow.Author.Rules.{rules}
+use Rattle.script.specs.Lines.{space}
+use Rattle.std.proofs.Common.{tests}
+use Rattle.std.proofs.lemmas.Iterator.Splits.{YieldsList-from_slice_split}
+use Rattle.script.proofs.Walk.{number_at_most}
+use Rattle.script.proofs.Fields.{item_next, none_next, field_bad, field_full, field_more, fields_end}
 use Rattle.script.proofs.numbers_on.Goals as goal
 
--- a turn of the loop, from what is laid before it
-turn_of : {s values : List ℕ} {count at e : ℕ} {m : Number} → Laid s values count at
-    → e ≡ at + until space (drop at s) → m ≡ number_of largest (take (e - at) (drop at s))
-    → Turn s values count at e m (numbers_on s)
-turn_of laid ends read = record { inside = laid.within; found = ends; read = read; gives = laid.rest }
+pub loop-field-init : goal.loop-field-init
+loop-field-init c = record { long = refl; rest = λ ws. refl }
 
-pub slice_bounds-decimal-end : goal.slice_bounds-decimal-end
-slice_bounds-decimal-end c = piece_within _ _ _ _ c.loop-value.invariant.within c.find-end.ensures
+pub returns-in_err-value : goal.returns-in_err-value
+returns-in_err-value c =
+    let next =
+    item_next _ _ _ _ c.next.new.self _ c.in-Some.field _ c.loop-field.yielded_by c.in-Some.ensures.steps
+    (YieldsList-from_slice_split {s = c.into_iter-field-iterator.result} _ (λ b. eqb b space) c.args.s.now
+    (search rules) (search rules) refl
+    (λ x r q k. search (rules, tests))) in
+    c.from_residual.ensures
+    ∙ field_bad _ _ _ c.loop-field.invariant _ c.in-Some.field _ next.1 (sym c.decimal.ensures ∙ c.in_err-value.was)
 
 pub returns-then-count-ge-MOST_NUMBERS : goal.returns-then-count-ge-MOST_NUMBERS
 returns-then-count-ge-MOST_NUMBERS c =
-    let turn = turn_of c.loop-value.invariant c.find-end.ensures c.decimal.ensures in
-    c.no_numbers.ensures ∙ turn_full turn _ c.in-Value.is c.if-count-ge-MOST_NUMBERS.true
+    let next =
+    item_next _ _ _ _ c.next.new.self _ c.in-Some.field _ c.loop-field.yielded_by c.in-Some.ensures.steps
+    (YieldsList-from_slice_split {s = c.into_iter-field-iterator.result} _ (λ b. eqb b space) c.args.s.now
+    (search rules) (search rules) refl
+    (λ x r q k. search (rules, tests))) in
+    field_full _ _ _ c.loop-field.invariant _ c.in-Some.field _ next.1 _ (sym c.decimal.ensures ∙ c.in_ok-value.was)
+    c.if-count-ge-MOST_NUMBERS.true
 
 pub overflow_cast-values : goal.overflow_cast-values
-overflow_cast-values c = omega (arith, number_at_most _ _ _ (sym c.decimal.ensures ∙ c.in-Value.is))
+overflow_cast-values c = omega (arith, number_at_most _ _ _ (sym c.decimal.ensures ∙ c.in_ok-value.was))
 
-pub returns-then-s-end : goal.returns-then-s-end
-returns-then-s-end c =
-    let turn = turn_of c.loop-value.invariant c.find-end.ensures c.decimal.ensures in
-    turn_last turn _ c.in-Value.is c.if-count-ge-MOST_NUMBERS.false c.if-s-end.true
+pub loop-field-preserved : goal.loop-field-preserved
+loop-field-preserved c =
+    field_more _ _ _ c.loop-field.invariant _ _ (sym c.decimal.ensures ∙ c.in_ok-value.was)
+    c.if-count-ge-MOST_NUMBERS.false
 
-pub loop-value-preserved : goal.loop-value-preserved
-loop-value-preserved c =
-    let turn = turn_of c.loop-value.invariant c.find-end.ensures c.decimal.ensures in
-    record {
-      within = search rules;
-      room = search rules;
-      long = simp length-set c.loop-value.invariant.long;
-      rest = turn_more turn _ c.in-Value.is c.if-count-ge-MOST_NUMBERS.false c.if-s-end.false;
-    }
-
-pub returns-in-Bad : goal.returns-in-Bad
-returns-in-Bad c =
-    let turn = turn_of c.loop-value.invariant c.find-end.ensures c.decimal.ensures in
-    c.no_numbers-in-Bad.ensures ∙ turn_bad turn c.in-Bad.is
+pub returns : goal.returns
+returns c =
+    fields_end _ _ _ c.loop-field.invariant _
+    (none_next _ _ _ _ _ _ _ c.loop-field.yielded_by c.in-None.ensures.steps
+    (YieldsList-from_slice_split {s = c.into_iter-field-iterator.result} _ (λ b. eqb b space) c.args.s.now
+    (search rules) (search rules) refl
+    (λ x r q k. search (rules, tests))))

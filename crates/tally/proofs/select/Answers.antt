@@ -4,6 +4,4 @@ use Rattle.tally.proofs.select.Goals as goal
 
 pub returns : goal.returns
 unfolding taken
-returns c =
-    λ h are.
-    rw (← c.choose-choice.ensures h are) (c.take_on.ensures c.args.stamps.now h)
+returns c = λ h are. rw (← c.choose-choice.ensures h are) (c.take_on.ensures h)

@@ -10,16 +10,16 @@ use Rattle.writer.proofs.put_entry.Goals as goal
 
 pub bounds-buf-place : goal.bounds-buf-place
 unfolding entry_bytes
-bounds-buf-place c = omega (arith, simp (sym c.is_plan.ensures ∙ c.if-is_plan.true) at c.requires)
+bounds-buf-place c = omega (arith, simp (sym c.is_plan.ensures ∙ c.if-not-is_plan.false) at c.requires)
 
-pub returns-then-is_plan : goal.returns-then-is_plan
+pub returns : goal.returns
 unfolding entry_bytes
-returns-then-is_plan c =
-    let full = sym c.is_plan.ensures ∙ c.if-is_plan.true in
+returns c =
+    let full = sym c.is_plan.ensures ∙ c.if-not-is_plan.false in
     let room = simp full at c.requires in
-    let laid = laid_room _ _ _ c.put_plan.ensures (simp length-set (omega (arith, room))) in
+    let laid = laid_room _ _ _ c.put.ensures (simp length-set (omega (arith, room))) in
     simp (full, towards_suc, laid) (search rules)
 
-pub returns-else-is_plan : goal.returns-else-is_plan
+pub returns-then-not-is_plan : goal.returns-then-not-is_plan
 unfolding entry_bytes
-returns-else-is_plan c = simp (sym c.is_plan.ensures ∙ c.if-is_plan.false) (search rules)
+returns-then-not-is_plan c = simp (sym c.is_plan.ensures ∙ c.if-not-is_plan.true) (search rules)

@@ -6,6 +6,6 @@ use Rattle.writer.proofs.put_front.Goals as goal
 pub returns : goal.returns
 returns c =
     simp (
-      laid_room _ _ _ c.put_plan.ensures (omega (arith, c.put_header.auto.buf, c.requires)),
+      laid_room _ _ _ c.put.ensures (omega (arith, c.put_header.auto.buf, c.requires)),
       c.put_header.ensures,
     )

@@ -5,11 +5,11 @@ use Rattle.writer.proofs.put_header.Goals as goal
 
 pub returns : goal.returns
 returns c =
-    let length_kept = c.put_u16.auto.buf in
-    let kind_kept = c.put_u16-2.auto.buf in
+    let length_kept = c.put.auto.buf in
+    let kind_kept = c.put-2.auto.buf in
     let room = c.requires in
     simp (
-      laid_room _ _ _ c.put_u32.ensures (omega (arith, kind_kept, length_kept, room)),
-      laid_room _ _ _ c.put_u16-2.ensures (omega (arith, length_kept, room)),
-      laid_room _ _ _ c.put_u16.ensures (omega (arith, room)),
+      laid_room _ _ _ c.put-3.ensures (omega (arith, kind_kept, length_kept, room)),
+      laid_room _ _ _ c.put-2.ensures (omega (arith, length_kept, room)),
+      laid_room _ _ _ c.put.ensures (omega (arith, room)),
     )

@@ -1,26 +1,23 @@
 -- `write_validation` meets its contract.
-use mathlib.Core.Path.{◌≡◌}
-use mathlib.Core.Bool.{true}
+use Rattle.std.proofs.Common.{arith, ◌≡◌, true, false, rules}
 use Rattle.message.specs.Bounds.{within}
 use Rattle.message.specs.Encoding.{encode}
 use Rattle.writer.specs.Writing.{validation_of}
 use Rattle.writer.proofs.WriteLaws.{written, too_short, out_of_bounds}
 use Rattle.writer.proofs.write_validation.Goals as goal
 
--- behind the first test: the fields keep their bounds
-pub returns-then-buf : goal.returns-then-buf
-returns-then-buf c =
-    let in_bounds : within (validation_of c.args.run c.args.phase c.args.plan) ≡ true =
-    simp (c.is_phase.ensures, c.is_plan.ensures) at c.if-allowed.true in
-    too_short _ _ in_bounds c.if-buf.true
+pub returns-then-not-is_plan : goal.returns-then-not-is_plan
+returns-then-not-is_plan c =
+    let broken : within (validation_of c.args.run c.args.phase c.args.plan) ≡ false = search rules in
+    out_of_bounds _ _ broken
 
-pub returns-then-allowed : goal.returns-then-allowed
-unfolding encode
-returns-then-allowed c =
-    let in_bounds : within (validation_of c.args.run c.args.phase c.args.plan) ≡ true =
-    simp (c.is_phase.ensures, c.is_plan.ensures) at c.if-allowed.true in
-    rw c.put_front.ensures (written _ _ in_bounds c.if-buf.false)
+pub returns-then-buf-from : goal.returns-then-buf-from
+returns-then-buf-from c =
+    let in_bounds : within (validation_of c.args.run c.args.phase c.args.plan) ≡ true = search rules in
+    too_short _ _ in_bounds (omega arith)
 
 pub returns : goal.returns
+unfolding encode
 returns c =
-    out_of_bounds _ _ (simp (c.is_phase.ensures, c.is_plan.ensures) at c.if-allowed.false)
+    let in_bounds : within (validation_of c.args.run c.args.phase c.args.plan) ≡ true = search rules in
+    rw (c.put_front.ensures, c.from-2.ensures) (written _ _ in_bounds (omega arith))

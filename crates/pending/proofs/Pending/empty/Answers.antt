@@ -1,8 +1,7 @@
 -- `Pending::empty` meets its contract.
 use Rattle.pending.specs.Pairs.{nothing}
-use mathlib.Core.Path.{refl}
 use Rattle.pending.proofs.Pending.empty.Goals as goal
 
 pub returns : goal.returns
 unfolding nothing
-returns c = refl
+returns c = rw c.nothing.ensures

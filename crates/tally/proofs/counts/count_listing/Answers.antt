@@ -1,28 +1,18 @@
--- Each slot of `count_listing` adds what it counts; at the end all n are counted.
-use Rattle.crew.specs.Parts.{most_nodes}
-use native.Mathlib.Nat.{mul-le-mul}
-use Prim.Native.Nat.{ℕ, ◌*◌, ◌≤◌}
-use native.Mathlib.Omega.{arith}
-use Rattle.ballot.proofs.Loops.{through_all, counted_none, counted_more}
+-- `count_listing` counts by its test: what is known of the plan beforehand is the same at every slot.
+use Rattle.std.proofs.Common.{rules}
+use mathlib.Core.Path.{◌≡◌, ◌∙◌}
+use mathlib.Core.Bool.{◌&&◌}
+use lib.Dec.{ltb}
+use borrow.Author.Tests.{lt-ltb, le-ltb}
+use Rattle.tally.proofs.counts.count_listing.Goals.{then-phase-phases, else-phase-phases}
 use Rattle.tally.proofs.counts.count_listing.Goals as goal
 
--- where a slot's row begins, which is far below what a word holds
-row_start : (phases q : ℕ) → phases ≤ 255 → q ≤ most_nodes → phases * q ≤ 255 * most_nodes
-row_start phases q short within = mul-le-mul {n₁ = phases} {m₁ = q} {n₂ = 255} {m₂ = most_nodes} short within
-
-pub loop-q-init : goal.loop-q-init
-loop-q-init c = record { within = omega arith; so_far = counted_none }
-
-pub overflow_mul-place : goal.overflow_mul-place
-overflow_mul-place c = omega (arith, row_start c.args.phases c.loop-q.q (omega arith) (omega arith))
-
-pub overflow_add-place : goal.overflow_add-place
-overflow_add-place c = omega (arith, row_start c.args.phases c.loop-q.q (omega arith) (omega arith))
-
-pub loop-q-preserved : goal.loop-q-preserved
-loop-q-preserved c =
-    let here = rw c.plan_at.ensures at c.one_if-count.ensures in
-    record { within = omega arith; so_far = counted_more c.loop-q.invariant.so_far here }
-
 pub returns : goal.returns
-returns c = through_all c.loop-q.invariant c.loop-q-test.false
+returns c =
+    let a = c.args in
+    let known : c.if-phase-phases.known ≡ (ltb a.phase a.phases && ltb 0 a.plan) =
+    elim c.if-phase-phases.branch [
+      | then-phase-phases w ↦ rw (lt-ltb _ _ w.if-phase-phases.true) w.known-is
+      | else-phase-phases w ↦ rw (le-ltb _ _ w.if-phase-phases.false) (w.known-is ∙ le-ltb _ _ w.if-phase-phases.false)
+    ] in
+    c.count.ensures _ (λ q b less answers. rw (← known) (search rules))

@@ -1,14 +1,6 @@
--- Each slot of `count_votes` adds what it counts; at the end all n are counted.
-use native.Mathlib.Omega.{arith}
-use Rattle.ballot.proofs.Loops.{through_all, counted_none, counted_more}
+-- `count_votes` counts by its test.
+use Rattle.std.proofs.Common.{rules}
 use Rattle.tally.proofs.counts.count_votes.Goals as goal
 
-pub loop-q-init : goal.loop-q-init
-loop-q-init c = record { within = omega arith; so_far = counted_none }
-
-pub loop-q-preserved : goal.loop-q-preserved
-loop-q-preserved c =
-    record { within = omega arith; so_far = counted_more c.loop-q.invariant.so_far c.one_if-count.ensures }
-
 pub returns : goal.returns
-returns c = through_all c.loop-q.invariant c.loop-q-test.false
+returns c = c.count.ensures _ (λ q b less answers. search rules)

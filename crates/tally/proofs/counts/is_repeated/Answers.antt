@@ -1,33 +1,27 @@
--- `is_repeated` finds a slot that has the vote among those before slot q, or has looked at all of them.
-use native.Mathlib.Numerals.{add-one}
-use lib.Dec.{T}
-use mathlib.Core.Path.{refl, sym}
+-- `is_repeated` says whether any slot before slot q has the vote, so whether they are more than none.
+use mathlib.Core.Path.{◌≡◌, refl, sym}
+use mathlib.Core.Bool.{Bool, true, false}
+use Prim.Native.Nat.{ℕ, ◌<◌}
 use native.Mathlib.Omega.{arith}
+use lib.Dec.{ltb}
 use lib.ListN.{get_or}
-use borrow.Author.Tests.{le-ltb, lt-ltb}
+use borrow.Author.Tests.{lt-ltb, le-ltb}
+use Rattle.std.proofs.iter.Serving.{returning}
 use Rattle.ballot.specs.Count.{tally}
-use Rattle.ballot.proofs.Counting.{tally_has}
-use Rattle.tally.specs.Marks.{voting, voters_of}
-use Rattle.ballot.proofs.Loops.{through_all}
+use Rattle.ballot.proofs.Counting.{tally_has, tally_none, tally_same, nobody_of}
+use Rattle.tally.specs.Marks.{voting}
 use Rattle.tally.proofs.counts.is_repeated.Goals as goal
 
-pub loop-p-init : goal.loop-p-init
-unfolding tally
-loop-p-init c = record { within = omega arith; so_far = refl }
-
-pub returns-then-same : goal.returns-then-same
-returns-then-same c =
-    let says = voting c.args.present.now c.args.votes.now (get_or c.args.votes.now c.args.q 0) in
-    let p = c.loop-p.p in
-    let found : T (says p) = rw c.if-same.true tt in
-    sym (lt-ltb 0 _ (tally_has says c.args.q p (omega arith) found))
-
-pub loop-p-preserved : goal.loop-p-preserved
-unfolding tally
-loop-p-preserved c =
-    record { within = omega arith; so_far = rw (add-one c.loop-p.p, c.if-same.false) (omega arith) }
+says_any : (says : ℕ → Bool) (q : ℕ) (b : Bool) → (b ≡ true → (p : ℕ) × (p < q) × (says p ≡ true))
+    → (b ≡ false → (p : ℕ) → p < q → says p ≡ false) → b ≡ ltb 0 (tally says q)
+says_any says q true some none =
+    let found = some refl in
+    sym (lt-ltb 0 _ (tally_has says q found.0 found.1 (rw found.2 tt)))
+says_any says q false some none =
+    sym (le-ltb 0 _ (omega (arith, tally_same says nobody_of q (none refl), tally_none q)))
 
 pub returns : goal.returns
 returns c =
-    let none = through_all c.loop-p.invariant c.loop-p-test.false in
-    sym (le-ltb 0 (voters_of c.args.present.now c.args.votes.now c.args.q c.args.q) (omega (arith, none)))
+    let votes = c.args.columns.now.votes in
+    says_any (voting c.args.columns.now.present votes (get_or votes c.args.q 0)) c.args.q c.any.result
+    (grind (arith, returning)) (grind (arith, returning))

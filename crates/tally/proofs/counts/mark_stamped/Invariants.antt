@@ -1,6 +1,5 @@
 -- `mark_stamped` meets its contract. The invariant: the first q slots are marked as they should be.
 use mathlib.Core.Bool.{false}
-use Prim.Native.Nat.{◌-◌}
 use Rattle.crew.specs.Parts.{most_nodes}
 use Rattle.wire.proofs.Arrays.{Filling}
 use Rattle.tally.specs.Marks.{stamped_with}
@@ -8,7 +7,4 @@ use Rattle.tally.proofs.counts.mark_stamped.Given as goal
 
 abbrev pub invariant-loop-q : goal.invariant-loop-q
 invariant-loop-q l =
-    Filling false (stamped_with l.present l.stamps l.stamp) most_nodes l.out l.q
-
-abbrev pub decreases-loop-q : goal.decreases-loop-q
-decreases-loop-q l = l.n - l.q
+    Filling false (stamped_with l.columns.present l.columns.stamps l.stamp) most_nodes l.marks l.q

@@ -1,9 +1,0 @@
--- `after_decision` meets its contract.
-use borrow.Author.Tests.{eq-eqb, ne_eqb}
-use Rattle.rounds.proofs.after_decision.Goals as goal
-
-pub returns-then-node-eq-NO_PLAN : goal.returns-then-node-eq-NO_PLAN
-returns-then-node-eq-NO_PLAN c = simp (eq-eqb _ _ c.if-node-eq-NO_PLAN.true)
-
-pub returns : goal.returns
-returns c = simp (ne_eqb _ _ c.if-node-eq-NO_PLAN.false)

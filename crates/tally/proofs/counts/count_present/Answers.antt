@@ -1,0 +1,6 @@
+-- `count_present` counts by its test.
+use Rattle.std.proofs.Common.{rules}
+use Rattle.tally.proofs.counts.count_present.Goals as goal
+
+pub returns : goal.returns
+returns c = c.count.ensures _ (λ q b less answers. search rules)
