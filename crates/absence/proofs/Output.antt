@@ -8,7 +8,7 @@ use native.Mathlib.Nat.{add-zero, zero-add, suc-add, add_assoc}
 use native.Mathlib.Decide.{dec_lt}
 use lib.Dec.{ltb}
 use lib.ListN.{length, get_or, take, drop, length-drop}
-use lib.Seq.{length-take-le, take_all}
+use lib.Seq.{length-sets, length-take-le, take_all}
 use borrow.Author.Tests.{lt-ltb, le-ltb}
 use Rattle.wire.specs.Sizes.{run_size}
 use Rattle.wire.specs.Outcome.{value_or}
@@ -20,7 +20,7 @@ use Rattle.absence.specs.declared.Stream.{Stream}
 use Rattle.absence.specs.Held.{afresh}
 use Rattle.absence.specs.Ring.{empty_window, add_of, window_after, held_in}
 use Rattle.absence.specs.Lines.{records_in, spaced, last_node, counts_line, lines_held, lines_of, output_of}
-use Rattle.absence.specs.Lines.{record_size, at_once, part_size, most_records}
+use Rattle.absence.specs.Lines.{record_size, at_once, part_size, room_for, most_records, SteppedOver}
 use Rattle.absence.specs.Lines.{taken_of, left_after, lines_now, stream_after, fresh_stream, printed}
 use Rattle.absence.proofs.Rings.{Keeps, empty_keeps}
 use Rattle.absence.proofs.Holding.{add_follows, empty_held}
@@ -95,7 +95,7 @@ lines_append (x ∷ xs) ys w =
 -- The turns together.
 
 -- every turn leaves fewer records to be taken, so that the loop ends
-left_less : (size left : ℕ) → 0 < left → left_after size left < left
+pub left_less : (size left : ℕ) → 0 < left → left_after size left < left
 left_less size left some = go (dec_lt size part_size)
   where
     go : Dec (size < part_size) → left_after size left < left
@@ -103,6 +103,18 @@ left_less size left some = go (dec_lt size part_size)
     go (no whole) =
         let enough : part_size ≤ size = omega arith in
         rw (le-ltb size part_size enough) (omega arith)
+
+-- What a step shows a program that calls it.
+module _ {before stream : Stream} {part lent after : List ℕ} {r : ℕ}
+    (stepped : SteppedOver before part stream lent after r) where
+  pub buffer_kept : length lent ≡ room_for → length after ≡ room_for
+  buffer_kept long = ap length stepped.lines ∙ length-sets lent 0 (lines_now before part) ∙ long
+
+  pub lines_fit : length lent ≡ room_for → r ≤ length after
+  lines_fit long = omega (arith, buffer_kept long, stepped.within)
+
+  pub fewer_left : 0 < before.left → stream.left < before.left
+  fewer_left some = rw stepped.next (left_less (length part) before.left some)
 
 -- a stream with nothing left prints nothing
 nothing_left : (turns : ℕ) (stream : Stream) (input : List ℕ) → stream.left ≡ 0 → printed turns stream input ≡ []

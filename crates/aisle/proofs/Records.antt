@@ -52,7 +52,11 @@ module _ (setup : Setup) (m : Moment) (receiver : ℕ) where
         taking_more after (rw (honest, ← taking.others receiver (omega arith), ← is) took)
 
     -- the record of any other node is put back as it was
-    pub others_stay : is_in setup.honest receiver ≡ false
+    pub put_back : is_in setup.honest receiver ≡ false
         → Taking setup m (set nodes receiver (node_in nodes receiver)) (receiver + 1)
     unfolding node_after
-    others_stay liar = taking_more (node_in nodes receiver) (rw liar (taking.others receiver (omega arith)))
+    put_back liar = taking_more (node_in nodes receiver) (rw liar (taking.others receiver (omega arith)))
+
+    -- and so stays
+    pub others_stay : is_in setup.honest receiver ≡ false → Taking setup m nodes (receiver + 1)
+    others_stay liar = rw (set-get_or nodes receiver nowhere) at (put_back liar)

@@ -20,7 +20,7 @@ use Rattle.crew.specs.Acceptance.{
   quorum_of,
   accept_of,
 }
-use Rattle.crew.specs.Thresholds.{Class, one, two, three, class_of, any_above}
+use Rattle.crew.specs.Thresholds.{Class, one, two, three, class_of, E, any_above}
 
 -- what a class asks of D
 abbrev pub High : Class → Crew → Type 0
@@ -155,6 +155,10 @@ circle_decides a = omega (arith, a.reach)
 -- n passes 3b + 2f
 pub size_above : {crew : Crew} → Quorum crew → 3 * crew.b + 2 * crew.f < crew.n
 size_above a = omega (arith, quorum_high a, a.reach)
+
+-- the bound E is at least 2b + f
+pub bound_high : {crew : Crew} → Quorum crew → 2 * crew.b + crew.f ≤ E crew
+bound_high a = omega (arith, a.reach)
 
 -- a circle passes the bound for 'any': n − b − f > 2E in class 1, > E + b in class 2, > E in class 3
 pub circle_above_any : {crew : Crew} → Quorum crew → any_above (class_of crew) crew < crew.n - crew.b - crew.f

@@ -10,16 +10,17 @@ use lib.Dec.{T, leb, eqb}
 use lib.ListN.{length, get_or, get_or-eq_default, take}
 use lib.Seq.{take-length}
 use borrow.Author.Tests.{leb-true, eqb-true}
-use Rattle.std.specs.Prelude.{Ok}
+use Rattle.std.specs.Prelude.{Ok, Err}
 use Rattle.std.specs.List.{fold, list_all}
 use Rattle.std.proofs.Math.Bool.{and_comm}
 use Rattle.std.proofs.lemmas.List.Folds.{list_all_more}
-use Rattle.wire.specs.Outcome.{accepted, refused, require, verdict}
+use Rattle.wire.specs.Outcome.{Outcome, accepted, refused, require, verdict, value_or}
 use Rattle.wire.specs.Below.{every_below}
 use Rattle.wire.proofs.Tests.{tests, both_true, and_true, every_below_lem}
 use Rattle.wire.proofs.Outcomes.{refused_not_accepted}
 use Rattle.current.specs.Shares.{most_shuttles, most_demand, most_budget, amount, shares_of}
-use Rattle.current.specs.Shares.{right_count, in_range, split_of, SplitInto}
+use Rattle.current.specs.Shares.{right_count, in_range, split_number, split_of, SplitInto}
+use Rattle.current.specs.declared.SplitRefusal.{SplitRefusal}
 use Rattle.current.specs.Promises.{Small}
 
 -- The library tests the elements of a list, here it is the numbers below the list's length.
@@ -117,3 +118,13 @@ module _ (demands : List ℕ) (budget : ℕ) (shares : List ℕ) where
       let passed = passed_both demands budget (length shares) (sym is) in
       let value = judged_accepted demands budget (length shares) passed.0 passed.1 in
       record { answered = is; left = rw value e }
+
+  -- one that is refused leaves the shares as they were
+  pub shares_kept : (why : SplitRefusal) → refused (split_number why) ≡ verdict (split_of demands budget (length shares))
+      → SplitInto demands budget shares (Err why) shares
+  shares_kept why is = record { answered = is; left = go (split_of demands budget (length shares)) is }
+    where
+      go : (outcome : Outcome (List ℕ)) → refused (split_number why) ≡ verdict outcome
+          → shares ≡ value_or shares outcome
+      go (accepted value) e = absurd (refused_not_accepted (split_number why) tt e)
+      go (refused number) e = refl

@@ -53,6 +53,11 @@ sum_has f zero i l = absurd (omega arith)
 sum_has f (suc n) i l =
     by_equality i n (λ e. omega (arith, ap f e)) (λ e. omega (arith, e, sum_has f n i (omega (arith, e))))
 
+-- one number more, as a loop goes
+pub sum_next : (f : ℕ → ℕ) (i : ℕ) → sum f (i + 1) ≡ sum f i + f i
+unfolding sum
+sum_next f i = rw add-one
+
 -- The library sums up and counts the elements of a list, here it is the numbers below the list's length.
 module _ (f : ℕ → ℕ) (xs : List ℕ) where
   next : (i : ℕ) → i < length xs → sum_by f (take (suc i) xs) ≡ sum_by f (take i xs) + f (get_or xs i 0)

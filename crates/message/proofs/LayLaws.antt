@@ -1,6 +1,6 @@
 -- What laying entries into a row goes by: from the last entry back, each before the one that was laid last.
 use mathlib.Core.Path.{◌≡◌, refl, sym, ap, ◌∙◌}
-use mathlib.Core.Bool.{Bool, true, false, cond, ◌&&◌}
+use mathlib.Core.Bool.{true, false, ◌&&◌}
 use mathlib.Core.List.{List, [], ◌∷◌}
 use Prim.Native.Nat.{ℕ, zero, suc, ◌+◌, ◌*◌, ◌-◌, ◌≤◌, ◌<◌}
 use native.Mathlib.Nat.{sub-zero, sub_self}
@@ -17,7 +17,7 @@ use Rattle.message.specs.Bounds.{entries_ok}
 use Rattle.message.specs.Reading.{entries_in, entry_in_slice}
 use Rattle.message.specs.Laying.{row_with, kept_of}
 use Rattle.message.specs.Promises.{keeps_before, LaidEntry, LaidEntries}
-use Rattle.message.proofs.EntryLaws.{entries_next}
+use Rattle.message.proofs.EntryLaws.{entries_next, keeps_told, breaks_told}
 
 -- the phase that an entry before these must be before: that of the first, or the message's where there is none
 abbrev first : ℕ → List Entry → ℕ
@@ -120,16 +120,6 @@ all_laid {s} {count} {phase} {before} {row} l =
     let ok = rw (sub-zero count) at l.ok in
     let lays = rw (sub-zero count) at l.lays in
     record { answer = sym ok; lays = lays ∙ ap (row_with row) (sym (all_kept phase _ ok)) }
-
--- what is told of an entry tells whether it keeps its bounds
-keeps_told : (keeps : Bool) (phase : ℕ) {told : ℕ} → Some told ≡ cond keeps (Some phase) None
-    → (keeps ≡ true) × (told ≡ phase)
-keeps_told true phase e = (refl, cc)
-keeps_told false phase e = cc
-
-breaks_told : (keeps : Bool) (phase : ℕ) → None ≡ cond keeps (Some phase) None → keeps ≡ false
-breaks_told true phase e = cc
-breaks_told false phase e = refl
 
 module _ {s : List ℕ} {count phase : ℕ} {row : List ℕ} {i before : ℕ} {now : List ℕ}
     (l : Laying s count phase row i before now) (j : ℕ) (one : i ≡ suc j) where

@@ -1,6 +1,7 @@
 -- What reading tells of the bytes that were read, and the other way round: for all three kinds at once.
 use mathlib.Core.Path.{◌≡◌, refl, sym, ap, ◌∙◌}
 use mathlib.Core.Bool.{Bool, true, false, cond, true≢false}
+use mathlib.Core.Logic.{◌≢◌}
 use mathlib.Core.List.{List, []}
 use Prim.Native.Nat.{ℕ, ◌+◌, ◌*◌, ◌≤◌}
 use native.Mathlib.Omega.{arith}
@@ -55,6 +56,11 @@ framed_long s e =
 pub kind_one : (s : List ℕ) → kind_at s ≡ 1 → body_at s ≡ selection_at s
 unfolding body_at
 kind_one s one = rw one
+
+-- and of any other number than a selection's and a validation's, a decision's
+pub kind_other : (s : List ℕ) → kind_at s ≢ 1 → kind_at s ≢ 2 → body_at s ≡ decision_at s
+unfolding body_at
+kind_other s not-one not-two = simp (ne_eqb _ _ not-one, ne_eqb _ _ not-two)
 
 -- the kind picks the body
 module _ {kind : Kind} {s : List ℕ} (is : OfKind s kind) where

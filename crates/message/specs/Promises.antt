@@ -49,9 +49,17 @@ pub record HeldInFull (s : List ℕ) (kind : Kind) : Type 0 where
 abbrev pub header_at : List ℕ → Header
 header_at s = record { kind = kind_at s; run = number_at run_size s run_place; phase = get_or s phase_place 0 }
 
--- the bounds that an entry keeps by itself, where the next one's phase is known
+-- the bounds that an entry keeps by itself, where the least phase is known that it may have
+abbrev pub keeps : ℕ → Entry → Bool
+keeps least e = leb least e.phase && plan_ok e.plan
+
+-- the same, where the next one's phase is known
 abbrev pub keeps_before : ℕ → Entry → Bool
 keeps_before before e = ltb e.phase before && plan_ok e.plan
+
+-- told is the phase of an entry that keeps its bounds behind one of this phase
+pub record BehindEntry (e : Entry) (last : ℕ) (r : Option ℕ) : Type 0 where
+  pub answer : r ≡ cond (keeps (last + 1) e) (Some e.phase) None
 
 -- the slice has room for so many entries, and the row a place for each phase before this one
 pub record RowFor (s : List ℕ) (count phase : ℕ) (row : List ℕ) : Type 0 where

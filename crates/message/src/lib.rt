@@ -10,6 +10,7 @@ ghost use Rattle.wire.specs.Sizes.{plan_size, run_size};
 ghost use Rattle.wire.specs.Plan.{phase_ok, plan_ok};
 ghost use Rattle.message.specs.Layout.{run_place, phase_place, header_size, plan_place};
 ghost use Rattle.message.specs.Layout.{count_place, entries_place, entry_size};
+ghost use Rattle.message.specs.Bounds.{entries_ok};
 ghost use Rattle.message.specs.Encoding.{size_of};
 ghost use Rattle.message.specs.Reading.{
   length_at,
@@ -37,6 +38,7 @@ ghost use Rattle.message.specs.Promises.{
   RowFor,
   LaidEntry,
   LaidEntries,
+  BehindEntry,
   LaidInRow,
   LaidBody,
   LaidFront,
@@ -83,9 +85,6 @@ pub const VALIDATION_LENGTH: u16 = (PLAN_AT + PLAN_SIZE) as u16;
 pub const DECISION_LENGTH: u16 = (STAMP_AT + 1) as u16;
 
 pub const SELECTION_LENGTH: u16 = ENTRIES_AT as u16;
-
-// As many places as a byte has values: one for each phase that a header may have.
-const ANY_PHASE: usize = 256;
 
 // So many bytes the compiler joins at once: two vectors of the processor.
 const BLOCK: usize = 32;
@@ -291,9 +290,55 @@ fn has_plan(s: &[u8]) -> bool
     wire::is_plan(plan_at(s, PLAN_AT))
 }
 
+// The phase of entry i where it keeps its bounds behind an entry of this phase: its own is later, and it has a plan.
+fn phase_behind(s: &[u8], i: usize, last: u8) -> Option<u8>
+    requires { entries_place + entry_size * (i + 1) ≤ length s.now }
+    ensures { BehindEntry (entry_in_slice s.now i) last result }
+{
+    let entry = entry_from(s, ENTRIES_AT + ENTRY_SIZE * i);
+    if entry.phase <= last || !wire::is_plan(entry.plan) {
+        return None;
+    }
+    Some(entry.phase)
+}
+
+// Whether the entries keep their bounds, where nobody asks for them: from the first one on, and no further than to one
+// that has no plan or whose phase does not rise. That they stay below the message's is asked of the last one.
+fn are_entries(s: &[u8], count: usize, phase: u8) -> bool
+    requires { entries_place + entry_size * count ≤ length s.now }
+    ensures { result ≡ entries_ok 0 phase (entries_in count (drop entries_place s.now)) }
+{
+    if count == 0 {
+        return true;
+    }
+    let first = entry_from(s, ENTRIES_AT);
+    if !wire::is_plan(first.plan) {
+        return false;
+    }
+    let mut last = first.phase;
+    // Two entries a turn, as in `lay_entries`. Of an even number the last one is left.
+    for pair in 0..(count - 1) / 2 {
+        let Some(between) = phase_behind(s, 2 * pair + 1, last) else {
+            return false;
+        };
+        let Some(next) = phase_behind(s, 2 * pair + 2, between) else {
+            return false;
+        };
+        last = next;
+    }
+    if count % 2 == 0 {
+        let Some(next) = phase_behind(s, count - 1, last) else {
+            return false;
+        };
+        last = next;
+    }
+    // The phases rise, so all of them are below the message's where the last one is.
+    last < phase
+}
+
 // Whether a selection's entries keep their bounds. They are laid where the row has a place for each phase before the
-// message's. Else nobody asks for them, and they are laid aside: a walk of its own that only tests them would be its
-// twin. It stays a function when it is compiled: within the walk over an inbox's slots that over the entries is slower.
+// message's, else only tested. It stays a function when it is compiled: within the walk over an inbox's slots that over
+// the entries is slower.
 #[inline(never)]
 fn keeps_entries(s: &[u8], row: &mut [Plan]) -> bool
     requires { entries_place + entry_size * get_or s.now count_place 0 ≤ length s.now }
@@ -302,7 +347,7 @@ fn keeps_entries(s: &[u8], row: &mut [Plan]) -> bool
     let phase = s[PHASE_AT];
     let count = usize::from(s[COUNT_AT]);
     if row.len() < usize::from(phase) {
-        return lay_entries(s, count, phase, &mut [0; ANY_PHASE]).is_some();
+        return are_entries(s, count, phase);
     }
     lay_entries(s, count, phase, row).is_some()
 }
@@ -348,7 +393,9 @@ fn body_in(s: &[u8], kind: Kind) -> Body
 }
 
 // Reads the message at the front of a slice, whatever follows it, and lays the entries of a selection into the row.
-// These are 01's tests in 01's order.
+// These are 01's tests in 01's order. This and `read_laying` become part of their callers when they are compiled: a
+// message that a call answers goes through memory.
+#[inline(always)]
 fn read_front(s: &[u8], row: &mut [Plan]) -> Result<Message, ReadRefusal>
     ensures { LaidFront s.now row.old result row.new }
 {
@@ -403,6 +450,7 @@ fn is_clear(s: &[u8]) -> bool
 
 // Reads the message that a slice holds, and lays the entries of a selection into the row. Behind the message every byte
 // must be 0: what else stands there is left from an older, longer message, and is refused after all else.
+#[inline(always)]
 fn read_laying(s: &[u8], row: &mut [Plan]) -> Result<Message, ReadRefusal>
     ensures { LaidMessage s.now row.old result row.new }
 {

@@ -7,8 +7,9 @@ use Prim.Native.Nat.{ℕ, ◌*◌, ◌<◌, ◌≤◌}
 use native.Mathlib.Omega.{arith}
 use lib.Dec.{eqb}
 use lib.ListN.{length, get_or}
-use borrow.Author.Tests.{eqb-true, eq-eqb}
+use borrow.Author.Tests.{eqb-true, eqb-false, eq-eqb}
 use Rattle.wire.specs.Sizes.{last_phase, spent_phase}
+use Rattle.crew.specs.declared.Crew.{Crew}
 use Rattle.crew.specs.Thresholds.{Class, one, two, three, class_of}
 use Rattle.crew.proofs.Facts.{accepts}
 use Rattle.message.specs.Layout.{slot_size}
@@ -27,6 +28,16 @@ abbrev pub number : Class → ℕ
 number one = 1
 number two = 2
 number three = 3
+
+-- a crew that selects as class 3 does is of class 3, where its class is one of the three
+pub three_is : (crew : Crew) → 1 ≤ crew.class → crew.class ≤ 3 → class_of crew ≡ three → crew.class ≡ 3
+three_is crew from to is = go (eqb crew.class 1) refl (eqb crew.class 2) refl (ap number is)
+  where
+    go : (first : Bool) → eqb crew.class 1 ≡ first → (second : Bool) → eqb crew.class 2 ≡ second
+        → number (cond first one (cond second two three)) ≡ 3 → crew.class ≡ 3
+    go true e second f is = absurd (omega arith)
+    go false e true f is = absurd (omega arith)
+    go false e false f is = omega (arith, eqb-false crew.class 1 e, eqb-false crew.class 2 f)
 
 -- a sound record with an inbox of its own
 pub sound_own : (d : Node) (bytes : List ℕ) → sound d ≡ true → length bytes ≡ slot_size * d.crew.n

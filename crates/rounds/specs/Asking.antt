@@ -4,12 +4,12 @@ use Rattle.wire.specs.Sizes.{spent_phase}
 use Rattle.wire.specs.Outcome.{Outcome, accepted, refused, require}
 use Rattle.crew.specs.Thresholds.{class_of}
 use Rattle.message.specs.Layout.{slot_size}
-use Rattle.ballot.specs.Selection.{Choice, selection}
+use Rattle.ballot.specs.Selection.{Choice, plan, any, nothing, selection}
 use Rattle.node.specs.declared.Node.{Node}
 use Rattle.node.specs.Soundness.{sound}
 use Rattle.inbox.specs.Inbox.{ballots}
 use Rattle.tally.specs.declared.Choice.{Choice as DeclaredChoice}
-use Rattle.tally.specs.Rules.{choice_as}
+use Rattle.tally.specs.declared.Choice.TheVariants.{Plan, Any, Nothing}
 use Rattle.rounds.specs.declared.TakeRefusal.{TakeRefusal}
 use Rattle.rounds.specs.Taking.{take_number}
 
@@ -23,5 +23,7 @@ ask_of d bytes =
 
 -- what an answer of `ask` says in 01's terms
 abbrev pub ask_answer : Result DeclaredChoice TakeRefusal → Outcome Choice
-ask_answer (Ok choice) = accepted (choice_as choice)
+ask_answer (Ok (Plan v)) = accepted (plan v)
+ask_answer (Ok Any) = accepted any
+ask_answer (Ok Nothing) = accepted nothing
 ask_answer (Err why) = refused (take_number why)

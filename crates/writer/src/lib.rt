@@ -6,7 +6,7 @@
 ghost use Rattle.std.specs.Prelude.{◌≡◌, ◌+◌, ◌≤◌, length, ◌++◌, take, count_by};
 ghost use Rattle.std.proofs.lemmas.List.Edits.{sets};
 ghost use Rattle.wire.specs.Plan.{plan_ok};
-ghost use Rattle.wire.specs.Sizes.{plan_size};
+ghost use Rattle.wire.specs.Sizes.{plan_size, history_size};
 ghost use Rattle.wire.specs.Bytes.{bytes_of};
 ghost use Rattle.message.specs.Encoding.{header as header_bytes, entry_bytes};
 ghost use Rattle.message.specs.Layout.{header_size, plan_place, entries_place};
@@ -114,15 +114,23 @@ pub fn write_decision(
     Ok(usize::from(DECISION_LENGTH))
 }
 
+// How many of these are plans. It counts in 16 bits, as a plan has: so the compiler counts several at once, which
+// `count` in 64 bits does not.
+fn count_plans(plans: &[Plan]) -> u16
+    requires { length plans.now ≤ history_size }
+    ensures { result ≡ count_by plan_ok plans.now }
+{
+    plans
+        .iter()
+        .map(|&plan| u16::from(wire::is_plan(plan)))
+        .sum()
+}
+
 // How many of the first phases have a plan.
 fn count_entries(history: &[Plan; PHASES], phases: u8) -> usize
     ensures { result ≡ count_by plan_ok (take phases history.now) }
 {
-    history
-        .iter()
-        .take(usize::from(phases))
-        .filter(|&&plan| wire::is_plan(plan))
-        .count()
+    usize::from(count_plans(&history[..usize::from(phases).min(PHASES)]))
 }
 
 // Writes the entry of a phase that has a plan, and answers the place after it.

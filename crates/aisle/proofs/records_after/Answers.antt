@@ -5,7 +5,7 @@ use lib.Seq.{length-take-le}
 use Rattle.wire.proofs.Arrays.{filling_none}
 use Rattle.wire.proofs.Tables.{filled_table}
 use Rattle.aisle.proofs.Tables.{length_mapped}
-use Rattle.aisle.proofs.Records.{inbox_is, honest_takes, others_stay}
+use Rattle.aisle.proofs.Records.{inbox_is, honest_takes, put_back}
 use borrow.Author.Rules.{rules}
 use Rattle.aisle.proofs.records_after.Goals.{then-setup-receiver, else-setup-receiver}
 use Rattle.aisle.proofs.records_after.Goals as goal
@@ -27,7 +27,7 @@ loop-receiver-preserved c =
           let is = inbox_is c.args.setup.now c.args.moment.now _ _ _ c.requires all w.deliver_all.ensures in
           let after = rw c.from-size.ensures at w.take.ensures.node in
           rw w.node-items-is (honest_takes _ _ _ _ less inv _ _ w.if-setup-receiver.true is after)
-      | else-setup-receiver w ↦ rw w.node-items-is (others_stay _ _ _ _ less inv w.if-setup-receiver.false)
+      | else-setup-receiver w ↦ rw w.node-items-is (put_back _ _ _ _ less inv w.if-setup-receiver.false)
     ]
 
 pub returns : goal.returns
